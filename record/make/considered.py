@@ -13,19 +13,15 @@ from record.make.asked import MAGIC
 from record.make.cached import Cached
 from record.make.database import Base
 from record.make.graph import Node
-from record.make.memory import first_birth
+from record.make.memory import first_birth, keeps_lists
 from record.make.searches import DEPTH, Searches, stems
-from record.make.words import Words, numbers_of
+from record.make.words import LATER, Words, numbers_of
 from record.tools.shelltext import loose
 from record.trace.events import ASKS, CHANGES, LISTED, MAKE_LISTED
 from record.trace.names import join
 
 if TYPE_CHECKING:
     from record.make.build import Builder
-
-# From this version on, make expands all prerequisites a second time when it considers their target, knows rows of some targets, looks for each name of
-# which no rule is about, and at all targets of a recipe.
-LATER = (4, 4)
 
 
 def is_deep(base: Base, node: Node) -> bool:
@@ -167,11 +163,6 @@ class Considered:
     def written(self, node: Node) -> Set[str]:
         """The paths that a second expansion of its prerequisites writes: before what it waits for has run."""
         return {path for kind, path in self.pieces.get(node.name, ()) if kind in CHANGES and not path.endswith("/")} if node.rule == 0 else set()
-
-
-def keeps_lists(version: str) -> bool:
-    """Whether make keeps what it has found in a folder when recipes have ended."""
-    return numbers_of(version) < LATER
 
 
 def takes_for_file(base: Base, version: str, name: str, is_known: bool) -> bool:

@@ -2,6 +2,7 @@
 
 import os
 import re
+from bisect import bisect
 from functools import lru_cache
 from typing import TYPE_CHECKING, Dict, Iterable, Iterator, List, Optional, Set
 
@@ -11,6 +12,7 @@ from record.make.graph import Node
 from record.make.macros import Macros
 from record.make.owners import Make, Work
 from record.make.references import ANY, evals
+from record.make.words import LATER, numbers_of
 from record.trace.events import ASKS, LISTED, MAKE_LISTED, MAKE_OPENED, MODE_CHANGED, ORDER_SEEN, SEEN
 from record.trace.names import Names
 
@@ -79,20 +81,45 @@ def may_list(known: Macros, text: str) -> bool:
 
 
 def share_listings(builder: "Builder") -> None:
-    """Make lists a folder once. A recipe that looks for names there later sees the same, and in another order it may be the first."""
+    """Make lists a folder once. A recipe that looks for names there later sees the same, and in another order it may be the first. Since GNU make 4.4
+    it does so only until a command ends."""
     make, began = builder.make, first_birth(builder)
     late = {folder: first for folder, (first, last) in builder.listed.items() if last > began}
+    lists = Lists(make)
     for node in builder.graph.nodes.values() if late else ():
         asked = folders_listed(builder.known, builder.names, node) if node.jobs or node.must and node.has_recipe else set()
+        born = births(builder, node)
         for folder, place in late.items():
-            if place < birth(builder, node) and (asked is None or folder in asked):
+            if place < max(born) and (asked is None or folder in asked) and lists.has(folder, min(born)):
                 add_list(make, make.acts.setdefault((builder.number, node.name), Work()), folder, place)
 
 
-def birth(builder: "Builder", node: Node) -> int:
-    """When the last process of a target's recipe began."""
+def keeps_lists(version: str) -> bool:
+    """Whether make keeps what it has found in a folder when recipes have ended."""
+    return numbers_of(version) < LATER
+
+
+class Lists:
+    """The lists of folders that a make has in its memory."""
+
+    def __init__(self, make: Make) -> None:
+        self.keeps = keeps_lists(make.words.version)
+        self.ends = sorted(life.died for life in make.life.children)
+        self.places: Dict[str, List[int]] = {}  # by folder: when make listed it
+        for act in make.life.acts:
+            if act.kind == MAKE_LISTED:
+                self.places.setdefault(act.path, []).append(act.place)
+
+    def has(self, folder: str, start: int) -> bool:
+        """Whether make may have a list of a folder when a recipe starts: one that is older than the last command which has ended is read anew."""
+        since = self.ends[bisect(self.ends, start) - 1] if self.ends and self.ends[0] <= start else -1
+        return self.keeps or any(since < place < start for place in self.places.get(folder, ()))
+
+
+def births(builder: "Builder", node: Node) -> List[int]:
+    """When the processes of a target's recipe began."""
     works = [builder.make.work[id(job)] for job in node.jobs if id(job) in builder.make.work]
-    return max((life.born for work in works for life in work.lives), default=1 << 60)
+    return [life.born for work in works for life in work.lives] or [1 << 60]
 
 
 def words_asked(known: Macros, node: Node) -> Optional[List[str]]:

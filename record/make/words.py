@@ -17,7 +17,9 @@ FINISHED = re.compile(r"^ *Finished prerequisites of target file '(.*)'\.$")
 MUST = re.compile(r"^ *Must remake target '(.*)'\.$")
 FAILED = re.compile(r"^ *(?:Failed to remake|Giving up on) target file '(.*)'\.$")
 SORTED = (4, 3)  # from this version on, make sorts what patterns find
-EXPORTING = (4, 4)  # and from this one on `$(shell ..)` gets exported macros, which make works out for it
+# From this one on `$(shell ..)` gets exported macros, which make works out for it, and make expands all prerequisites a second time when it considers their
+# target, knows rows of some targets, looks for each name of which no rule is about and at all targets of a recipe, and reads folders anew when a command has ended.
+LATER = (4, 4)
 RUNNING = re.compile(r" *Recipe of '")  # make says so where it does not wait for a recipe
 SEVERAL = "a makefile or GNUMAKEFLAGS asks for several jobs, and so they ran; say -j1: make "
 # Lines of which each word counts: one that is none of those above was not read as a whole.
@@ -122,12 +124,12 @@ class Words:
     @property
     def exports_to_shell(self) -> bool:
         """Whether make works out exported macros for each `$(shell ..)`, and not only for recipes."""
-        return numbers_of(self.version) >= EXPORTING
+        return numbers_of(self.version) >= LATER
 
     @property
     def expands_late(self) -> bool:
         """Whether make expands the prerequisites of each target a second time when it considers that; else those of implicit rules alone."""
-        return numbers_of(self.version) >= EXPORTING
+        return numbers_of(self.version) >= LATER
 
     @property
     def kept_errors(self) -> str:

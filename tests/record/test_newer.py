@@ -6,12 +6,14 @@ from typing import Dict, cast
 
 import support  # noqa: F401
 from record.assumptions import Assumptions
-from record.make.considered import Considered, keeps_lists, looked_with, takes_for_file
+from record.make.considered import Considered, looked_with, takes_for_file
 from record.make.database import Base, read_base
 from record.make.macros import Macros
+from record.make.memory import Lists, keeps_lists
 from record.make.owners import Make
 from record.make.unfiled import set_by_expansion
 from record.make.words import Words
+from record.trace.events import MAKE_LISTED
 from test_small import Small, test_of
 
 RULES = "%.o: %.c ; echo c > $@\n%.o: %.s ; echo s > $@\n"
@@ -77,6 +79,12 @@ class Versions(unittest.TestCase):
             keeps = keeps_lists(version)
             one = SimpleNamespace(writers={"d/x": {1}, "e/x": {1}}, keeps_lists=keeps, builder=SimpleNamespace(listed={"d": (1, 1), "e": (1, 7)}, began=5, assumed=Assumptions()))
             self.assertEqual(wanted, [keeps, *(Considered.is_open(one, path) for path in ("d/x", "e/x"))], version)  # type: ignore[arg-type]
+
+    def test_lists_in_the_memory_of_make(self) -> None:
+        life = SimpleNamespace(children=[SimpleNamespace(died=8), SimpleNamespace(died=5)], acts=[SimpleNamespace(kind=MAKE_LISTED, path="d", place=place) for place in (3, 6)])
+        for version, wanted in (("4.3", [True] * 5), ("4.4", [True, False, True, False, False])):
+            lists = Lists(cast(Make, SimpleNamespace(words=Words(1, 0, version=version), life=life)))
+            self.assertEqual(wanted, [lists.has(folder, start) for folder, start in (("d", 4), ("d", 6), ("d", 7), ("d", 9), ("e", 9))], version)
 
     def test_macros_that_second_expansions_set(self) -> None:
         for rule, wanted in (("b: $$(set)", "none X"), ("b: $(also)", "none X"), ("b: $(set)", "none none"), ("b: $(set) $$(other)", "none none")):

@@ -184,7 +184,7 @@ class Ahead(unittest.TestCase):
     def outcome(self, value: str) -> int:
         """The status of a build, as make 4.4 would make it, that exports a macro with this value."""
         makefile = "export X = %s\nall: out/a out/b\nout/a out/b: ; " % value + AHEAD % "" + "echo $$X > $@\n"
-        with mock.patch("record.make.words.EXPORTING", (4, 0)), support.Project({"Makefile": makefile}) as project:
+        with mock.patch("record.make.words.LATER", (4, 0)), support.Project({"Makefile": makefile}) as project:
             return project.record().status
 
     def test_macro_that_looks_at_the_folder(self) -> None:

@@ -7,7 +7,7 @@ from dataclasses import dataclass, field
 from typing import Callable, Dict, List, Mapping
 
 import support
-from record.make.considered import LATER
+from record.make.words import LATER
 
 STATUSES = {"safe": 0, "race": 1, "no verdict": 2}
 INSTALL = "test -d $2 || mkdir $2 || true\n"
