@@ -21,8 +21,10 @@ WHOLE = {b"Reading makefiles...", b"Updating makefiles....", b"Updating goal tar
 READ, SYMBOL = b"Reading makefile '", b"Loading symbol "
 # What GNU make says since 4.4 of its start, and of what it loads.
 SINCE = (b"Using jobserver controller ", b"Using output-sync mutex ", b"Enabled shuffle mode: ", b"Loaded shared object ", b"Unloading shared object ")
-# And what it says since then while it expands text or looks for a file, also for a recipe that it has not started: how such a line begins, goes on and ends.
-ASIDES = ((b"Directory ", b" cache invalidated (count ", b")\n"), (b"file: Failed to open '", b"': ", b"\n"), (b"", b": not recursively expanding ", b" to export to shell function\n"))
+# And what it says since then while it expands text or looks for a file, also for a recipe that it has not started, or of its jobs: how such a line begins, goes
+# on and ends.
+ASIDES = ((b"Directory ", b" cache invalidated (count ", b")\n"), (b"file: Failed to open '", b"': ", b"\n"), (b"", b": not recursively expanding ", b" to export to shell function\n"),
+          (b"Acquired all ", b" jobserver token", b"s.\n"))
 HOW_READ = (b" (no default goal)", b" (search path)", b" (don't care)", b" (no ~ expansion)")
 VERSION = (b"# Built for ", b"# Copyright (C)", b"# License ", b"# This is free software", b"# There is NO WARR", *(b"# GNU Make %d" % digit for digit in range(10)))
 # Lines about jobs.

@@ -62,6 +62,12 @@ def make_version() -> Tuple[int, ...]:
     return numbers_of(record.main.versions()["make"])
 
 
+def major(compiler: str) -> int:
+    """The first number of a compiler's version; 0 where there is none."""
+    ran = subprocess.run([compiler, "-dumpversion"], capture_output=True, text=True, check=False) if shutil.which(compiler) else None
+    return int(ran.stdout.split(".")[0]) if ran and ran.stdout[:1].isdigit() else 0
+
+
 def race_program() -> str:
     """What answers over tasks: `$RACE`, or the model that stands in for it."""
     return os.environ.get("RACE") or str(STAND_IN)

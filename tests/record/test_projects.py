@@ -216,7 +216,7 @@ class Tops(unittest.TestCase):
         self.of(2, "all: ../out/x\n../out/x: ; touch ../out/x\n", "../out", "mkdir ../out; touch ../out/x")
 
 
-@unittest.skipUnless(shutil.which("g++"), "g++ is missing (Debian: apt-get install g++)")
+@unittest.skipUnless(support.major("g++") >= 11, "g++ 11 or later is missing (Debian: apt-get install g++)")
 class Modules(unittest.TestCase):
     """Modules of C++, which g++ keeps in a folder that it makes."""
 

@@ -45,8 +45,9 @@ class Python(unittest.TestCase):
         self.of(TEXT % ("x.txt", "import lib"), SCRIPT, 1, files={"lib.py": "import os\nprint(os.listdir('.'))\n"})
 
     def test_what_it_looks_for_by_itself(self) -> None:
+        text = "import sys%s; print(1)" % (", os" if sys.version_info >= (3, 11) else "")  # before that version it looks for `os` on the disk
         for made, status in (("mkdir d; touch d/x", 0), ("touch lib.so", 0), ("touch linecache.py", 1 if sys.version_info >= (3, 13) else 0)):
-            self.of("all: b a\na: ; %s; touch a\nb: ; python3 -S -c 'import sys, os; print(1)' > b\n" % made, "", status, files={})
+            self.of("all: b a\na: ; %s; touch a\nb: ; python3 -S -c '%s' > b\n" % (made, text), "", status, files={})
 
     def test_texts_that_take_in_no_more(self) -> None:
         for text, wanted in (("print(1)", True), ("import sys, os.path; print(sys.path)", True), ("from os import environ", True), ("import json", False), ("from . import x", False), ("__import__('x')", False),

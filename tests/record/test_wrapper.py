@@ -111,7 +111,7 @@ class Splits(unittest.TestCase):
     def test_what_make_says_while_it_expands_text(self) -> None:
         """From version 4.4 on, also between its line about a target and that about the recipe."""
         for line in (b"Directory d e cache invalidated (count 1 != command 2)\n", b"file: Failed to open 'x': No such file or directory\n",
-                     b"Makefile:3: not recursively expanding A to export to shell function\n"):
+                     b"Makefile:3: not recursively expanding A to export to shell function\n", b"Acquired all 3 jobserver tokens.\n"):
             self.assertEqual((b"", line + MUST + line + BEGIN + END + line), split(line, MUST, line, BEGIN, END, line), line)
             self.assertEqual((line, MUST + BEGIN + END), split(MUST, BEGIN, line, END), line)
             self.assertEqual((line[:-1], b""), split(line[:-1]), line)
