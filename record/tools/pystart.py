@@ -1,19 +1,21 @@
-"""What Python 3.13 and later look for by themselves where they run a text from their words (`python3 -c TEXT`): they take in `linecache`, and so list
-the folder that they are in. Where the text takes in nothing else, that list is about a few names."""
+"""What Python 3.13 and 3.14 look for by themselves where they run a text from their words (`python3 -c TEXT`): they take in `linecache`, and so list
+the folder that they are in. Where the text takes in nothing else, that list is about a few names, which `python3 -X importtime` shows."""
 
 import ast
 import re
 from functools import lru_cache
 from typing import List, Sequence, Tuple
 
-VERSION = re.compile(r"(?:.*/)?python3\.(?:1[3-9]|[2-9]\d)$")
+VERSION = re.compile(r"(?:.*/)?python3\.1[34]$")
 PLAIN = re.compile(r"-[bBEIOPqRsSu]*c?")  # options by which it takes in no more
 LOADED = frozenset(("builtins", "errno", "io", "os", "os.path", "sys", "time"))  # modules that are part of it, or that it has before it looks for any
 # Words by which these, and what needs no import, take in others: `os.popen`, `time.strptime`, `x.encode("idna")`.
 MORE = re.compile(r"__|popen|strptime|encod|decod|async|await|breakpoint|hook|\b(?:help|input|license|copyright|credits|modules|site)\b")
 # What it takes in at its start, for a warning, for a name of a letter, and to show an error.
 OWN = ("linecache traceback _colorize _suggestions __future__ _ast ast _collections collections _functools functools _operator operator _sre re _tokenize tokenize"
-       " token contextlib copyreg enum itertools keyword reprlib textwrap types warnings unicodedata").split()
+       " token contextlib copyreg enum itertools keyword reprlib textwrap types warnings unicodedata"
+       # and for these Python 3.14:
+       " _abc abc _contextvars _py_warnings _types _weakrefset weakref copy dataclasses inspect annotationlib importlib _opcode _opcode_metadata opcode dis").split()
 PATTERNS = [name + end for name in OWN for end in ("", ".*")]
 
 

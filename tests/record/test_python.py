@@ -53,7 +53,7 @@ class Python(unittest.TestCase):
         for text, wanted in (("print(1)", True), ("import sys, os.path; print(sys.path)", True), ("from os import environ", True), ("import json", False), ("from . import x", False), ("__import__('x')", False),
                              ("import os; os.popen('x')", False), ("import sys; sys.breakpointhook()", False), ("print 1", False), ("'x'.encode('idna')", False)):
             self.assertEqual(wanted, pystart.is_alone(text), text)
-        for program, words, wanted in (("/usr/bin/python3.13", ["-c"], True), ("/usr/bin/python3.13", ["-Bc"], True), ("/usr/bin/python3.13", ["-P", "-c"], True), ("/usr/bin/python3.12", ["-c"], False),
+        for program, words, wanted in (("/usr/bin/python3.13", ["-c"], True), ("/usr/bin/python3.13", ["-Bc"], True), ("/usr/bin/python3.13", ["-P", "-c"], True), ("/usr/bin/python3.12", ["-c"], False), ("/usr/bin/python3.14", ["-c"], True), ("/usr/bin/python3.15", ["-c"], False),
                                        ("/usr/bin/python3.13", ["-ic"], False), ("/usr/bin/python3.13", ["-W", "error::x.Y", "-c"], False)):
             self.assertEqual(wanted, bool(pystart.patterns(program, ["python3", *words, "print(1)", "z"], "print(1)")), (program, words))
 
