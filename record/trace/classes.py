@@ -24,7 +24,7 @@ REASONS: Dict[str, str] = {
     # Memory of the process itself. To write a file by it, the file is opened to write.
     "memory": """mmap mmap2 munmap mremap mprotect pkey_mprotect pkey_alloc pkey_free madvise process_madvise mincore mlock mlock2 mlockall munlock munlockall
         msync brk sbrk remap_file_pages mbind get_mempolicy set_mempolicy set_mempolicy_home_node migrate_pages move_pages mseal map_shadow_stack userfaultfd
-        process_mrelease membarrier rseq cacheflush riscv_flush_icache""",
+        process_mrelease membarrier rseq rseq_slice_yield cacheflush riscv_flush_icache""",
     # Processes, rights and limits. Signals are traced: who signals a process of another recipe may have its number from a file that both read.
     "processes": """exit exit_group wait4 waitid waitpid pidfd_send_signal kcmp pause alarm
         rt_sigaction rt_sigpending rt_sigprocmask rt_sigreturn rt_sigsuspend rt_sigtimedwait rt_sigtimedwait_time64 sigaction sigaltstack sigpending

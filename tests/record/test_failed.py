@@ -94,7 +94,7 @@ class Failed(unittest.TestCase):
     @unittest.skipUnless(shutil.which("ninja"), "ninja is missing (Debian: apt-get install ninja-build)")
     def test_make_inside_a_command_of_ninja(self) -> None:
         holes, _ = self.failed("b: ; false\n", {"build.ninja": RULES + "build b: sh\n  c = make b && touch b\n"}, ("ninja",))
-        self.assertEqual(["the build ended with status 1; the recipe of b failed first (Makefile:1, make b)"], holes)
+        self.assertIn(holes, [["the build ended with status %d; the recipe of b failed first (Makefile:1, make b)" % status] for status in (1, 2)])  # ninja 1.13 hands on that of make
 
 
 if __name__ == "__main__":
