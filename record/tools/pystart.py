@@ -9,8 +9,8 @@ from typing import List, Sequence, Tuple
 VERSION = re.compile(r"(?:.*/)?python3\.1[34]$")
 PLAIN = re.compile(r"-[bBEIOPqRsSu]*c?")  # options by which it takes in no more
 LOADED = frozenset(("builtins", "errno", "io", "os", "os.path", "sys", "time"))  # modules that are part of it, or that it has before it looks for any
-# Words by which these, and what needs no import, take in others: `os.popen`, `time.strptime`, `x.encode("idna")`.
-MORE = re.compile(r"__|popen|strptime|encod|decod|async|await|breakpoint|hook|\b(?:help|input|license|copyright|credits|modules|site)\b")
+# Words by which these, and what needs no import, take in others: `os.popen`, `time.strptime`, `x.encode("idna")`, `exec("import x")`.
+MORE = re.compile(r"__|popen|strptime|encod|decod|async|await|breakpoint|hook|\b(?:help|input|license|copyright|credits|modules|site|exec|eval|compile|getattr|globals|locals|vars)\b")
 # What it takes in at its start, for a warning, for a name of a letter, and to show an error.
 OWN = ("linecache traceback _colorize _suggestions __future__ _ast ast _collections collections _functools functools _operator operator _sre re _tokenize tokenize"
        " token contextlib copyreg enum itertools keyword reprlib textwrap types warnings unicodedata"

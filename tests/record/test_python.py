@@ -51,7 +51,8 @@ class Python(unittest.TestCase):
 
     def test_texts_that_take_in_no_more(self) -> None:
         for text, wanted in (("print(1)", True), ("import sys, os.path; print(sys.path)", True), ("from os import environ", True), ("import json", False), ("from . import x", False), ("__import__('x')", False),
-                             ("import os; os.popen('x')", False), ("import sys; sys.breakpointhook()", False), ("print 1", False), ("'x'.encode('idna')", False)):
+                             ("import os; os.popen('x')", False), ("import sys; sys.breakpointhook()", False), ("print 1", False), ("'x'.encode('idna')", False),
+                             ("exec('import x')", False), ("eval('im' + 'port')", False), ("import os; getattr(os, 'x')", False), ("import os; vars(os)", False), ("executed = 1", True)):
             self.assertEqual(wanted, pystart.is_alone(text), text)
         for program, words, wanted in (("/usr/bin/python3.13", ["-c"], True), ("/usr/bin/python3.13", ["-Bc"], True), ("/usr/bin/python3.13", ["-P", "-c"], True), ("/usr/bin/python3.12", ["-c"], False), ("/usr/bin/python3.14", ["-c"], True), ("/usr/bin/python3.15", ["-c"], False),
                                        ("/usr/bin/python3.13", ["-ic"], False), ("/usr/bin/python3.13", ["-W", "error::x.Y", "-c"], False)):
