@@ -1,5 +1,6 @@
 """How a companion ends that breaks: with status 3 and a line, never with the 1 that says races."""
 
+import ast
 import os
 import shutil
 import subprocess
@@ -19,7 +20,8 @@ def copied(name: str, room: Path) -> Path:
     """The folder of a script, with the script and what it begins with alone."""
     for folder in (room / "record", room / name):
         folder.mkdir(exist_ok=True)
-    shutil.copy2(TOP / "record" / "entry.py", room / "record")
+    for begins in ("entry.py", "needed.py"):
+        shutil.copy2(TOP / "record" / begins, room / "record")
     shutil.copy2(TOP / name / ("race-" + name), room / name)
     return room / name
 
@@ -64,6 +66,24 @@ class Entry(unittest.TestCase):
             ran = subprocess.run([sys.executable, os.fspath(folder / "race-record")], stdout=writes, stderr=subprocess.PIPE, timeout=60, check=False)
         os.close(writes)
         self.assertEqual(3, ran.returncode)
+
+
+class Older(unittest.TestCase):
+    """A Python that is older than the companions need."""
+
+    def test_what_is_needed(self) -> None:
+        began = "import runpy, sys; sys.version_info = (3, 8, 10, 'final', 0); sys.argv = [%r]; runpy.run_path(%r, run_name='__main__')"
+        for name in filter(lambda name: (TOP / name).is_dir(), LINES):
+            path = str(TOP / name / ("race-" + name))
+            ran = subprocess.run([sys.executable, "-c", began % (path, path)], capture_output=True, text=True, timeout=60, check=False)
+            said = "race-%s: Python 3.9 or later is needed, and %s is 3.8.10. Run it by a newer one, such as: python3.11 %s\n" % (name, sys.executable, path)
+            self.assertEqual((3, "", said), (ran.returncode, ran.stdout, ran.stderr))
+
+    def test_an_older_one_reads_it(self) -> None:
+        scripts = [TOP / name / ("race-" + name) for name in LINES]
+        for path in filter(Path.is_file, [TOP / "record" / "__init__.py", TOP / "record" / "needed.py", *scripts, TOP / "install", TOP / "demo"]):
+            ast.parse(path.read_text(encoding="utf-8"), feature_version=(3, 7))
+            self.assertNotIn("import annotations", path.read_text(encoding="utf-8"), path)
 
 
 class Closed(unittest.TestCase):
