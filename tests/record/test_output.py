@@ -1,5 +1,6 @@
 """A recorded build writes what a plain one does: standard output and every file, byte for byte."""
 
+import os
 import unittest
 from typing import Dict, Tuple
 
@@ -38,9 +39,20 @@ class Output(unittest.TestCase):
 
     def test_make_that_configuring_finds(self) -> None:
         """Its path is kept, and the recorder's own is gone when the build has ended."""
-        for name in ("CMakeCache.txt", "config.status", "sub/Makefile"):
+        for name in ("CMakeCache.txt", "config.status", "sub/Makefile", "config.mk"):
             with self.subTest(name):
                 self.both("all: ; echo CMAKE_MAKE_PROGRAM=$$(command -v make) > c; mkdir -p sub; chmod 755 c; touch -d 2001-01-01 c; mv c %s\n" % name)
+
+    def test_path_that_a_file_keeps(self) -> None:
+        self.both("all: ; echo export PATH=$$PATH > env.sh; command -v gmake >> env.sh || true\n")
+
+    def test_path_that_is_in_no_text(self) -> None:
+        with support.Project({"Makefile": "all: ; printf '%s\\000' \"$$(command -v make)\" > b; cp b long; head -c 1048576 /dev/zero >> long\n"}) as project:
+            found = project.record()
+            kept = (project.folder / "b").read_bytes()
+        self.assertRegex(kept, rb"race-record-\w+/bin/make\0$")
+        note = "%s/b may name the make of the recorder, which is gone: it is no text" % os.path.realpath(project.folder)
+        self.assertEqual([note], [one for one in (found.record or {})["notes"] if "may name" in one])
 
     def test_times_of_what_configuring_keeps(self) -> None:
         with support.Project({"Makefile": "all: ; command -v make > config.status; chmod 755 config.status; touch -d @1000000000 config.status\n"}) as project:
