@@ -68,8 +68,16 @@ class Entry(unittest.TestCase):
         self.assertEqual(3, ran.returncode)
 
 
-class Older(unittest.TestCase):
-    """A Python that is older than the companions need."""
+class Pythons(unittest.TestCase):
+    """A Python that is older than the companions need, and modules of the user's that have names of Python's."""
+
+    def test_modules_of_the_user(self) -> None:
+        with Project({"Makefile": "all: ; @echo $$PYTHONPATH > all\n", "mine/json.py": "raise SystemExit('mine')\n", "mine/argparse.py": "raise SystemExit('mine')\n"}) as project:
+            for name in filter(lambda name: (TOP / name).is_dir(), LINES):
+                words = [sys.executable, str(TOP / name / ("race-" + name)), *(["--race", race_program(), "--", "make"] if name == "record" else ["--help"])]
+                ran = subprocess.run(words, cwd=project.folder, env={**os.environ, "PYTHONPATH": "mine"}, capture_output=True, text=True, timeout=60, check=False)
+                self.assertEqual((0, ""), (ran.returncode, ran.stderr))
+            self.assertEqual("mine\n", (project.folder / "all").read_text())
 
     def test_what_is_needed(self) -> None:
         began = "import runpy, sys; sys.version_info = (3, 8, 10, 'final', 0); sys.argv = [%r]; runpy.run_path(%r, run_name='__main__')"
