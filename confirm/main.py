@@ -90,7 +90,7 @@ def prepared(args: argparse.Namespace, folder: str, used: set[str], compiler: st
     """A room with a copy of the project as it was before the build; it is gone at the end."""
     room = Room(new_room(folder, note), folder, "ninja" in used)
     try:
-        furnish(room.top, compiler)
+        furnish(room, compiler)
         copy(Path(folder), room.fresh)
         inner = os.path.relpath(os.path.realpath(args.record), folder)
         if inner != "." and not inner.startswith(".."):

@@ -1,7 +1,8 @@
 """The room of a confirmation: a temporary folder with the copy, and the way in which a build runs in it.
 
 Where the system lets a process have mounts of its own, the copy lies for the build in the place of the project: it sees
-the same paths as ever, and the project itself is out of its reach. Elsewhere it runs in the temporary folder.
+the same paths as ever, and the project itself is out of its reach. The make of the room lies over make itself there, for who
+calls it by its whole path, as CMake does. Elsewhere the build runs in the temporary folder.
 """
 
 from __future__ import annotations
@@ -19,6 +20,7 @@ from confirm.races import CannotConfirm, Chosen
 from confirm.tree import copy, names_its_folder, remove
 from record.ninja.again import by_name, with_jobs
 from record.main import Missing, version_of
+from record.tools.shelltext import first_words
 
 HOLD = Path(__file__).resolve().parent / "hold.c"
 NEW_MOUNTS, NEW_USER = 0x20000, 0x10000000
@@ -88,6 +90,12 @@ def enter(tree: Path, folder: str) -> None:
     os.chdir(folder)
 
 
+def cover(make: str, stands_in: Path) -> None:
+    """Lays what stands for make over make itself, in mounts of its own, unless nothing may run where that lies."""
+    if os.access(stands_in, os.X_OK):
+        ctypes.CDLL(None).mount(os.fsencode(stands_in), os.fsencode(make), None, BIND, None)
+
+
 def can_enter(tree: Path, folder: str) -> bool:
     """Whether the system lets a process have mounts of its own."""
     try:
@@ -106,6 +114,7 @@ class Room:
     has_ninja: bool = False
     is_in_place: bool = False
     taken: set[str] = field(default_factory=set)  # files that the recorded build wrote, and that the copy does not have at first
+    make: str = ""  # what is called by its whole path, where a copy of it runs for it
 
     @property
     def tree(self) -> Path:
@@ -140,7 +149,16 @@ class Room:
 
     def enter(self) -> Callable[[], None]:
         """What a process does before it begins to build."""
-        return lambda: enter(self.tree, self.folder) if self.is_in_place else os.chdir(self.tree)
+        return self.enter_here
+
+    def enter_here(self) -> None:
+        """The same, in that process itself."""
+        if not self.is_in_place:
+            os.chdir(self.tree)
+            return
+        enter(self.tree, self.folder)
+        if self.make:
+            cover(self.make, self.top / "bin" / "make")
 
     def words(self, words: Sequence[str], is_parallel: bool) -> Sequence[str]:
         """The words of a build: they run make by its name, which here is another, and what surely runs ninja has a number of jobs."""
@@ -209,19 +227,31 @@ def run_tool(words: Sequence[str], what: str) -> None:
         raise Missing(f"{what}: {done.stderr.strip() or f'status {done.returncode}'}")
 
 
-def furnish(top: Path, compiler: str) -> None:
+def furnish(room: Room, compiler: str) -> None:
     """The library that holds, and the make and ninja that builds call."""
+    top = room.top
     words = [compiler, "-O1", "-fPIC", "-shared", "-o", str(top / "hold.so"), str(HOLD), "-ldl"]
     run_tool(words, f"{compiler} cannot build the library that holds recipes")
     (top / "tokens").mkdir()
     os.mkfifo(top / "tokens" / "out")
     os.mkfifo(top / "tokens" / "back")
     (top / "bin").mkdir()
-    make = shutil.which("make")
+    make = copied_make(room) or shutil.which("make")
     for name, text, real in (("make", SHIM, make), ("gmake", SHIM, make), *((it, NINJA_SHIM, shutil.which(it)) for it in NINJAS)):
         if shutil.which(name) and real:
             (top / "bin" / name).write_text(text.replace("REAL", f"'{real}'"))
             (top / "bin" / name).chmod(0o755)
+
+
+def copied_make(room: Room) -> str:
+    """A copy of make, which runs where what stands for make lies over it; none of a script, or of a make of the project."""
+    make = os.path.realpath(shutil.which("make") or "")
+    if not os.path.isfile(make) or first_words(make) or make.startswith(room.folder.rstrip("/") + "/"):
+        return ""
+    (room.top / "real").mkdir()
+    shutil.copy2(make, room.top / "real" / "make")
+    room.make = make
+    return str(room.top / "real" / "make")
 
 
 def new_room(folder: str, note: Callable[[str], object]) -> Path:

@@ -3,6 +3,8 @@
 from __future__ import annotations
 
 import json
+import os
+import shutil
 import tempfile
 import unittest
 from collections.abc import Callable, Mapping
@@ -10,6 +12,7 @@ from pathlib import Path
 
 from confirm.failed import STATUS, Failed, failed
 from confirm.reach import Blame, Reach, Tasks
+from confirm.room import can_enter
 from report.kinds import LOG
 from report.model import Race, Recipe, Side
 
@@ -37,6 +40,7 @@ class OtherTests:
     record: Callable[..., None]
     check: Callable[..., str]
     assertNotIn: Callable[..., None]
+    skipTest: Callable[..., None]
 
     def beside(self, files: Mapping[str, str], wanted: int, *says: str) -> None:
         """The harmless race on `shared` is not confirmed; `says` is said of it."""
@@ -96,6 +100,14 @@ class OtherTests:
         self.files(BELOW)
         self.record()
         self.check(1, "CONFIRMED  all of b before a:\n", "  sub/a: line 1 is `1`, and `none`", "  copy: line 1 is `1`", words=("g",))
+
+    def test_make_by_its_whole_path(self) -> None:
+        if os.geteuid() != 0 or not can_enter(self.project, str(self.project)):
+            self.skipTest("the recorder may not have mounts of its own")
+        self.files({"in.mk": READER["Makefile"], "build": f"#!/bin/sh\nexec {os.path.realpath(str(shutil.which('make')))} -f in.mk\n"})
+        (self.project / "build").chmod(0o755)
+        self.record("./build")
+        self.check(1, "CONFIRMED  all of y before a:\n", words=("1",))
 
 
 def task(label: str, after: str = "", reads: str = "", writes: str = "", kind: str = "recipe") -> tuple[dict, dict]:
