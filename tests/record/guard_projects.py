@@ -66,6 +66,10 @@ CONFIGURED_GUARDS: List[Guard] = [
     Guard("configured: by the command", "configured.py", "status.path in changed and max(places) < min(readers)", "False", configuring("release"), "0 != 2"),
     Guard("configured: what recipes change", "configured.py", "status.path in changed and max(places) < min(readers)", "status.path in changed", configuring("template_that_a_recipe_changes"), LOST_HOLE),
     Guard("configured: templates of another make", "configured.py", "ran.get(path, changed[path]) >= changed[path]", "True", configuring("template_of_another_make"), LOST_HOLE),
+    Guard("configured: stamps that recipes make", "configured.py", "        status.drop_stamps(names, lives, min(readers, default=0))\n", "", configured("stamp_that_a_recipe_makes"), "0 != 2"),
+    Guard("configured: stamps that were there", "configured.py", "self.stamps - names.before.keys()", "self.stamps", configured("stamp_that_a_recipe_makes_again"), "WARM  2 files"),
+    Guard("configured: stamps of the command", "configured.py", "for path, place in first.items() if place > began}", "for path, place in first.items()}", configuring("stamp_that_a_recipe_changes"), LOST_HOLE),
+    Guard("configured: stamps that the first make lets come", "configured.py", "if place > began}", "if place > began and False}", configuring("stamp_that_a_recipe_makes"), "0 != 2"),
     Guard("configured: later changes of one file", "configured.py", "life.changed.get(path, 0))", "0)", configuring("file_that_is_changed_later"), LOST_HOLE),
 ]
 NUMBERS: List[Guard] = [
