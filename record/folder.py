@@ -90,7 +90,8 @@ def write_build(folder: Path, build: "Build", within: Optional[Dict[str, str]]) 
     about: Dict[str, Any] = {}
     for at, (label, task) in enumerate(zip(labels, build.tasks)):
         place = {key: shown(value) if isinstance(value, str) else value for key, value in build.about(at).items()}
-        about[label] = {"target": shown(task.node.name), "kind": task.kind, **place}
+        lists = sorted(relative(root, path) for path in task.listed & task.reads)
+        about[label] = {"target": shown(task.node.name), "kind": task.kind, **place, **({"lists": lists} if lists else {})}
     edges = 0
     with open(folder / "tasks", "w", encoding="utf-8", errors="backslashreplace") as file:
         for label, line in lines_of(build.tasks, root, labels):

@@ -52,12 +52,14 @@ def place(about: Dict[str, Any], label: str) -> str:
 
 def verb(about: Dict[str, Any], label: str, does: str, path: str) -> str:
     """What a task does to a path, in the words of all companions."""
-    kind = about["labels"].get(label, {}).get("kind", "")
+    found = about["labels"].get(label, {})
     if OWN_NAME.search(path):
         return "settles it" if does == "writes" else "sees it"
     if does == "writes":
         return "writes it"
-    return "make looks at it" if kind in ("decision", "look", "first") else "reads it"
+    if path in found.get("lists", ()):
+        return "lists its folder"
+    return "make looks at it" if found.get("kind", "") in ("decision", "look", "first") else "reads it"
 
 
 def target(about: Dict[str, Any], label: str) -> str:

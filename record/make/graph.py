@@ -37,6 +37,18 @@ class Task:
     reads: Set[str] = field(default_factory=set)
     writes: Set[str] = field(default_factory=set)
     works: List[Work] = field(default_factory=list)
+    listed: Set[str] = field(default_factory=set)  # what it reads by a list of the folder alone
+
+    def read(self, path: str) -> None:
+        """Reads a name, or asks for it."""
+        self.reads.add(path)
+        self.listed.discard(path)
+
+    def read_by_list(self, path: str) -> None:
+        """Reads a name of a folder that it lists."""
+        if path not in self.reads:
+            self.reads.add(path)
+            self.listed.add(path)
 
 
 class Graph:

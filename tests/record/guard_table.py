@@ -123,7 +123,7 @@ NAMES: List[Guard] = [
     Guard("links are followed when they are met", "trace/names.py", "hops < LINK_LIMIT:", "False:", case("link-replaced"), LOST_RACE),
     Guard("failed looks are reads", "make/build.py", "elif kind in ASKS and path in writers:", 'elif kind in "RSPK" and path in writers:', small("absent_file"), YES),
     Guard("removals are writes", "trace/events.py", "CHANGES = WRITTEN + CREATED + REMOVED + LOCKED\n", "CHANGES = WRITTEN + CREATED + LOCKED\n", small("removed_file"), YES),
-    Guard("listings see what is created", "make/build.py", "task.reads.add(join(folder, name))", "pass", small("pattern_of_eval"), YES),
+    Guard("listings see what is created", "make/build.py", "task.read_by_list(join(folder, name))", "pass", small("pattern_of_eval"), YES),
     Guard("patterns of computed text are *", "tools/shelltext.py", 'cut or "$" in text or', "cut or", "test_shellvalues.Makefiles.test_loop_over_names_of_the_environment", YES),
     Guard("patterns of eval are *", "tools/shelltext.py", r' or re.search(r"\beval\b", text)', "", small("pattern_of_eval"), YES,
           ("tools/shelltext.py", 'OPTIONS.search(" ".join(argv)) or TAKES_IN.search(text)', "False")),

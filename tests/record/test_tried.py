@@ -42,6 +42,11 @@ TRIED: Dict[str, Small] = {
     "brackets_with_a_quote": Small("race", LISTS % "echo [x'yz'].i", {"y.i": ""}),
     "brackets_with_a_blank": Small("race", LISTS % "echo y.i [x\\ z].i", {"y.i": ""}),
     "brackets_of_another_name": Small("safe", LISTS % "echo [xy].h 'q'", {"y.i": ""}),
+    # lists of folders, which are said to be that
+    "list_of_a_folder": Small("race", "all: s a\na: ; touch a\ns: ; ls > s\n", says="  s  Makefile:3  lists its folder\n"),
+    "list_of_a_folder_by_a_make_inside": Small("race", "all: s a\na: ; touch a\ns: ; $(MAKE) -f in.mk\n", {"in.mk": "s: ; ls > s\n"}, says="  s  Makefile:3  lists its folder\n"),
+    "list_of_a_folder_before_a_read": Small("race", "all: s a\na: ; touch a\ns: ; ls > s; cat a > t || true\n", says="  s  Makefile:3  reads it\n"),
+    "list_of_a_folder_behind_a_read": Small("race", "all: s a\na: ; touch a\ns: ; cat a > t || true; ls > s\n", says="  s  Makefile:3  reads it\n"),
     # folders
     "folder_whose_errors_a_macro_gets": Small("race", FOLDER % "x=$$(mkdir d 2>&1 >/dev/null || true); echo \"$$x\" > a"),
     "folder_whose_errors_a_file_gets": Small("race", FOLDER % "(mkdir d >/dev/null || true) 2> log; cp log a"),
