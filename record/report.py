@@ -57,9 +57,14 @@ def verb(about: Dict[str, Any], label: str, does: str, path: str) -> str:
         return "settles it" if does == "writes" else "sees it"
     if does == "writes":
         return "writes it"
-    if path in found.get("lists", ()):
+    if lists(about, label, path):
         return "lists its folder"
     return "make looks at it" if found.get("kind", "") in ("decision", "look", "first") else "reads it"
+
+
+def lists(about: Dict[str, Any], label: str, path: str) -> bool:
+    """Whether a task reads a path only as it lists the folder."""
+    return path in about["labels"].get(label, {}).get("lists", ())
 
 
 def target(about: Dict[str, Any], label: str) -> str:
@@ -119,18 +124,32 @@ def in_order(count: int, word: str) -> str:
     return plural(count, word) + (" that conflicts is in order." if count == 1 else " that conflict are in order.")
 
 
+def group_of(about: Dict[str, Any], race: Race) -> Tuple[str, str]:
+    """What stands together: races on one path by one writer, and all that one task meets as it lists folders."""
+    lister = [one for one, does in ((race.first, race.first_does), (race.second, race.second_does)) if does != "writes" and lists(about, one, race.path)]
+    return ("", lister[0]) if lister else (race.path, race.first if race.first_does == "writes" else race.second)
+
+
+def more_text(about: Dict[str, Any], group: Tuple[str, str], count: int) -> str:
+    """The line about the other races of a group."""
+    path, label = group
+    if path:
+        return "  and %d more on this file by the same writer" % count
+    return "  and %d more on files in folders that %s lists: let it need what it lists, or write the names down" % (count, target(about, label))
+
+
 def races_text(judged: Judged, colour: Colours) -> Tuple[List[str], int, int]:
-    """All races of one round, by path and writer; the lines, the races shown, the files."""
+    """All races of one round, in groups; the lines, the races shown, the files."""
     groups: Dict[Tuple[str, str], List[Race]] = {}
     for race in judged.verdict.races:
-        groups.setdefault((race.path, race.first if race.first_does == "writes" else race.second), []).append(race)
+        groups.setdefault(group_of(judged.about, race), []).append(race)
     lines: List[str] = []
     is_fixed = judged.verdict.is_fixed and not any(without_line(judged.about, one.path, one.first, one.second) for one in judged.verdict.races)
-    for (_, _), races in list(groups.items())[:SHOWN_RACES]:
+    for group, races in list(groups.items())[:SHOWN_RACES]:
         text = race_text(judged.about, races[0], judged.verdict.fix, is_fixed)
         lines += [colour.bad + text[0] + colour.end] + text[1:]
         if len(races) > 1:
-            lines.append("  and %d more on this file by the same writer" % (len(races) - 1))
+            lines.append(more_text(judged.about, group, len(races) - 1))
         lines.append("")
     if len(groups) > SHOWN_RACES:
         lines += ["%d more groups of races: race-report lists all races" % (len(groups) - SHOWN_RACES), ""]

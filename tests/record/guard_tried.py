@@ -27,6 +27,8 @@ TRIED_GUARDS: List[Guard] = [
     Guard("tried: brackets that a blank cuts", TEXT, ' or ends and "[" in BRACKETS.sub("", bare) else', " else", tried("brackets_with_a_blank"), YES),
     Guard("tried: brackets that are whole", TEXT, ' or ends and "[" in BRACKETS.sub("", bare) else', ' or ends and "[" in bare else', text("brackets_that_a_quote_cuts")),
     Guard("tried: lists of folders are said", "report.py", 'return "lists its folder"', 'return "reads it"', tried("list_of_a_folder"), "lists its folder"),
+    Guard("tried: lists of folders stand together", "report.py", 'return ("", lister[0]) if lister else (race.path,', "return (race.path,", tried("list_of_a_folder_with_several_files"), "folders that s lists"),
+    Guard("tried: lists of folders stand together by who lists", "report.py", 'return ("", lister[0]) if lister else', 'return ("", "") if lister else', tried("lists_by_two_recipes"), "  s  Makefile:3  lists its folder"),
     Guard("tried: lists of folders, and a read that is met later", "make/graph.py", "        self.listed.discard(path)\n", "", tried("list_of_a_folder_behind_a_read"), "lists its folder"),
     Guard("tried: lists of folders, and a read that is met first", "make/graph.py", "        if path not in self.reads:\n            self.reads.add(path)\n            self.listed.add(path)\n",
           "        self.reads.add(path)\n        self.listed.add(path)\n", tried("list_of_a_folder_before_a_read"), "lists its folder"),

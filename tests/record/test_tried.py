@@ -45,6 +45,8 @@ TRIED: Dict[str, Small] = {
     # lists of folders, which are said to be that
     "list_of_a_folder": Small("race", "all: s a\na: ; touch a\ns: ; ls > s\n", says="  s  Makefile:3  lists its folder\n"),
     "list_of_a_folder_by_a_make_inside": Small("race", "all: s a\na: ; touch a\ns: ; $(MAKE) -f in.mk\n", {"in.mk": "s: ; ls > s\n"}, says="  s  Makefile:3  lists its folder\n"),
+    "list_of_a_folder_with_several_files": Small("race", "all: s a t\na: ; touch a\ns: ; ls > s\nt: ; touch t t2\n", says="  and 1 more on files in folders that s lists: let it need what it lists, or write the names down\n"),
+    "lists_by_two_recipes": Small("race", "all: r s a\na: ; touch a\nr s: ; ls *a > $@; true\n", says="RACE  a\n  s  Makefile:3  lists its folder\n"),
     "list_of_a_folder_before_a_read": Small("race", "all: s a\na: ; touch a\ns: ; ls > s; cat a > t || true\n", says="  s  Makefile:3  reads it\n"),
     "list_of_a_folder_behind_a_read": Small("race", "all: s a\na: ; touch a\ns: ; cat a > t || true; ls > s\n", says="  s  Makefile:3  reads it\n"),
     # folders
