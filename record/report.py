@@ -16,6 +16,7 @@ from record.tasks import OWN_NAME, file_of, shown
 
 SHOWN_RACES, SHOWN_HOLES = 30, 20
 SHOWN_SIGNS = 80  # of an example
+LISTS, AGES = "\0lists", "\0ages"  # what several paths have in common
 ONE_WRITER = "let one recipe alone write it; make asks whether it is there before that recipe has run"
 
 
@@ -99,6 +100,8 @@ def race_text(about: Dict[str, Any], race: Race, fixes: List[str], is_fixed: boo
     lines = ["RACE  " + name + ("  (%s)" % meaning if meaning else "")]
     rows = [(target(about, race.first), place(about, race.first), verb(about, race.first, race.first_does, race.path)),
             (target(about, race.second), place(about, race.second), verb(about, race.second, race.second_does, race.path) + ", and nothing orders the two")]
+    asker = about.get("askers", {}).get(race.path)
+    rows += [(target(about, asker), place(about, asker), "may ask for it")] if asker is not None else []
     wide = [max(len(r[n]) for r in rows) for n in (0, 1)]
     lines += ["  %s  %s  %s" % (r[0].ljust(wide[0]), r[1].ljust(wide[1]), r[2]) for r in rows]
     own = race.path in (target(about, race.first), target(about, race.second))
@@ -125,17 +128,23 @@ def in_order(count: int, word: str) -> str:
 
 
 def group_of(about: Dict[str, Any], race: Race) -> Tuple[str, str]:
-    """What stands together: races on one path by one writer, and all that one task meets as it lists folders."""
+    """What stands together: races on one path by one writer, all that one task meets as it lists folders, and all ages for which one asks."""
     lister = [one for one, does in ((race.first, race.first_does), (race.second, race.second_does)) if does != "writes" and lists(about, one, race.path)]
-    return ("", lister[0]) if lister else (race.path, race.first if race.first_does == "writes" else race.second)
+    if lister:
+        return LISTS, lister[0]
+    if race.path in about.get("askers", {}):
+        return AGES, about["askers"][race.path]
+    return race.path, race.first if race.first_does == "writes" else race.second
 
 
 def more_text(about: Dict[str, Any], group: Tuple[str, str], count: int) -> str:
     """The line about the other races of a group."""
-    path, label = group
-    if path:
-        return "  and %d more on this file by the same writer" % count
-    return "  and %d more on files in folders that %s lists: let it need what it lists, or write the names down" % (count, target(about, label))
+    kind, label = group
+    if kind == LISTS:
+        return "  and %d more on files in folders that %s lists: let it need what it lists, or write the names down" % (count, target(about, label))
+    if kind == AGES:
+        return "  and %d more by ages that %s may compare" % (count, target(about, label))
+    return "  and %d more on this file by the same writer" % count
 
 
 def races_text(judged: Judged, colour: Colours) -> Tuple[List[str], int, int]:

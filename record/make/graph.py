@@ -217,6 +217,7 @@ class Build:
     bits: List[int] = field(default_factory=list)
     writers: Dict[str, Set[int]] = field(default_factory=dict)
     meanings: Dict[str, str] = field(default_factory=dict)
+    askers: Dict[str, int] = field(default_factory=dict)  # by name that stands for an age: the first task that asks for it, -1 where none does
     tool = "make"
 
     @property

@@ -92,6 +92,8 @@ TRIED: Dict[str, Small] = {
     "test_with_words_of_a_program": Small("safe", SIDE % "test $$(cat how) && echo yes", {"how": "x -nt y\n"}, says=UNKNOWN),
     "test_with_words_of_a_file": Small("safe", SIDE % "read o < how; [ $$o ] && echo yes", {"how": "x -nt y\n"}, says=UNKNOWN),
     "tests_with_macros": Small("safe", SIDE % 'for f in x y; do [ -s $$f ] && [ "$$f" != z ] && echo $$f; done', lacks=UNKNOWN),
+    "ages_for_which_a_recipe_asks": Small("race", SIDE % "test x -nt y", says="  c  Makefile:4  may ask for it\n"),
+    "ages_of_several_files": Small("race", "all: c\nx y z: ; touch $@\nc: x y z ; ls -t x y z > c\n", says="  and 2 more by ages that c may compare\n"),
     "numbers_of_files": Small("race", SIDE % "ls -i x y | sort -n | sed 's/.* //'"),
     "numbers_of_files_by_stat": Small("race", SIDE % "stat -c '%i %n' x y | sort -n | sed 's/.* //'"),
     "times_in_front_of_what_differs": Small("safe", SIDE % "diff -u x y | head -2 | sort -k3", says=UNKNOWN),
