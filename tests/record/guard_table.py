@@ -246,6 +246,7 @@ OWNERS: List[Guard] = [
     Guard("entry: a command that cannot be run", "main.py", "    if status != 0 and not has_calls(pipe.file):", "    if status != 0:", "test_entry.Untraced.test_command_that_cannot_be_run"),
     Guard("failed: which recipe", "failed.py", "if one.base and job.target in one.base.failed)", "if one.base)", "test_failed.Failed.test_recipe"),
     Guard("failed: the innermost make alone", "failed.py", "elif not failed.intersection(inner(make.work.get(id(found[1]), Work()))):", "else:", "test_failed.Failed.test_failures_that_a_recipe_ignores"),
+    Guard("failed: long words of a make", "failed.py", 'self.words if len(self.words) <= WIDTH else self.words[:WIDTH] + ".."', "self.words", "test_failed.Failed.test_long_words_that_differ_at_their_end", "xxx.."),
     Guard("failed: the first one first", "failed.py", "key=lambda one: one.ended)", "key=lambda one: -one.ended)", "test_failed.Failed.test_make_inside_a_command_of_ninja"),
     Guard("failed: not what was ignored", "failed.py", "if lost_jobs(ninja)}) - ignored(makes)", "if lost_jobs(ninja)})", "test_failed.Failed.test_what_failed_before_and_was_ignored"),
     Guard("failed: what the log of ninja lacks", "failed.py", "if not set(one[1].makes()) & set(ninja.logged))", ")", "test_failed.Failed.test_command_of_ninja"),
