@@ -12,6 +12,7 @@ from record.missing.looked import is_below
 from record.ninja.runs import Ninja
 from record.tools.shelltext import SHELLS
 from record.trace.names import Names
+from record.trace.system import OF_SYSTEM
 
 CHANGES = "WCDMTX"  # kinds of events of a file or a folder
 BUILDS = re.compile(r"make|ninja", re.I)  # a recipe that may run several others
@@ -57,14 +58,15 @@ def does_nothing(build: Build, node: Node) -> bool:
     """Whether the recipe of a target is the word `true` alone, or less, as for a file that the project has."""
     base = build.graph.base
     shell = base.values.get("SHELL", "") if "SHELL" not in base.own else ""
-    return os.path.basename(shell) in SHELLS and all(RUNS_NOTHING.fullmatch(line) for line in base.recipes.get(node.name, []))
+    return OF_SYSTEM.match(shell) is not None and os.path.basename(shell) in SHELLS and all(RUNS_NOTHING.fullmatch(line) for line in base.recipes.get(node.name, []))
 
 
 def is_beginning(build: Build, node: Node) -> bool:
-    """Whether a target is the makefile that make finds by itself when it begins: without it there is no such build, and where it is older than what it
-    is made of, it is made again before all goals."""
+    """Whether a target is the makefile that make finds by itself when it begins, and no recipe runs that make, which might have made it: without it there is
+    no such build, and where it is older than what it is made of, it is made again before all goals."""
     first = [name for start in build.make.words.read[:1] for name in start[:1]]
-    return node.name in first and node.name in DEFAULTS
+    is_inside = any(up.is_make or up.is_ninja for up in build.make.life.up() if up is not build.make.life)
+    return node.name in first and node.name in DEFAULTS and not is_inside
 
 
 def did_nothing(builds: List[Build]) -> bool:

@@ -128,7 +128,7 @@ class Warm(unittest.TestCase):
         """The status of a recording in a tree where `kept` and `d/Makefile` are there, and newer than what they are made of. A yes has no line `WARM`."""
         names: Dict[str, str] = {"Makefile": makefile, "s": "s", "kept": "1", "d/Makefile": OWN, **{name.replace("_", "."): text for name, text in files.items()}}
         with support.Project(names) as project:
-            project.sh("touch -d 2001-01-01 s; touch -d 2002-01-01 kept d/Makefile %s; test ! -f log || chmod +x log" % " ".join(name.replace("_", ".") for name in files))
+            project.sh("touch -d 2001-01-01 s; touch -d 2002-01-01 kept d/Makefile %s; for f in log d/sh; do test ! -f $f || chmod +x $f; done" % " ".join(name.replace("_", ".") for name in files))
             outcome = project.record(command.split())
         self.assertEqual(wanted, outcome.status, outcome.text())
         self.assertEqual(wanted == 2, "WARM" in outcome.text(), outcome.text())
@@ -148,6 +148,8 @@ class Warm(unittest.TestCase):
     def test_recipe_that_does_nothing_in_another_shell(self) -> None:
         self.kept(2, BESIDE + "SHELL = ./log\nkept: s ; true\n", log='#!/bin/sh\nexec /bin/sh "$@"\n')
         self.kept(2, BESIDE + "kept: SHELL = ./log\nkept: s ; true\n", log='#!/bin/sh\nexec /bin/sh "$@"\n')
+        self.kept(2, BESIDE + "SHELL = /usr/bin/env\n.SHELLFLAGS = sh -c\nkept: s ; true\n")
+        self.kept(2, BESIDE + "SHELL = d/sh\nkept: s ; true\n", **{"d/sh": '#!/bin/sh\nexec /bin/sh "$@"\n'})
 
     def test_makefile_that_make_begins_with(self) -> None:
         self.kept(0, BESIDE.replace("kept", "Makefile") + "Makefile: s ; touch t; cp s Makefile\n")
@@ -159,7 +161,7 @@ class Warm(unittest.TestCase):
         self.kept(2, BESIDE.replace("kept", "in.mk") + "in.mk: s ; touch t; cp s in.mk\ninclude in.mk\n", in_mk="X = 1\n")
 
     def test_makefile_of_a_make_inside(self) -> None:
-        self.kept(0, "all: c\n\t$(MAKE) -C d\nc: ; touch c\n")
+        self.kept(2, "all: c\n\ttest -f d/Makefile || cp in d/Makefile; $(MAKE) -C d\nc: ; touch c\n", **{"in": OWN})
         self.kept(2, "all: c d/Makefile\n\t$(MAKE) -C d\nc: ; touch c\nd/Makefile: s ; touch t; cp s $@\n")
         self.kept(2, "all: c\n\tcp in d/Makefile; $(MAKE) -C d\nc: ; touch c\n", **{"in": OWN})
 
