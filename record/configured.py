@@ -29,6 +29,12 @@ class Status:
 
     path: str
     made: Set[str] = field(default_factory=set)  # what it makes, their stamps, and what all of these and it itself are made of
+    stamps: Set[str] = field(default_factory=set)
+
+    def drop_stamps(self, names: Names, lives: List[Life], began: int) -> None:
+        """Takes out the stamps that were absent when make began: those are of a recipe of make alone."""
+        first = first_changes(lives, self.stamps - names.before.keys())
+        self.made -= {path for path, place in first.items() if place > began}
 
 
 def find_configured(makes: List[Make], lives: List[Life], names: Names) -> Set[str]:
@@ -37,7 +43,11 @@ def find_configured(makes: List[Make], lives: List[Life], names: Names) -> Set[s
     read = [(make.life.born, {names.find(make.folder, name, True).path for name in makefiles(make.words)}) for make in makes]
     there = {path for path, kind in names.before.items() if kind == "f"} | changed.keys()
     found = [status_of(path) for path in sorted(there) if os.path.basename(path) == STATUS]
-    statuses = [status for status in found if status is not None and is_configured(status, changed, [born for born, paths in read if not paths.isdisjoint(status.made)])]
+    statuses = []
+    for status in filter(None, found):
+        readers = [born for born, paths in read if not paths.isdisjoint(status.made)]
+        status.drop_stamps(names, lives, min(readers, default=0))
+        statuses += [status] if is_configured(status, changed, readers) else []
     ran = made_by_makes(makes, names)
     return {path for status in statuses for path in status.made if path not in changed or ran.get(path, changed[path]) >= changed[path]}
 
@@ -58,6 +68,16 @@ def last_changes(lives: List[Life]) -> Dict[str, int]:
         for (kind, path), place in life.events.items():
             if kind in CHANGES:
                 found[path] = max(found.get(path, 0), place, life.changed.get(path, 0))
+    return found
+
+
+def first_changes(lives: List[Life], paths: Set[str]) -> Dict[str, int]:
+    """Where some names were changed first."""
+    found: Dict[str, int] = {}
+    for life in lives:
+        for kind, path in life.events if paths else ():
+            if kind in CHANGES and path in paths:
+                found[path] = min(found.get(path, 1 << 60), life.events[kind, path])
     return found
 
 
@@ -89,7 +109,8 @@ def status_of(path: str) -> Optional[Status]:
             if kind in ("files", "headers"):
                 status.made.update(os.path.realpath(os.path.join(sources, one)) for one in templates or [name + ".in"])
             if kind == "headers":
-                status.made.update(stamps(os.path.dirname(made)))
+                status.stamps.update(stamps(os.path.dirname(made)))
+    status.made |= status.stamps
     return status
 
 

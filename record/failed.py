@@ -16,6 +16,8 @@ from record.ninja.runs import TRIED, Ninja
 from record.trace.names import Names
 
 HINTS = 5
+WIDTH = 100  # signs of the words of a make
+
 
 @dataclass
 class Failure:
@@ -27,7 +29,8 @@ class Failure:
     ended: int  # the place in the trace
 
     def __str__(self) -> str:
-        return "%s (%s)" % (self.what, ", ".join(filter(None, (self.place, self.words)))) if self.what else "%s failed first" % self.words
+        words = self.words if len(self.words) <= WIDTH else self.words[:WIDTH] + ".."
+        return "%s (%s)" % (self.what, ", ".join(filter(None, (self.place, words)))) if self.what else "%s failed first" % words
 
 
 def failed_job(make: Make) -> Optional[Tuple[Round, Job]]:

@@ -90,7 +90,8 @@ def write_build(folder: Path, build: "Build", within: Optional[Dict[str, str]]) 
     about: Dict[str, Any] = {}
     for at, (label, task) in enumerate(zip(labels, build.tasks)):
         place = {key: shown(value) if isinstance(value, str) else value for key, value in build.about(at).items()}
-        about[label] = {"target": shown(task.node.name), "kind": task.kind, **place}
+        lists = sorted(relative(root, path) for path in task.listed & task.reads)
+        about[label] = {"target": shown(task.node.name), "kind": task.kind, **place, **({"lists": lists} if lists else {})}
     edges = 0
     with open(folder / "tasks", "w", encoding="utf-8", errors="backslashreplace") as file:
         for label, line in lines_of(build.tasks, root, labels):
@@ -98,12 +99,13 @@ def write_build(folder: Path, build: "Build", within: Optional[Dict[str, str]]) 
             about.setdefault(label, {"target": "", "kind": "group", "file": "", "line": 0, "recipe": ""})
             edges += len(json.loads(line)["after"])
     meanings = {relative(root, p): shown(m) for p, m in build.meanings.items()}
+    askers = {relative(root, path): labels[at] for path, at in build.askers.items() if at >= 0}
     counts = {
         "considered": build.considered, "tasks": len(about), "edges": edges,
         "recipes": sum(1 for t in build.tasks if t.kind == "recipe"), "paths": sum(len(t.reads) + len(t.writes) for t in build.tasks),
     }
     text = {"tool": build.tool, "folder": shown(root), "words": shown(build.words), "round": build.stage, "within": within,
-            "span": [build.make.life.born, build.make.life.died], "counts": counts, "labels": about, "meanings": meanings}
+            "span": [build.make.life.born, build.make.life.died], "counts": counts, "labels": about, "meanings": meanings, "askers": askers}
     (folder / "build.json").write_text(json.dumps(text, indent=1, ensure_ascii=False) + "\n", encoding="utf-8")
 
 

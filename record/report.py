@@ -16,6 +16,7 @@ from record.tasks import OWN_NAME, file_of, shown
 
 SHOWN_RACES, SHOWN_HOLES = 30, 20
 SHOWN_SIGNS = 80  # of an example
+LISTS, AGES = "\0lists", "\0ages"  # what several paths have in common
 ONE_WRITER = "let one recipe alone write it; make asks whether it is there before that recipe has run"
 
 
@@ -52,12 +53,19 @@ def place(about: Dict[str, Any], label: str) -> str:
 
 def verb(about: Dict[str, Any], label: str, does: str, path: str) -> str:
     """What a task does to a path, in the words of all companions."""
-    kind = about["labels"].get(label, {}).get("kind", "")
+    found = about["labels"].get(label, {})
     if OWN_NAME.search(path):
         return "settles it" if does == "writes" else "sees it"
     if does == "writes":
         return "writes it"
-    return "make looks at it" if kind in ("decision", "look", "first") else "reads it"
+    if lists(about, label, path):
+        return "lists its folder"
+    return "make looks at it" if found.get("kind", "") in ("decision", "look", "first") else "reads it"
+
+
+def lists(about: Dict[str, Any], label: str, path: str) -> bool:
+    """Whether a task reads a path only as it lists the folder."""
+    return path in about["labels"].get(label, {}).get("lists", ())
 
 
 def target(about: Dict[str, Any], label: str) -> str:
@@ -92,6 +100,8 @@ def race_text(about: Dict[str, Any], race: Race, fixes: List[str], is_fixed: boo
     lines = ["RACE  " + name + ("  (%s)" % meaning if meaning else "")]
     rows = [(target(about, race.first), place(about, race.first), verb(about, race.first, race.first_does, race.path)),
             (target(about, race.second), place(about, race.second), verb(about, race.second, race.second_does, race.path) + ", and nothing orders the two")]
+    asker = about.get("askers", {}).get(race.path)
+    rows += [(target(about, asker), place(about, asker), "may ask for it")] if asker is not None else []
     wide = [max(len(r[n]) for r in rows) for n in (0, 1)]
     lines += ["  %s  %s  %s" % (r[0].ljust(wide[0]), r[1].ljust(wide[1]), r[2]) for r in rows]
     own = race.path in (target(about, race.first), target(about, race.second))
@@ -117,18 +127,38 @@ def in_order(count: int, word: str) -> str:
     return plural(count, word) + (" that conflicts is in order." if count == 1 else " that conflict are in order.")
 
 
+def group_of(about: Dict[str, Any], race: Race) -> Tuple[str, str]:
+    """What stands together: races on one path by one writer, all that one task meets as it lists folders, and all ages for which one asks."""
+    lister = [one for one, does in ((race.first, race.first_does), (race.second, race.second_does)) if does != "writes" and lists(about, one, race.path)]
+    if lister:
+        return LISTS, lister[0]
+    if race.path in about.get("askers", {}):
+        return AGES, about["askers"][race.path]
+    return race.path, race.first if race.first_does == "writes" else race.second
+
+
+def more_text(about: Dict[str, Any], group: Tuple[str, str], count: int) -> str:
+    """The line about the other races of a group."""
+    kind, label = group
+    if kind == LISTS:
+        return "  and %d more on files in folders that %s lists: let it need what it lists, or write the names down" % (count, target(about, label))
+    if kind == AGES:
+        return "  and %d more by ages that %s may compare" % (count, target(about, label))
+    return "  and %d more on this file by the same writer" % count
+
+
 def races_text(judged: Judged, colour: Colours) -> Tuple[List[str], int, int]:
-    """All races of one round, by path and writer; the lines, the races shown, the files."""
+    """All races of one round, in groups; the lines, the races shown, the files."""
     groups: Dict[Tuple[str, str], List[Race]] = {}
     for race in judged.verdict.races:
-        groups.setdefault((race.path, race.first if race.first_does == "writes" else race.second), []).append(race)
+        groups.setdefault(group_of(judged.about, race), []).append(race)
     lines: List[str] = []
     is_fixed = judged.verdict.is_fixed and not any(without_line(judged.about, one.path, one.first, one.second) for one in judged.verdict.races)
-    for (_, _), races in list(groups.items())[:SHOWN_RACES]:
+    for group, races in list(groups.items())[:SHOWN_RACES]:
         text = race_text(judged.about, races[0], judged.verdict.fix, is_fixed)
         lines += [colour.bad + text[0] + colour.end] + text[1:]
         if len(races) > 1:
-            lines.append("  and %d more on this file by the same writer" % (len(races) - 1))
+            lines.append(more_text(judged.about, group, len(races) - 1))
         lines.append("")
     if len(groups) > SHOWN_RACES:
         lines += ["%d more groups of races: race-report lists all races" % (len(groups) - SHOWN_RACES), ""]

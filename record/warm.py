@@ -6,13 +6,17 @@ from typing import Dict, Iterator, List, Set
 
 from record.cleaned import Cleaned
 from record.make.graph import Build, Graph, Node, Task
+from record.make.inner import DEFAULTS
 from record.make.owners import Make
 from record.missing.looked import is_below
 from record.ninja.runs import Ninja
+from record.tools.shelltext import SHELLS
 from record.trace.names import Names
+from record.trace.system import OF_SYSTEM
 
 CHANGES = "WCDMTX"  # kinds of events of a file or a folder
 BUILDS = re.compile(r"make|ninja", re.I)  # a recipe that may run several others
+RUNS_NOTHING = re.compile(r"[\s@+-]*(?:true|:)?\s*")  # a line of a recipe
 MAKES_FOLDER = re.compile(r"\s*[@+-]*\s*mkdir\s+(?:(?:-p|--parents)\s+)?(?:\$@|\$\(@\)|([^\s;&|<>`$*?\[]+?))/?\s*")
 
 
@@ -26,7 +30,7 @@ def warm_names(builds: List[Build], ninjas: List[Ninja], names: Names, cleaned: 
     beyond: Set[str] = set()
     for build in builds:
         if build.tool == "make" and build.stage == "goals":
-            nodes = [node for node in build.graph.nodes.values() if node.has_recipe and not node.phony and not cleaned.is_gone(node.path, build.make.life)]
+            nodes = [node for node in build.graph.nodes.values() if is_made(build, node, builds) and not cleaned.is_gone(node.path, build.make.life)]
             found.update(node.path for node in nodes if not is_new_link(build, node, names))
             beyond.update(node.path for node in nodes if not (node.jobs or node.must) and is_beyond(node.path, names))
     for build in builds:
@@ -39,6 +43,30 @@ def warm_names(builds: List[Build], ninjas: List[Ninja], names: Names, cleaned: 
         left.update(path for path in own - made if path in names.before)  # a folder too: its statement did not run
         beyond.update(path for path in own - made if is_beyond(path, names))
     return sorted({*left, *(path for path in found if names.before.get(path) in ("f", "l")), *beyond & found})
+
+
+def is_made(build: Build, node: Node, builds: List[Build]) -> bool:
+    """Whether a rule makes a target, so that somebody may build without it. Not where no recipe touched it, and its own does nothing, or it is the makefile
+    that make begins with."""
+    if not node.has_recipe or node.phony:
+        return False
+    is_kept = not (node.jobs or node.must or any(node.path in other.writers for other in builds))
+    return not (is_kept and (does_nothing(build, node) or is_beginning(build, node)))
+
+
+def does_nothing(build: Build, node: Node) -> bool:
+    """Whether the recipe of a target is the word `true` alone, or less, as for a file that the project has."""
+    base = build.graph.base
+    shell = base.values.get("SHELL", "") if "SHELL" not in base.own else ""
+    return OF_SYSTEM.match(shell) is not None and os.path.basename(shell) in SHELLS and all(RUNS_NOTHING.fullmatch(line) for line in base.recipes.get(node.name, []))
+
+
+def is_beginning(build: Build, node: Node) -> bool:
+    """Whether a target is the makefile that make finds by itself when it begins, and no recipe runs that make, which might have made it: without it there is
+    no such build, and where it is older than what it is made of, it is made again before all goals."""
+    first = [name for start in build.make.words.read[:1] for name in start[:1]]
+    is_inside = any(up.is_make or up.is_ninja for up in build.make.life.up() if up is not build.make.life)
+    return node.name in first and node.name in DEFAULTS and not is_inside
 
 
 def did_nothing(builds: List[Build]) -> bool:

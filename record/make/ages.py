@@ -115,15 +115,16 @@ def compare(builder: "Builder", at: int, first: str, second: str, own: str = "")
     for a in one:
         for b in two:
             if at not in (a, b) and build.unordered(a, b):
-                settle(builder, first, second, *sorted((a, b)))
+                settle(builder, at, first, second, *sorted((a, b)))
 
 
-def settle(builder: "Builder", first: str, second: str, low: int, high: int) -> None:
-    """Two tasks settle which of two names is newer."""
+def settle(builder: "Builder", at: int, first: str, second: str, low: int, high: int) -> None:
+    """Two tasks settle which of two names is newer, for which a third one asks, or, where `at` is -1, somebody who is no task."""
     name = "%s/@age/%d/%d" % (first, low, high)
     builder.build.tasks[low].writes.add(name)
     builder.build.tasks[high].writes.add(name)
     builder.build.meanings[name] = "which of %s and %s is newer" % (first, second)
+    builder.build.askers.setdefault(name, at)
 
 
 def inner_ages(builder: "Builder", at: int, work: Work) -> None:
@@ -187,7 +188,7 @@ def ages_by_words(builder: "Builder", at: int, work: Work, assumed: str = "ages"
     """Programs that compare ages: those of all names that they looked at, by who writes them. Of others nobody knows, which is what is `assumed`.
     `words`: who they are where that is no task."""
     for low, high, first, second in settled_by(builder, at, work, AGE_SEEN):
-        settle(builder, first, second, low, high)
+        settle(builder, at, first, second, low, high)
     unknown = next(settled_by(builder, at, work, AGE_UNKNOWN), None)
     if unknown is not None:
         builder.assumed.add(assumed, "%s looks at %s and %s" % (words or builder.build.tasks[at].node.name, unknown[2], unknown[3]))

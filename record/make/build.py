@@ -375,12 +375,12 @@ class Builder:
             if kind in CHANGES and not path.endswith("/"):
                 task.writes.add(path)
             elif kind in ASKS and path in writers:
-                task.reads.add(path)
+                task.read(path)
             elif kind == LISTED:
                 folder, pattern = path.split("\0")
                 for name, who in created.get(folder, {}).items():
                     if (who != {at}) and join(folder, name) not in self.made and fits(pattern, join(folder, name), self.names):
-                        task.reads.add(join(folder, name))
+                        task.read_by_list(join(folder, name))
             elif kind == AGE_SEEN:
                 self.timed.setdefault(path, set()).add(at)
 

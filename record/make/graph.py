@@ -37,6 +37,18 @@ class Task:
     reads: Set[str] = field(default_factory=set)
     writes: Set[str] = field(default_factory=set)
     works: List[Work] = field(default_factory=list)
+    listed: Set[str] = field(default_factory=set)  # what it reads by a list of the folder alone
+
+    def read(self, path: str) -> None:
+        """Reads a name, or asks for it."""
+        self.reads.add(path)
+        self.listed.discard(path)
+
+    def read_by_list(self, path: str) -> None:
+        """Reads a name of a folder that it lists."""
+        if path not in self.reads:
+            self.reads.add(path)
+            self.listed.add(path)
 
 
 class Graph:
@@ -205,6 +217,7 @@ class Build:
     bits: List[int] = field(default_factory=list)
     writers: Dict[str, Set[int]] = field(default_factory=dict)
     meanings: Dict[str, str] = field(default_factory=dict)
+    askers: Dict[str, int] = field(default_factory=dict)  # by name that stands for an age: the first task that asks for it, -1 where none does
     tool = "make"
 
     @property

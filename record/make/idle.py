@@ -81,12 +81,13 @@ def without_defaults(texts: Dict[str, str], words: Words) -> List[str]:
     if len(words.read) != 1 or len({*words.read[0]}) != len(words.read[0]) or words.included or any(map(UNDEFINES.search, texts.values())):
         return [*texts.values()]
     whole, values = "\n".join(texts.values()), words.values()
+    asked = {*DEFAULT.findall(whole)}  # others are not searched for: that takes time for each
     known: Set[str] = set()
     found: List[str] = []
     for text in (texts[name] for name in words.read[0] if name in texts):
         found.append(DEFAULT.sub(lambda one: "" if one.group(1) in known else one.group(), text))
         first = INCLUDES.search(text)
-        set_here = {name for name, value in SETS.findall(text[:first.start()] if first else text) if "$" not in value and value.strip() == values.get(name)}
+        set_here = {name for name, value in SETS.findall(text[:first.start()] if first else text) if name in asked and "$" not in value and value.strip() == values.get(name)}
         known |= {name for name in set_here if len(re.findall(r"(?<![\w$({.%%/-])%s[ \t]*(?:[+!]|:{1,3})?=" % re.escape(name), whole)) == 1}
     return found
 

@@ -3,7 +3,7 @@
 import os
 import re
 from functools import lru_cache
-from typing import List, Tuple
+from typing import List, Optional, Tuple
 
 from record.tools.shelltext import FORMAT_OF_STAT, KEPT, LARGE, SHELLS, TAKES_IN, base_name, contents, is_input, is_interpreter, script_of, shell_words, sourced
 from record.tools.texts import text_of
@@ -66,6 +66,7 @@ def has_age_words(text: str) -> bool:
     return AGE_WORDS.search(without_outputs(text)) is not None
 
 
+@lru_cache(KEPT)
 def script_compares(path: str, folder: str, depth: int = 0) -> bool:
     """Whether the text of a script compares ages, or that of a script that it takes in; so may one that cannot be read."""
     try:
@@ -81,10 +82,17 @@ def script_compares(path: str, folder: str, depth: int = 0) -> bool:
 def tests_newer(path: str, argv: Tuple[str, ...], folder: str) -> bool:
     """Whether a script that a shell has opened tests which of two files is newer; so may one that cannot be read, other than the system's
     and what the shell's own script hands to others as their input."""
+    found = tests_newer_in(path)
+    return not OF_SYSTEM.match(path) and not is_handed_on(path, list(argv), folder) if found is None else found
+
+
+@lru_cache(KEPT)
+def tests_newer_in(path: str) -> Optional[bool]:
+    """Whether a text has such a test; None where it cannot be read. Each shell opens its libraries, so no file is read more than once."""
     try:
         return NEWER.search(text_of(path, LARGE)) is not None
     except OSError:
-        return not OF_SYSTEM.match(path) and not is_handed_on(path, list(argv), folder)
+        return None
 
 
 def is_handed_on(path: str, argv: List[str], folder: str) -> bool:
@@ -96,7 +104,13 @@ def is_handed_on(path: str, argv: List[str], folder: str) -> bool:
 def is_unread(argv: List[str], folder: str) -> bool:
     """Whether a shell runs a text that nobody reads: one from standard input, or one that `eval` gets."""
     text, script = shell_words(argv)
-    return EVAL.search(text) is not None if text else not script or COMPUTED.search(contents(os.path.join(folder, script))) is not None
+    return EVAL.search(text) is not None if text else not script or evals_output(os.path.join(folder, script))
+
+
+@lru_cache(KEPT)
+def evals_output(path: str) -> bool:
+    """Whether a script runs the text that a program prints."""
+    return COMPUTED.search(contents(path)) is not None
 
 
 def shows_ages(argv: List[str]) -> bool:

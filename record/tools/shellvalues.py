@@ -62,8 +62,13 @@ def patterns_in(life: Life, where: str) -> List[str]:
 
 def parts_in(life: Life, where: str, asked: Iterable[Asked]) -> List[str]:
     """Those of some patterns that a shell may ask for in a folder."""
-    is_sure = not any(kind == READ and not OF_SYSTEM.match(path) and (os.path.islink(path) or not os.path.lexists(path)) for kind, path in life.events)
-    return sorted({one.part for one in asked if not one.folder or not is_sure or fnmatchcase(where, "*/" + one.folder)})
+    links = {os.path.basename(path) for kind, path in life.events if kind == READ and not OF_SYSTEM.match(path) and (os.path.islink(path) or not os.path.lexists(path))}
+    return sorted({one.part for one in asked if not one.folder or fnmatchcase(where, "*/" + one.folder) or goes_by(one.folder, links)})
+
+
+def goes_by(folder: str, links: Iterable[str]) -> bool:
+    """Whether one of some names that are links, or may have been, is a part of a folder: it may lead to a folder of another name."""
+    return any(fnmatchcase(link, part) for link in links for part in folder.split("/"))
 
 
 def programs_of(life: Life) -> Set[str]:

@@ -87,6 +87,15 @@ class Configured(unittest.TestCase):
     def test_status_that_the_build_changes(self) -> None:
         self.status(2, MAKEFILE + "all: c\nc: ; cat a.c > t; cp t config.status; touch c\n", says="WARM  4 files")
 
+    # As in `less`: the stamp comes with the first make.
+    STAMPED = "all: a b\na: a.c config.h ; cat a.c config.h > a\nb: b.c ; cat b.c > b\nconfig.h: stamp-h\nstamp-h: config.in config.status ; touch stamp-h\nconfig.status: configure ; ./config.status --recheck\n"
+
+    def test_stamp_that_a_recipe_makes(self) -> None:
+        self.status(0, self.STAMPED, "rm stamp-h1; ", says="date (1, such", lacks="WARM")
+
+    def test_stamp_that_a_recipe_makes_again(self) -> None:
+        self.status(2, self.STAMPED.replace("stamp-h", "stamp-h1"), "touch config.in; ", says="WARM  2 files")
+
 
 class Configuring(unittest.TestCase):
     """The command configures, and then runs make."""
@@ -117,6 +126,12 @@ class Configuring(unittest.TestCase):
 
     def test_template_that_a_recipe_changes(self) -> None:
         self.status(2, "all: c\nc: b ; echo >> config.in; touch c\n")
+
+    def test_stamp_that_a_recipe_makes(self) -> None:
+        self.status(0, "all: stamp-h2\nstamp-h2: b ; touch stamp-h2\n")
+
+    def test_stamp_that_a_recipe_changes(self) -> None:
+        self.status(2, "all: c\nc: b ; echo >> stamp-h1; touch c\n")
 
     def test_make_before_that(self) -> None:
         """A make that reads these files has begun before configure ran."""

@@ -73,6 +73,11 @@ class Failed(unittest.TestCase):
         holes, hints = self.failed("all: ; -$(MAKE) -f one.mk\n", {"one.mk": "x: ; $(MAKE) -f two.mk\n", "two.mk": "y: ; false\n"})
         self.assertEqual((["a make failed: the recipe of y failed first (two.mk:1, make -f two.mk)"], []), (holes, hints))
 
+    def test_long_words_that_differ_at_their_end(self) -> None:
+        """As where a recipe tries many libraries, each by a make."""
+        holes, _ = self.failed("all:\n" + "".join("\t-$(MAKE) -f one.mk X=%s\n" % ("x" * 200 + end) for end in "abc"), {"one.mk": "x: ; false\n"})
+        self.assertEqual(["a make failed: the recipe of x failed first (one.mk:1, make -f one.mk X=%s..)" % ("x" * 83)], holes)
+
     def test_several_that_failed(self) -> None:
         self.assertEqual([END + "; the recipe of a failed first (Makefile:2, make -k)"], self.failed("all: a b\na: ; false\nb: ; false\n", words=("make", "-k"))[0])
 

@@ -54,6 +54,8 @@ SHELLS: Dict[str, Small] = {
     "rules_of_automake_that_find_a_file": Small("race", "all: a.info b\na.info: ; " + INFO + "b: ; touch a.info-1\n", FILES),
     "rules_of_automake_that_fail": Small("safe", "all: a.info b\na.info: ; -" + INFO.replace("sh ./info $@;", "false;") + "b: ; touch b\n", FILES),
     "folder_behind_a_link": Small("race", "all: a b\na: ; d=l; echo $$d/*.h *.q > a\nb: ; touch h/b.h b\n", FILES, "ln -s h l"),
+    "folder_beside_a_link": Small("safe", "all: a b\na: ; test -e l/1; d=h; echo $$d/*.h *.q > a\nb: ; touch b.h b\n", FILES, "mkdir k; ln -s k l"),  # as bash asks for the user by /var/run
+    "folder_below_a_link": Small("race", "all: a b\na: ; d=l/m; echo $$d/*.h *.q > a\nb: ; touch k/m/b.h b\n", {**FILES, "k/m/1.h": ""}, "ln -s k l"),
     "folder_behind_a_link_that_is_gone": Small("race", "all: a b c\na: l ; d=l; echo $$d/*.h *.q > a\nb: ; touch h/b.h b\nc: a ; rm l; touch c\nl: ; ln -s h l\n", FILES),
     "names_that_a_program_prints": Small("race", "all: a b\na: ; echo `echo 'h/*' | sed -n p` h/*.h > a\nb: ; touch h/b.o b\n", FILES),
     "names_that_a_script_prints": Small("race", "export PATH := .:$(PATH)\nall: a b\na: ; cat *.q `list.sh` > a\nb: ; touch h/b.h b\n",

@@ -42,6 +42,13 @@ TRIED: Dict[str, Small] = {
     "brackets_with_a_quote": Small("race", LISTS % "echo [x'yz'].i", {"y.i": ""}),
     "brackets_with_a_blank": Small("race", LISTS % "echo y.i [x\\ z].i", {"y.i": ""}),
     "brackets_of_another_name": Small("safe", LISTS % "echo [xy].h 'q'", {"y.i": ""}),
+    # lists of folders, which are said to be that
+    "list_of_a_folder": Small("race", "all: s a\na: ; touch a\ns: ; ls > s\n", says="  s  Makefile:3  lists its folder\n"),
+    "list_of_a_folder_by_a_make_inside": Small("race", "all: s a\na: ; touch a\ns: ; $(MAKE) -f in.mk\n", {"in.mk": "s: ; ls > s\n"}, says="  s  Makefile:3  lists its folder\n"),
+    "list_of_a_folder_with_several_files": Small("race", "all: s a t\na: ; touch a\ns: ; ls > s\nt: ; touch t t2\n", says="  and 1 more on files in folders that s lists: let it need what it lists, or write the names down\n"),
+    "lists_by_two_recipes": Small("race", "all: r s a\na: ; touch a\nr s: ; ls *a > $@; true\n", says="RACE  a\n  s  Makefile:3  lists its folder\n"),
+    "list_of_a_folder_before_a_read": Small("race", "all: s a\na: ; touch a\ns: ; ls > s; cat a > t || true\n", says="  s  Makefile:3  reads it\n"),
+    "list_of_a_folder_behind_a_read": Small("race", "all: s a\na: ; touch a\ns: ; cat a > t || true; ls > s\n", says="  s  Makefile:3  reads it\n"),
     # folders
     "folder_whose_errors_a_macro_gets": Small("race", FOLDER % "x=$$(mkdir d 2>&1 >/dev/null || true); echo \"$$x\" > a"),
     "folder_whose_errors_a_file_gets": Small("race", FOLDER % "(mkdir d >/dev/null || true) 2> log; cp log a"),
@@ -85,6 +92,8 @@ TRIED: Dict[str, Small] = {
     "test_with_words_of_a_program": Small("safe", SIDE % "test $$(cat how) && echo yes", {"how": "x -nt y\n"}, says=UNKNOWN),
     "test_with_words_of_a_file": Small("safe", SIDE % "read o < how; [ $$o ] && echo yes", {"how": "x -nt y\n"}, says=UNKNOWN),
     "tests_with_macros": Small("safe", SIDE % 'for f in x y; do [ -s $$f ] && [ "$$f" != z ] && echo $$f; done', lacks=UNKNOWN),
+    "ages_for_which_a_recipe_asks": Small("race", SIDE % "test x -nt y", says="  c  Makefile:4  may ask for it\n"),
+    "ages_of_several_files": Small("race", "all: c\nx y z: ; touch $@\nc: x y z ; ls -t x y z > c\n", says="  and 2 more by ages that c may compare\n"),
     "numbers_of_files": Small("race", SIDE % "ls -i x y | sort -n | sed 's/.* //'"),
     "numbers_of_files_by_stat": Small("race", SIDE % "stat -c '%i %n' x y | sort -n | sed 's/.* //'"),
     "times_in_front_of_what_differs": Small("safe", SIDE % "diff -u x y | head -2 | sort -k3", says=UNKNOWN),

@@ -1,7 +1,9 @@
 """Makefiles with parts that a make does not use, and patterns of which a part is about folders alone."""
 
+import re
 import unittest
 from typing import Dict, List
+from unittest import mock
 
 import support
 from record.make.database import read_base
@@ -191,6 +193,15 @@ class Texts(unittest.TestCase):
             self.assertEqual(left, "?=" in "".join(without_defaults({**texts, "b": "P ?= $(shell ls \\\n *)\nall: $(P)\n"}, words)), texts)
         words.read.append(["a", "b"])
         self.assertIn("?=", "".join(without_defaults({**first, "b": "P ?= 1\n"}, words)))
+
+    def test_macros_without_a_default(self) -> None:
+        """They are many in makefiles of automake, and each search goes over the whole text."""
+        text = "".join("X%d = x\n" % number for number in range(99)) + "Y = y\n"
+        base = read_base(["# Variables", *(line for name in text.split("\n")[:-1] for line in ("# makefile (from 'a', line 1)", name)), "# Files"])
+        words = Words(1, 0, read=[["a", "b"]], rounds=[Round("goals", 0, base=base)])
+        with mock.patch("record.make.idle.re.findall", wraps=re.findall) as search:
+            self.assertNotIn("?=", "".join(without_defaults({"a": text, "b": "Y ?= $(shell ls *)\n"}, words)))
+        self.assertEqual(1, search.call_count)
 
     def test_rules_that_nothing_asks_for(self) -> None:
         for text, asked, wanted in (("z: *.x", "y", ""), ("z: *.x", "z", "*.x"), ("z: *.x", "y w.x", "*.x"), ("z: d/*.x", "y w.x", ""), ("z: ./*.x", "y ./w.x", "*.x"), ("z: *.x", "*", "*.x"),

@@ -7,6 +7,8 @@ import support
 
 OLD = "touch -d 2001-01-01 s; touch -d 2002-01-01 "
 KEPT = "kept: s ; touch temporary; cp s kept\n"
+BESIDE = "all: a b c\na b: kept ; touch $@\nc: ; touch c\n"
+OWN = "all: a\na: Makefile ; touch a\nMakefile: ../s ; touch Makefile\n"
 BOTH = "all: a b\na b: kept ; cp kept $@\n"
 
 
@@ -121,6 +123,47 @@ class Warm(unittest.TestCase):
     def test_what_is_removed_and_put_back(self) -> None:
         self.assertEqual(2, self.cleaned("cp -p a k; make clean; mv k a; make"))
         self.assertEqual(2, self.cleaned("cp -p a k; make clean; make b; mv k a; make"))
+
+    def kept(self, wanted: int, makefile: str, command: str = "make", **files: str) -> None:
+        """The status of a recording in a tree where `kept` and `d/Makefile` are there, and newer than what they are made of. A yes has no line `WARM`."""
+        names: Dict[str, str] = {"Makefile": makefile, "s": "s", "kept": "1", "d/Makefile": OWN, **{name.replace("_", "."): text for name, text in files.items()}}
+        with support.Project(names) as project:
+            project.sh("touch -d 2001-01-01 s; touch -d 2002-01-01 kept d/Makefile %s; for f in log d/sh; do test ! -f $f || chmod +x $f; done" % " ".join(name.replace("_", ".") for name in files))
+            outcome = project.record(command.split())
+        self.assertEqual(wanted, outcome.status, outcome.text())
+        self.assertEqual(wanted == 2, "WARM" in outcome.text(), outcome.text())
+
+    def test_recipe_that_does_nothing(self) -> None:
+        for recipe in ("@true", ":", "-@ :", "@true\n\t@:"):
+            self.kept(0, BESIDE + "kept: s\n\t%s\n" % recipe)
+
+    def test_recipe_that_does_something(self) -> None:
+        for recipe in ("$(X)", "true > x", "trueish", "true; touch x"):
+            self.kept(2, BESIDE + "X = touch x\nkept: s\n\t%s\n" % recipe)
+
+    def test_recipe_that_does_nothing_beside_one_that_makes_it(self) -> None:
+        self.kept(2, BESIDE + "kept: new\n\t@true\nnew: ; touch new kept\n")
+        self.kept(2, BESIDE + "all: new\nkept: ; @true\nnew: ; touch new; cp s kept\n")
+
+    def test_recipe_that_does_nothing_in_another_shell(self) -> None:
+        self.kept(2, BESIDE + "SHELL = ./log\nkept: s ; true\n", log='#!/bin/sh\nexec /bin/sh "$@"\n')
+        self.kept(2, BESIDE + "kept: SHELL = ./log\nkept: s ; true\n", log='#!/bin/sh\nexec /bin/sh "$@"\n')
+        self.kept(2, BESIDE + "SHELL = /usr/bin/env\n.SHELLFLAGS = sh -c\nkept: s ; true\n")
+        self.kept(2, BESIDE + "SHELL = d/sh\nkept: s ; true\n", **{"d/sh": '#!/bin/sh\nexec /bin/sh "$@"\n'})
+
+    def test_makefile_that_make_begins_with(self) -> None:
+        self.kept(0, BESIDE.replace("kept", "Makefile") + "Makefile: s ; touch t; cp s Makefile\n")
+
+    def test_makefile_that_words_name(self) -> None:
+        self.kept(2, "", "make -f in.mk", in_mk=BESIDE.replace("kept", "in.mk") + "in.mk: s ; touch t; cp s in.mk\n")
+
+    def test_makefile_that_another_one_takes_in(self) -> None:
+        self.kept(2, BESIDE.replace("kept", "in.mk") + "in.mk: s ; touch t; cp s in.mk\ninclude in.mk\n", in_mk="X = 1\n")
+
+    def test_makefile_of_a_make_inside(self) -> None:
+        self.kept(2, "all: c\n\ttest -f d/Makefile || cp in d/Makefile; $(MAKE) -C d\nc: ; touch c\n", **{"in": OWN})
+        self.kept(2, "all: c d/Makefile\n\t$(MAKE) -C d\nc: ; touch c\nd/Makefile: s ; touch t; cp s $@\n")
+        self.kept(2, "all: c\n\tcp in d/Makefile; $(MAKE) -C d\nc: ; touch c\n", **{"in": OWN})
 
 
 if __name__ == "__main__":
