@@ -47,7 +47,7 @@ class Base:
     places: Dict[str, List[Tuple[str, int]]] = field(default_factory=dict)
     implicit: Set[str] = field(default_factory=set)
     failed: Set[str] = field(default_factory=set)  # what could not be made
-    unruled: Set[str] = field(default_factory=set)  # names of which no rule is about to make them: prerequisites alone, or found by an implicit rule
+    unruled: Set[str] = field(default_factory=set)  # names that are no targets: prerequisites alone
     patterns: List[Tuple[List[str], List[str]]] = field(default_factory=list)
     terminal: Set[int] = field(default_factory=set)  # places of patterns with two colons
     search: List[Tuple[str, List[str]]] = field(default_factory=list)  # patterns of names, and the folders in which make looks for them
@@ -59,6 +59,11 @@ class Base:
     serial: bool = False
     parts: List[str] = field(default_factory=list)  # which of its parts have begun
     is_unclear: bool = False  # a macro has lines that look like those of the data base
+
+    @cached_property
+    def found_beside(self) -> Set[str]:
+        """The other targets of rules that a search has found. Asked when all is read."""
+        return {other for one in self.implicit & self.also.keys() for other in self.also[one]}
 
     @cached_property
     def tails(self) -> List[Tuple[int, str, str]]:

@@ -198,6 +198,16 @@ def can_switch() -> bool:
     return os.geteuid() == 0 and bool(shutil.which("setpriv")) and subprocess.run(words, check=False, stderr=subprocess.DEVNULL).returncode == 0
 
 
+def has_terminals() -> bool:
+    """Whether this system gives terminals; a folder with a system in it may have none."""
+    try:
+        for number in os.openpty():
+            os.close(number)
+    except OSError:
+        return False
+    return True
+
+
 def draw_place(seed: int, is_later: bool, switches: bool) -> Place:
     """The place of a seed: a few things that are not as usual. `is_later`: for a make from 4.4 on."""
     chance = random.Random("place %d" % seed)
@@ -207,6 +217,7 @@ def draw_place(seed: int, is_later: bool, switches: bool) -> Place:
 
     place = Place()
     place.stdin = chance.choice(INPUTS) if seldom(0.6) else "nothing"
+    place.stdin = "open" if place.stdin == "terminal" and not has_terminals() else place.stdin
     place.outputs = chance.choice(OUTPUTS) if seldom(0.5) else "apart"
     place.open = chance.choice(([3], [9], [3, 9], [3, 4, 5])) if seldom(0.3) else []
     for name in chance.sample(sorted(VARIABLES), chance.choice((0, 1, 1, 2, 3, 4))):
