@@ -170,7 +170,7 @@ def takes_for_file(base: Base, version: str, name: str, is_known: bool) -> bool:
     """Whether a search takes a name for a file without a look: makefiles have a rule for it, or before GNU make 4.4 they name it, or make has
     considered it (`is_known`)."""
     if numbers_of(version) >= LATER:
-        return name in base.prerequisites and name not in base.unruled and (is_known or not is_by_search(base, name))
+        return name in base.prerequisites and name not in base.unruled and (is_known and name in base.implicit or not is_by_search(base, name))
     return is_known or name in base.prerequisites and (name not in base.implicit or bool(base.prerequisites[name]) and name not in base.recipes)
 
 

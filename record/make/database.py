@@ -246,9 +246,9 @@ def read_base(lines: List[str]) -> Base:
             behind_files(base, text, previous)
         elif macros.depth:
             macros.line(text, previous)
-        elif text.startswith("# Files"):
+        elif text == PARTS[2]:
             inside = True
-        elif text.startswith("# files hash-table stats"):
+        elif text == PARTS[3]:
             behind = True
         elif inside:
             files.line(text)

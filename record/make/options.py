@@ -36,8 +36,11 @@ def speak_english(environment: "MutableMapping[str, str]") -> bool:
 def forget_coerced(environment: "MutableMapping[str, str]") -> None:
     """Takes out what Python itself puts there as it begins where the locale is C: programs would count the signs of a text in another way."""
     if environment.get("LC_CTYPE") in COERCED:
-        with open("/proc/self/environ", "rb") as file:
-            given = [one.partition(b"=")[2] for one in file.read().split(b"\0") if one.startswith(b"LC_CTYPE=")]
+        try:
+            with open("/proc/self/environ", "rb") as file:
+                given = [one.partition(b"=")[2] for one in file.read().split(b"\0") if one.startswith(b"LC_CTYPE=")]
+        except OSError:  # there is no /proc, or it is of other processes
+            return
         del environment["LC_CTYPE"]
         environment.update({"LC_CTYPE": os.fsdecode(value) for value in given[:1]})
 
@@ -50,8 +53,12 @@ def cluster(word: str) -> "tuple[str, str, str]":
 
 
 def words_of(flags: str) -> "list[str]":
-    """The words of MAKEFLAGS or GNUMAKEFLAGS, as make takes them: the first one may be letters without a dash."""
-    words = flags.split()
+    """The words of MAKEFLAGS or GNUMAKEFLAGS, as make takes them: a blank behind a backslash ends none, and the first one may be letters without a dash."""
+    words: "list[str]" = []
+    goes_on = False
+    for word in flags.split():
+        words = [*words[:-1], words[-1] + " " + word] if goes_on else [*words, word]
+        goes_on = (len(word) - len(word.rstrip("\\"))) % 2 == 1
     is_bare = bool(words) and not words[0].startswith("-") and "=" not in words[0]
     return ["-" + words[0], *words[1:]] if is_bare else words
 

@@ -106,7 +106,7 @@ def expanded_late(known: Macros) -> List[str]:
 
 def texts_of_lines(known: Macros) -> List[str]:
     """What an `eval` in a makefile reads, and a line that begins with a macro: either may be a rule."""
-    text = RECIPES.sub("", known.text)
+    text = with_functions(RECIPES.sub("", known.text))
     read = "\n".join([*(text[one.start + 1:one.end] for one in evals(text)), *LINES.findall(text)])
     return [read, *map(known.text_of, known.reached(read))]
 

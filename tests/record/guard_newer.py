@@ -39,8 +39,8 @@ NEWER_GUARDS: List[Guard] = [
     Guard("decisions: targets of one recipe, not before", CONSIDERED, "others = base.also.get(name, []) if numbers_of(version) >= LATER else []", "others = base.also.get(name, [])",
           version("targets_at_which_make_looks_together")),
     Guard("decisions: targets of one recipe that ran", CONSIDERED, "return others if ran.isdisjoint(others) else []", "return others", version("targets_at_which_make_looks_together")),
-    Guard("searches: names whose rule a search has found, since GNU make 4.4", CONSIDERED, " and (is_known or not is_by_search(base, name))", "", version("targets_that_a_search_has_found")),
-    Guard("searches: names whose rule an earlier search has found", CONSIDERED, "(is_known or not is_by_search", "(not is_by_search", version("targets_that_a_search_has_found")),
+    Guard("searches: names whose rule a search has found, since GNU make 4.4", CONSIDERED, " and (is_known and name in base.implicit or not is_by_search(base, name))", "", version("targets_that_a_search_has_found")),
+    Guard("searches: names whose rule an earlier search has found", CONSIDERED, "(is_known and name in base.implicit or not is_by_search", "(not is_by_search", version("targets_that_a_search_has_found")),
     Guard("searches: names beside one that a search has found", CONSIDERED, "return listed == 0 and name in base.found_beside", "return False", version("targets_that_a_search_has_found")),
     Guard("searches: names beside one, with prerequisites", CONSIDERED, "return listed == 0 and name in", "return name in", version("targets_that_a_search_has_found")),
     Guard("searches: names of which a search has found no rule", CONSIDERED, "return has_recipe and (", "return (", version("targets_that_a_search_has_found")),
@@ -53,4 +53,5 @@ NEWER_GUARDS: List[Guard] = [
     Guard("macros: second expansions of rules that an eval reads", UNFILED, "for one in {text, flat(text)}]", "for one in {text}]", version("macros_that_second_expansions_set")),
     Guard("macros: second expansions of rules that lines read", UNFILED, "[*known.rule_texts, *texts_of_lines(known)]", "[*known.rule_texts]", version("macros_that_second_expansions_set")),
     Guard("macros: second expansions of rules that lines name", UNFILED, ", *LINES.findall(text)])", "])", version("macros_that_second_expansions_set")),
+    Guard("searches: names beside one that make has considered", CONSIDERED, "(is_known and name in base.implicit or", "(is_known or", version("targets_that_a_search_has_found")),
 ]

@@ -2,7 +2,7 @@
 
 from typing import List
 
-from guard_table import LOST_HOLE, Guard
+from guard_table import LOST_HOLE, YES, Guard
 
 
 def placed(name: str) -> str:
@@ -30,4 +30,7 @@ PLACE_GUARDS: List[Guard] = [
     Guard("places: flags with a dash that only ask", OPTIONS, "        found |= asked_by(words_of(text))\n", "        found |= asked_by(words_of(text)[:1])\n", placed("flags_that_only_ask")),
     Guard("places: flags of a make above", "main.py", 'JOB_WORDS.sub("", words) + dashes + values', '""', placed("flags_of_a_make_above")),
     Guard("places: the job server of a make above", "main.py", 'JOB_WORDS.sub("", words) + dashes', "words + dashes", placed("flags_of_a_make_above")),
+    Guard("places: blanks in flags", OPTIONS, "words[-1] + \" \" + word] if goes_on else", "words[-1] + \" \" + word] if False else", "test_wrapper.Asked.test_flags_of_the_make_above"),
+    Guard("places: backslashes in flags", OPTIONS, '(len(word) - len(word.rstrip("\\\\"))) % 2 == 1', 'word.endswith("\\\\")', "test_wrapper.Asked.test_flags_of_the_make_above"),
+    Guard("data base: lines that begin like one of its parts", BASE, "elif text == PARTS[2]:", "elif text.startswith(PARTS[2]):", "test_places.Makefiles.test_file_with_lines_that_begin_so", YES),
 ]

@@ -105,7 +105,7 @@ class Versions(unittest.TestCase):
             base.values.update({".EXTRA_PREREQS": "x"} if extra else {})
             found = [name for name in base.prerequisites if is_by_search(base, name)]
             self.assertEqual(["a.c", "e.c", "d.d", "b"] if extra else ["a.c", "d.d", "b"], found)
-        self.assertEqual([False, True, False], [takes_for_file(base, "4.4", "a.c", False), takes_for_file(base, "4.4", "a.c", True), takes_for_file(base, "4.4", "b", False)])
+        self.assertEqual([False, True, False], [takes_for_file(base, "4.4", "a.c", False), takes_for_file(base, "4.4", "a.c", True), takes_for_file(base, "4.4", "b", True)])
 
     def test_lists_that_make_keeps(self) -> None:
         for version, wanted in (("4.3", [True, False, True]), ("4.4", [False, True, True])):
