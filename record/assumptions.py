@@ -29,7 +29,7 @@ TEXTS = {
     "language": "programs do the same where their messages are in English (LC_MESSAGES=C), as make must speak English to be recorded",
     "loaded": "objects that make loads (load), and $(guile ..), change no macros and keep nothing in memory from one recipe to the next: files alone settle what they do",
     "evals": "functions of make put together, or hand on, no eval, no shell and no name of a macro by which a recipe sees what another one has set",
-    "handed": "what programs print, and files hold, names no macros of make where make reads it once more, in $(eval ..) or by $(call or ..)",
+    "handed": "what programs print, and files hold, names no macros of make where make reads it once more, in $(eval ..), by $(call or ..) or as prerequisites under .SECONDEXPANSION",
     "makers": "scripts that make folders for themselves (install-sh, mkinstalldirs, libtool, cmake, ExtUtils of Perl, go build, g++ for modules, os.makedirs of Python with exist_ok) ask no more than that it is there; libtool compares no ages, and lists folders for outputs of the same library",
     "compilers": "OCaml's and Java's compilers look in folders for modules whose names stand in what they read, and no variable of their environment (CLASSPATH, JDK_JAVAC_OPTIONS, OCAMLPARAM) asks for others",
     "bytecode": "what Python keeps in __pycache__ does what its source does, whichever recipe wrote it; its bytes may differ",

@@ -24,6 +24,7 @@ from record.entry import STOPPING, Stopped, end_traced, printable
 from record.folder import ROOMS, NotWhole, Record, Taken, accept_warm, alone, aside, is_record, reading, rewrite, what_stands
 from record.judge import find_race, judge, no_race
 from record.make.cover import Cover
+from record.make.options import forget_coerced
 from record.make.outputs import note_output
 from record.make.unwrapped import name_real_makes
 from record.ninja.again import JOBS, TRIES, by_hand, by_name, hints, tops_of, undo, with_jobs
@@ -62,6 +63,7 @@ with file:
 module.main(%r)
 """
 PACKAGES = {"make": "make", "ninja": "ninja-build", "cmake": "cmake", "meson": "meson"}  # of Debian, by what builds
+JOB_WORDS = re.compile(r"(?:^| +)(?:-j[0-9]*|--jobserver-(?:auth|fds)=\S*)(?![^ ])")  # of MAKEFLAGS
 SERIAL_FAILED = "the serial build failed"
 ASKED = min(4, os.cpu_count() or 1)  # how many builds `race` is asked about at once
 WARM = ("WARM: what was up to date did not run; record a clean tree (make clean, or --fresh for ninja), or, if builds start from this one, "
@@ -141,13 +143,20 @@ def enter(cover: Cover, older: Older, heard: object, held: Set[signal.Signals]) 
     signal.pthread_sigmask(signal.SIG_SETMASK, held)
 
 
+def environment(spool: Path) -> Dict[str, str]:
+    """The build's: the wrapper comes first on PATH. Where a recipe calls the recorder, the jobs of the make above are not for what is recorded."""
+    env = dict(os.environ)
+    forget_coerced(env)
+    for name in {"MAKEFLAGS", "MFLAGS"}.intersection(env) if "MAKELEVEL" in env else ():
+        words, dashes, values = env[name].partition(" -- ")
+        env[name] = JOB_WORDS.sub("", words) + dashes + values
+    env["PATH"] = "%s:%s" % (spool / "bin", env.get("PATH", os.defpath))
+    return env
+
+
 def run_build(words: List[str], spool: Path, tops: List[str], cover: Cover) -> Tuple[int, float]:
     """The build under strace; meanwhile its trace is sifted, and the modules are loaded that read it. Its status and seconds; `Missing` where nobody may trace."""
-    env = dict(os.environ)
-    if "MAKELEVEL" in env:
-        for name in ("MAKELEVEL", "MAKEFLAGS", "MFLAGS", "MAKE_TERMOUT", "MAKE_TERMERR"):
-            env.pop(name, None)
-    env["PATH"] = "%s:%s" % (spool / "bin", env.get("PATH", os.defpath))
+    env = environment(spool)
     began = time.monotonic()
     interrupts: List[int] = []  # the build hears them too, and may go on all the same
     old = signal.getsignal(signal.SIGINT)
@@ -157,7 +166,7 @@ def run_build(words: List[str], spool: Path, tops: List[str], cover: Cover) -> T
     with ThreadPoolExecutor(3) as pool:
         words = STRACE + ["-o", str(pipe.path), "--"] + words
         held = cast(Set[signal.Signals], signal.pthread_sigmask(signal.SIG_BLOCK, STOPPING))  # until what has begun would be ended
-        process = subprocess.Popen(words, env=env, preexec_fn=lambda: enter(cover, older, heard, held))
+        process = subprocess.Popen(words, env=env, close_fds=False, preexec_fn=lambda: enter(cover, older, heard, held))  # what the caller has opened for the build stays open
         ended, filled = threading.Event(), threading.Event()
         filling = pool.submit(pipe.fill, ended.wait, Standstill(process.pid).see)
         filling.add_done_callback(lambda _: filled.set())

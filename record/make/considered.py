@@ -4,6 +4,7 @@ search paths, and what a second expansion of prerequisites reads.
 With several jobs it asks while recipes run that it considered before, though the serial build had run these first.
 """
 
+import math
 import os
 from fnmatch import fnmatchcase
 from functools import cached_property
@@ -169,8 +170,24 @@ def takes_for_file(base: Base, version: str, name: str, is_known: bool) -> bool:
     """Whether a search takes a name for a file without a look: makefiles have a rule for it, or before GNU make 4.4 they name it, or make has
     considered it (`is_known`)."""
     if numbers_of(version) >= LATER:
-        return name in base.prerequisites and name not in base.unruled
+        return name in base.prerequisites and name not in base.unruled and (is_known and name in base.implicit or not is_by_search(base, name))
     return is_known or name in base.prerequisites and (name not in base.implicit or bool(base.prerequisites[name]) and name not in base.recipes)
+
+
+def is_by_search(base: Base, name: str) -> bool:
+    """Whether make may have found the rule of a target by a search, for it or for another target of the rule, and it was no target before. It has
+    more prerequisites than such a rule where makefiles name some."""
+    listed = len(base.prerequisites.get(name, ())) + len(base.order_only.get(name, ()))
+    if name not in base.implicit:
+        return listed == 0 and name in base.found_beside
+    has_recipe = name in base.recipes or name in base.places
+    return has_recipe and (".EXTRA_PREREQS" in {*base.values, *base.own} or listed <= most_by_search(base, name))
+
+
+def most_by_search(base: Base, name: str) -> float:
+    """How many prerequisites a target has at most by a rule that a search finds."""
+    fits = (asked for targets, asked in base.patterns if any(any(stems(target, name)) for target in targets))
+    return max((math.inf if any("$" in word or MAGIC.search(word) for word in asked) else len(asked) for asked in fits), default=math.inf)
 
 
 def looked_with(base: Base, version: str, name: str, ran: Set[str]) -> List[str]:

@@ -18,6 +18,7 @@ LINES = re.compile(r"^define (" + NAME + r"*)(.*)", re.A)
 PATTERN = re.compile(r"^([^#\t:=]*%[^:=]*)(::?)(?!=) *(.*)$")
 NO_TARGET = "# Not a target:"
 BEHIND = "# variable set hash-table stats:"  # what follows the last macro
+PARTS = ("# Directories", "# Implicit Rules", "# Files", "# files hash-table stats:")  # lines that it has once, where no macro has them too
 SEARCH = re.compile(r"^vpath (\S+) (.*)$", re.A)
 
 
@@ -46,7 +47,7 @@ class Base:
     places: Dict[str, List[Tuple[str, int]]] = field(default_factory=dict)
     implicit: Set[str] = field(default_factory=set)
     failed: Set[str] = field(default_factory=set)  # what could not be made
-    unruled: Set[str] = field(default_factory=set)  # names of which no rule is about to make them: prerequisites alone, or found by an implicit rule
+    unruled: Set[str] = field(default_factory=set)  # names that are no targets: prerequisites alone
     patterns: List[Tuple[List[str], List[str]]] = field(default_factory=list)
     terminal: Set[int] = field(default_factory=set)  # places of patterns with two colons
     search: List[Tuple[str, List[str]]] = field(default_factory=list)  # patterns of names, and the folders in which make looks for them
@@ -56,6 +57,13 @@ class Base:
     own: Set[str] = field(default_factory=set)  # macros of single targets and patterns
     cut: Set[str] = field(default_factory=set)  # names of macros that go on
     serial: bool = False
+    parts: List[str] = field(default_factory=list)  # which of its parts have begun
+    is_unclear: bool = False  # a macro has lines that look like those of the data base
+
+    @cached_property
+    def found_beside(self) -> Set[str]:
+        """The other targets of rules that a search has found. Asked when all is read."""
+        return {other for one in self.implicit & self.also.keys() for other in self.also[one]}
 
     @cached_property
     def tails(self) -> List[Tuple[int, str, str]]:
@@ -188,6 +196,8 @@ class _Macros:
         """The value of a macro, or the first line of one that has several. Where its name has a rest, this counts as another value of the name."""
         lines, value = LINES.match(text), VALUE.match(text) if not text.startswith("# ") else None
         self.depth, self.goes_on = int(lines is not None), lines is None and value is not None
+        known = lines or value
+        self.base.is_unclear |= known is not None and not known.group(2) and known.group(1) in self.base.values
         if lines is not None:
             self.name = lines.group(1)
             self.base.values.update({self.name: LINES_TEXT} if not lines.group(2) else {})
@@ -229,13 +239,16 @@ def read_base(lines: List[str]) -> Base:
     files, macros = _Files(base), _Macros(base)
     inside, behind, previous = False, False, ""
     for text in lines:
+        if text in PARTS and not macros.depth:
+            base.is_unclear |= text in base.parts
+            base.parts.append(text)
         if behind:
             behind_files(base, text, previous)
         elif macros.depth:
             macros.line(text, previous)
-        elif text.startswith("# Files"):
+        elif text == PARTS[2]:
             inside = True
-        elif text.startswith("# files hash-table stats"):
+        elif text == PARTS[3]:
             behind = True
         elif inside:
             files.line(text)

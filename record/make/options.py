@@ -3,6 +3,8 @@
 `race-record` puts this file in front of wrapper.py where it makes the program that stands in front of make.
 """
 
+import os
+
 TYPE_CHECKING = False
 if TYPE_CHECKING:
     from collections.abc import MutableMapping
@@ -15,6 +17,8 @@ LONG_WITH_WORD = ("--directory", "--file", "--makefile", "--include-dir", "--old
                   "--assume-new", "--eval")
 # What a locale settles besides the language of messages.
 CATEGORIES = ["LC_" + name for name in "CTYPE NUMERIC TIME COLLATE MONETARY PAPER NAME ADDRESS TELEPHONE MEASUREMENT IDENTIFICATION".split()]
+
+COERCED = ("C.UTF-8", "C.utf8", "UTF-8")  # locales that Python sets as it begins
 
 
 def speak_english(environment: "MutableMapping[str, str]") -> bool:
@@ -29,6 +33,18 @@ def speak_english(environment: "MutableMapping[str, str]") -> bool:
     return True
 
 
+def forget_coerced(environment: "MutableMapping[str, str]") -> None:
+    """Takes out what Python itself puts there as it begins where the locale is C: programs would count the signs of a text in another way."""
+    if environment.get("LC_CTYPE") in COERCED:
+        try:
+            with open("/proc/self/environ", "rb") as file:
+                given = [one.partition(b"=")[2] for one in file.read().split(b"\0") if one.startswith(b"LC_CTYPE=")]
+        except OSError:  # there is no /proc, or it is of other processes
+            return
+        del environment["LC_CTYPE"]
+        environment.update({"LC_CTYPE": os.fsdecode(value) for value in given[:1]})
+
+
 def cluster(word: str) -> "tuple[str, str, str]":
     """What is in a word such as `-kj4` of make's command line: letters without an argument, one that takes one, and that argument."""
     letters = word[1:] if word.startswith("-") and not word.startswith("--") else ""
@@ -36,16 +52,30 @@ def cluster(word: str) -> "tuple[str, str, str]":
     return letters[:at], letters[at:at + 1], letters[at + 1:]
 
 
-def asked(args: "list[str]", flags: str) -> "set[str]":
-    """Which of -v, -h, -n, -q, -t, -p and -d (and --debug) make was asked for, in words or in MAKEFLAGS; long words may be cut."""
-    first = flags.split(" ")[0]
-    own = list(args)
-    if first and not first.startswith("-") and "=" not in first:
-        own.append("-" + first)
-    own += [word for word in flags.split(" -- ")[0].split(" ") if word.startswith("--")]
+def words_of(flags: str) -> "list[str]":
+    """The words of MAKEFLAGS or GNUMAKEFLAGS, as make takes them: a blank behind a backslash ends none, and the first one may be letters without a dash."""
+    words: "list[str]" = []
+    goes_on = False
+    for word in flags.split():
+        words = [*words[:-1], words[-1] + " " + word] if goes_on else [*words, word]
+        goes_on = (len(word) - len(word.rstrip("\\"))) % 2 == 1
+    is_bare = bool(words) and not words[0].startswith("-") and "=" not in words[0]
+    return ["-" + words[0], *words[1:]] if is_bare else words
+
+
+def asked(args: "list[str]", *flags: str) -> "set[str]":
+    """Which of -v, -h, -n, -q, -t, -p and -d (and --debug) make was asked for, in words or by variables such as MAKEFLAGS."""
+    found = asked_by(args)
+    for text in flags:
+        found |= asked_by(words_of(text))
+    return found
+
+
+def asked_by(words: "list[str]") -> "set[str]":
+    """The same in some words; long ones may be cut."""
     found: "set[str]" = set()
     skip = False
-    for word in own:
+    for word in words:
         if skip:
             skip = False
         elif word == "--":

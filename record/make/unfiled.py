@@ -11,7 +11,7 @@ from record.make.folders import each, mark
 from record.make.kept import keepers
 from record.make.macros import Macros
 from record.make.owners import Make
-from record.make.references import ANY, SECOND, end_of, named, with_functions
+from record.make.references import ANY, SECOND, end_of, evals, named, with_functions
 from record.trace.events import AGE_TAKEN, ORDER_SEEN
 
 if TYPE_CHECKING:
@@ -20,6 +20,10 @@ if TYPE_CHECKING:
 Created = Dict[str, Dict[str, Set[int]]]
 SEARCHES = re.compile(r"(?<![\w.-])vpath[ \t\n)}]")
 PRINTED = re.compile(r"\$[({](?:call[ \t]+)?(?:shell|file)[ \t,]")
+RECIPES = re.compile(r"(?m)^\t(?:[^\n]*\\\n)*[^\n]*")  # lines of recipes
+LINES = re.compile(r"(?m)^ *\$(?:[^\n]*\\\n)*[^\n]*")  # those that begin with a macro
+DOLLAR = re.compile(r"\$\$(?![({@%<?^+|*\w])")  # a sign `$` by itself: a function may put any name behind it
+AS_IT_STANDS = re.compile(r"\$[({](?:call[ \t]+)?value[ \t,]")
 TARGET = re.compile(r"\$(?:[@*]|[({][@*])")
 
 
@@ -41,7 +45,10 @@ def add_macros(builder: "Builder", created: Created) -> None:
             for name in names:
                 about = "the macro %s of make" % name if name != ANY else "what $(eval ..) changes in make"
                 mark(builder, own_path(builder.make, "macro/" + name), about, {looker} if is_read else set(), set() if is_read else {looker})
-    if ".SECONDEXPANSION" in builder.graph.base.prerequisites and (builder.known.changed or is_set_late(builder)):
+    is_late = ".SECONDEXPANSION" in builder.graph.base.prerequisites
+    if is_late and builder.known.is_used and builder.make.words.expands_late and any(map(PRINTED.search, builder.known.rule_texts)):
+        builder.assumed.add("handed", ".SECONDEXPANSION")
+    if is_late and (builder.known.changed or is_set_late(builder)):
         builder.holes.append("a recipe changes a macro by $(eval ..), and make expands prerequisites a second time: make " + builder.build.words[:100])
     if searches_anew(builder.known):
         builder.holes.append("a recipe changes by $(eval ..) where make searches for files: make " + builder.build.words[:100])
@@ -83,9 +90,30 @@ def is_set_late(builder: "Builder") -> bool:
 
 def set_by_expansion(known: Macros) -> Set[str]:
     """The macros that prerequisites set where make expands them a second time as it considers their target: those of implicit rules, or of all."""
-    late = [one.replace("$$", "\0").replace("$", " ").replace("\0", "$") for one in (known.rule_texts if known.make.words.expands_late else ())]
+    late = expanded_late(known) if known.make.words.expands_late else []
     text = with_functions(" ".join([*(word for _, asked in known.base.patterns for word in asked), *late]))
-    return {one.name for part in (text, *map(known.text_of, known.reached(text))) for one in known.evals(part)}
+    found = {one.name for part in (text, *map(known.text_of, known.reached(text))) for one in known.evals(part)}
+    return found | ({ANY} if late and any(map(DOLLAR.search, map(flat, known.rule_texts))) else set())
+
+
+def expanded_late(known: Macros) -> List[str]:
+    """What make may expand when it considers a target, as makefiles say it: what stands behind `$$` in a rule, or in a text out of which a line of a
+    makefile makes one; and all of a rule, where that takes the text of a macro as it stands."""
+    texts = [*known.rule_texts, *texts_of_lines(known)]
+    behind = [one.replace("$$", "\0").replace("$", " ").replace("\0", "$") for text in texts for one in {text, flat(text)}]
+    return behind + (known.rule_texts if any(map(AS_IT_STANDS.search, known.rule_texts)) else [])
+
+
+def texts_of_lines(known: Macros) -> List[str]:
+    """What an `eval` in a makefile reads, and a line that begins with a macro: either may be a rule."""
+    text = with_functions(RECIPES.sub("", known.text))
+    read = "\n".join([*(text[one.start + 1:one.end] for one in evals(text)), *LINES.findall(text)])
+    return [read, *map(known.text_of, known.reached(read))]
+
+
+def flat(text: str) -> str:
+    """A text that an `eval` has read, or several."""
+    return re.sub(r"\$\$(?:\$\$)+", "$$", text)
 
 
 def count_inherited(builder: "Builder") -> None:

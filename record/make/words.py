@@ -287,12 +287,14 @@ class _Reader:
             self.round.failed.append(FAILED.match(text).group(1))  # type: ignore[union-attr]
 
 
-def base_hole(lines: List[str]) -> str:
-    """Why lines are not the whole data base of a make; nothing where they are."""
+def base_hole(lines: List[str], found: Base) -> str:
+    """Why lines are not the whole data base of a make, or do not say which of them are its own; nothing where they are and do."""
     if any(text.startswith("# Make data base") for text in lines[1:]):
         return "begins twice"
     if not any(text.startswith("# files hash-table stats") for text in lines):
         return "lists no targets"
+    if found.is_unclear:
+        return "holds lines of a macro that look like its own"
     return "" if is_end(lines) else "has no end"
 
 
@@ -303,10 +305,10 @@ def is_end(base: List[str]) -> bool:
 
 def take_base(words: Words, lines: List[str]) -> None:
     """One data base: that of all rounds since the last."""
-    hole = base_hole(lines)
+    found = read_base(lines)
+    hole = base_hole(lines, found)
     if hole:
         words.holes.append("the data base of a make %s: make %s" % (hole, words.args))
-    found = read_base(lines)
     for one in words.rounds:
         one.base = one.base or found
 

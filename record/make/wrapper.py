@@ -21,11 +21,12 @@ from record.make.copied import Copies, now
 from record.make.given import take_input
 from record.make.limits import Kept, keep, note_cut
 from record.make.lines import TOKENS, VERSION, about_job, is_aside, is_folder, is_included, is_look, is_word, may_go_on, named, place_of_end, place_of_start, remade, started
-from record.make.options import WORDS, asked, asks_jobs, jobs_of_call, plain_args, speak_english, without_words
+from record.make.options import WORDS, asked, asks_jobs, forget_coerced, jobs_of_call, plain_args, speak_english, without_words
 from record.make.outputs import file_of, goes_to, is_closed, is_one_file, note_output
 
 SIZE, SET_SIZE = 1 << 20, 1031  # bytes of the pipe, and what asks for them
 LONG = 4096  # bytes: a longer text comes in pieces
+USUAL = [signal.SIGPIPE, signal.SIGXFSZ]  # signals that are not ignored for make, as far as this program knows
 REAPING = b"Reaping winning child 0x"
 BASE, END_OF_BASE = b"# Make data base, printed on", b"# Finished Make data base on"
 
@@ -311,7 +312,7 @@ def head_of(args: "list[str]", flags: str, below: bool, slots: str, where: str, 
 
 def as_usual() -> None:
     """Signals that Python or this program ignores do what they do without them."""
-    for one in (signal.SIGPIPE, signal.SIGXFSZ, signal.SIGINT):
+    for one in USUAL:
         signal.signal(one, signal.SIG_DFL)
 
 
@@ -361,11 +362,13 @@ def called_as(me: str, spool: str) -> str:
 
 def main(spool: str) -> None:
     """Runs the real make, as the caller asked."""
-    signal.signal(signal.SIGINT, signal.SIG_IGN)
+    USUAL.extend([signal.SIGINT] if signal.signal(signal.SIGINT, signal.SIG_IGN) != signal.SIG_IGN else [])
+    forget_coerced(os.environ)
     name, args = called_as(sys.argv[0], spool), sys.argv[1:]
     with open(spool + "/real") as file:
         real = file.read()
     if WORDS[0] in args and "MAKE_RESTARTS" in os.environ:  # make has remade a makefile and begins again
+        as_usual()
         os.execv(real, [name] + args)
     below = any(WORDS[0] in text for text in [*args, os.environ.get("MAKEFLAGS", "")])
     slots, args = jobs_of_call(args), plain_args(args)
@@ -375,7 +378,7 @@ def main(spool: str) -> None:
     if os.environ.get("MFLAGS", "").startswith("-"):
         words = without_words(os.environ["MFLAGS"][1:])
         os.environ["MFLAGS"] = "-" + words if words and not words.startswith("-") else words
-    query = asked(args, flags)
+    query = asked(args, flags, os.environ.get("GNUMAKEFLAGS", ""))
     if query or is_closed(1):
         if not query & set("vhnqt"):
             note_past(spool, args + ["(its standard output is closed)"] * (not query))

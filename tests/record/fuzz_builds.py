@@ -14,7 +14,7 @@ from contextlib import nullcontext
 from dataclasses import dataclass, field, replace
 from itertools import chain
 from pathlib import Path
-from typing import Collection, Dict, FrozenSet, Iterable, Iterator, List, Optional
+from typing import Collection, Dict, FrozenSet, Iterable, Iterator, List, Optional, Tuple
 
 import forked
 from fuzz_projects import Project
@@ -25,6 +25,7 @@ sys.path.insert(0, str(HERE.parent.parent))
 import record.importing  # noqa: E402,F401  (once, for all recordings of this process)
 import record.main  # noqa: E402,F401
 from fuzz_directed import Holds, Watch, schedules  # noqa: E402
+from fuzz_places import Place, Ran  # noqa: E402
 from record.assumptions import TEXTS  # noqa: E402
 
 RECORDER = HERE.parent.parent / "record" / "race-record"
@@ -39,6 +40,9 @@ exit 0
 DELAY, PART = 0.01, 0.025
 JOBS = 16  # enough for all recipes at once
 OWN = (".ninja_log", ".ninja_deps", ".ninja_lock")
+USUAL = Place(outputs="joined")
+AHEAD = re.compile(rb"[0-9.e+]+ s in the future")  # what passes meanwhile
+VERDICT = re.compile(rb"(\x1b\[[0-9;]*m)?(WARM|SAFE|RACE|NO VERDICT|make )")
 Tree = Dict[str, str]
 
 
@@ -51,6 +55,7 @@ class Outcome:
     output: str = ""
     seconds: float = 0
     apart: FrozenSet[str] = frozenset()  # files that it began with in another form
+    said: Tuple[bytes, bytes] = (b"", b"")  # its standard output and error
 
 
 @dataclass
@@ -103,7 +108,8 @@ class Builder:
 
     def __init__(self, project: Project, room: Path, recorder: Path = RECORDER) -> None:
         self.project, self.room, self.recorder = project, room, recorder
-        self.folder = room / "project"
+        self.place = project.place or USUAL
+        self.folder = room / self.place.folder
         self.random = random.Random(project.seed + 1)
         self.builds = 0
         self.delay = DELAY
@@ -114,11 +120,12 @@ class Builder:
         for name, text in (project or self.project).all_files().items():
             path = self.folder / name
             path.parent.mkdir(parents=True, exist_ok=True)
-            path.write_text(text)
+            path.write_text(text, "utf-8", "surrogateescape")
             if text.startswith("#!"):
                 path.chmod(0o755)
         for name, age in self.project.ages.items():
             os.utime(self.folder / name, (age, age))
+        self.place.own(self.room, self.folder)
 
     def run(self, words: List[str], nap: str = "", watch: Optional[Watch] = None, project: Optional[Project] = None) -> Outcome:
         """One build of a fresh tree."""
@@ -127,20 +134,20 @@ class Builder:
         if nap:
             env.update(N=nap, J="-j%d" % self.random.choice((2, 4)))  # J: for a ninja inside of a command
         began = time.monotonic()
-        with subprocess.Popen(words, cwd=self.folder, env=env, stdin=subprocess.DEVNULL, stdout=subprocess.PIPE, stderr=subprocess.STDOUT, start_new_session=True) as ran:
-            with watch.over(ran.pid) if watch else nullcontext():
-                try:
-                    output = ran.communicate(timeout=SECONDS)[0]
-                except subprocess.TimeoutExpired:
-                    os.killpg(ran.pid, signal.SIGKILL)
-                    output = ran.communicate()[0]
+        ran = Ran(self.place, words, self.room, env)
+        with watch.over(ran.pid) if watch else nullcontext():
+            status, *said = ran.wait(SECONDS)
         own, other = self.project.all_files(), (project or self.project).all_files()
         apart = frozenset(name for name, text in other.items() if text != own[name])
-        return Outcome(ran.returncode, tree_of(self.folder), output.decode("utf-8", "replace"), time.monotonic() - began, apart)
+        return Outcome(status, tree_of(self.folder), b"".join(said[::-1]).decode("utf-8", "replace"), time.monotonic() - began, apart, (said[0], said[1]))
+
+    def plain(self) -> Outcome:
+        """The build that is recorded, with no recorder; one of one job, where the environment asks for several."""
+        return self.run(self.place.command(self.project.serial() if self.place.has_jobs() else self.project.words()))
 
     def serial(self) -> Outcome:
         """A serial build, which says how long delays have to be."""
-        found = self.run(self.project.serial())
+        found = self.run(self.place.command(self.project.serial()))
         self.delay = max(DELAY, found.seconds * PART)
         return found
 
@@ -157,7 +164,7 @@ class Builder:
         """One parallel build under delays."""
         self.builds += 1
         words = self.project.parallel(self.random.choice((2, 3, 4, 8)), self.random.randint(1, 1 << 20) if shuffle else 0)
-        return self.run(words, self.nap())
+        return self.run(self.place.command(words), self.nap())
 
     def directed(self, holds: List[Holds]) -> Iterator[Outcome]:
         """Builds in each of which some targets are held back; of the build with its rules in another order too, and that one with one job."""
@@ -173,12 +180,12 @@ class Builder:
         self.builds += 1
         path = self.room / ("hold%d" % self.builds)
         holds.put(path)
-        return self.run(self.project.parallel(JOBS, 0), str(path), Watch(path), project)
+        return self.run(self.place.command(self.project.parallel(JOBS, 0)), str(path), Watch(path), project)
 
     def recorded(self) -> Outcome:
         """The recorded build, judged: by the recorder of this process, in a child of it, or by another one."""
-        args = ["--warm", "--", *self.project.words()]
-        if self.recorder != RECORDER:
+        args = ["--warm", "--", *self.place.command(self.project.words())]
+        if self.recorder != RECORDER or self.project.place is not None:
             return self.run([str(self.recorder), *args])
         self.fresh()
         began = time.monotonic()
@@ -212,9 +219,11 @@ def judge(project: Project, room: Path, runs: int, recorder: Path = RECORDER, sh
     """Builds a project in all ways; what came of it."""
     builder = Builder(project, room, recorder)
     serial = [builder.serial(), builder.serial()]
-    if serial[0].status:
+    is_placed = project.place is not None
+    if serial[0].status and not is_placed:
         return Result(project.seed, "serial fails", about=serial[0].output[-300:])
-    if differences(*serial):
+    plain = [builder.plain(), builder.plain()] if is_placed else []
+    if differences(*serial) or plain and differences(*plain):
         return Result(project.seed, "unstable", about=differences(*serial))
     recorded = builder.recorded()
     if recorded.status == -signal.SIGKILL:
@@ -223,15 +232,33 @@ def judge(project: Project, room: Path, runs: int, recorder: Path = RECORDER, sh
         return Result(project.seed, "crash", about=recorded.output[-1500:])
     result = Result(project.seed, "", VERDICTS[recorded.status], assumed=assumptions(recorded.output))
     holds = list(schedules(builder.folder / ".race")) if result.verdict == "race" else []
-    changed = differences(serial[0], Outcome(0, recorded.tree))
-    if changed and "asks for several jobs" not in recorded.output:  # then no serial build was recorded
+    changed = differences(serial[0], Outcome(serial[0].status, recorded.tree)) or plain and said_otherwise(plain, recorded)
+    if changed and "asks for several jobs" not in recorded.output and not is_spoken(result):  # then no serial build was recorded
         result.kind, result.about = "changed", changed
+    elif serial[0].status:
+        result.kind, result.about = "serial fails", serial[0].output[-300:]
     elif result.verdict == "no verdict":
         result.kind, result.about = "no verdict", recorded.output[-600:]
     else:
         shuffled = shuffles and result.verdict != "safe"
         shake(builder, serial[0], result, chain((builder.parallel(shuffled) for _ in range(runs)), builder.directed(holds)))
     return result
+
+
+def is_spoken(result: Result) -> bool:
+    """Whether the messages of make are in another language where it is recorded, and the recorder says so."""
+    return any(one.startswith(TEXTS["language"]) for one in result.assumed)
+
+
+def said_otherwise(plain: List[Outcome], recorded: Outcome) -> str:
+    """What a recorded build said that two plain ones did not, or the other way round: its outputs and its status. The verdict stands behind its output."""
+    (out, err), (again, other), (mine, errors) = ([AHEAD.sub(b"", text) for text in one.said] for one in (*plain[:2], recorded))
+    status = re.search(r"the build ended with status (\d+)", recorded.output)
+    if plain[0].status != (int(status[1]) if status else 0):
+        return "status %s for %d" % (status and status[1], plain[0].status)
+    if out == again and not (mine.startswith(out) and VERDICT.match(mine, len(out))):
+        return "output %r for %r" % (mine[:300], out[:300])
+    return "errors %r for %r" % (errors[:300], err[:300]) if err == other and errors != err else ""
 
 
 def shake(builder: Builder, serial: Outcome, result: Result, builds: Iterable[Outcome]) -> None:

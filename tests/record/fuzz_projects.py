@@ -11,6 +11,8 @@ from dataclasses import asdict, dataclass, field
 from pathlib import Path
 from typing import Callable, Dict, List, Mapping, Optional, Set, Type
 
+from fuzz_places import Place
+
 FORGOTTEN = 0.25
 EXTRA = 0.4
 OLD, NEW = 978307200, 1893456000  # years 2001 and 2030
@@ -57,6 +59,7 @@ class Project:
     values: List[str] = field(default_factory=list)
     head: str = ""
     is_script: bool = False
+    place: Optional[Place] = None
 
     def command(self) -> List[str]:
         """What each build begins with."""
@@ -106,6 +109,7 @@ def load(path: Path, kinds: Mapping[str, Type[Project]]) -> Project:
     """A project that was kept; `kinds` says what makes one for each tool."""
     text = json.loads(path.read_text())
     text["blocks"] = [Block(**one) for one in text["blocks"]]
+    text["place"] = Place(**text["place"]) if text.get("place") else None
     return kinds[text["tool"]](**text)
 
 

@@ -10,6 +10,8 @@ from fuzz_builds import Outcome, Result, assumptions, differences, judge, parts
 from fuzz_directed import Side, side
 from fuzz_gadgets import COMMANDS, GadgetDraw
 from fuzz_ninja import NinjaDraw, NinjaProject
+from fuzz_placed import PlacedDraw
+from fuzz_places import FOLDERS, INPUTS, OUTPUTS, VARIABLES, Place, draw_place, has_terminals
 from fuzz_projects import Block, Draw, Project, load
 from guard_found import FOUND_GUARDS
 from guard_hidden import HIDDEN_GUARDS
@@ -68,6 +70,43 @@ class Judges(unittest.TestCase):
         self.assertEqual(["crash", "no verdict"], [self.result(SAFE, "exit %d\n" % status).kind for status in (3, 2)])
 
 
+class PlacedBuilds(unittest.TestCase):
+    """Builds in places: what a recorder changes of their outputs, their status, or what they find there."""
+
+    TEXT = "a: ; @cat > a; echo said; echo error >&2; umask >> a; echo $$V >> a; (echo log >&3) 2> /dev/null || true\n"
+    PLACE = Place(stdin="text", open=[3], env={"V": "v", "HOME": None}, folder="a b", linked=True, mask=0o77, files=64, ignored=["INT"])
+
+    def result(self, script: str, place: Place = PLACE, text: str = TEXT) -> Result:
+        with tempfile.TemporaryDirectory() as room:
+            fake = Path(room) / "recorder"
+            fake.write_text("#!/bin/sh\nshift 2\n" + script)
+            fake.chmod(0o755)
+            return judge(Project(1, [Block(["a"], text)], place=place), Path(room), 2, fake)
+
+    def test_same(self) -> None:
+        self.assertEqual("safe", self.result('"$@" && echo SAFE\n').kind)
+        for outputs in ("joined", "files", "no errors", "no output"):
+            self.assertEqual("safe", self.result('"$@" && echo SAFE\n', Place(stdin="text", outputs=outputs)).kind, outputs)
+
+    def test_changed(self) -> None:
+        for script in ('"$@" | cat -n && echo SAFE\n', '"$@" 2>&1 && echo SAFE\n', '"$@"; echo more; echo SAFE\n', '"$@" < /dev/null && echo SAFE\n', 'umask 022; "$@" && echo SAFE\n',
+                       'V=w "$@" && echo SAFE\n', '"$@"; echo NO VERDICT; echo "the build ended with status 2"; exit 2\n'):
+            self.assertEqual("changed", self.result(script).kind, script)
+
+    def test_closed_descriptors(self) -> None:
+        text = "a: ; @(echo log >&3) 2> /dev/null && echo open > a || echo closed > a\n"
+        self.assertEqual(["safe", "changed"], [self.result(script, text=text).kind for script in ('"$@" && echo SAFE\n', '"$@" 3>&- && echo SAFE\n')])
+
+    def test_build_that_fails(self) -> None:
+        says = '"$@"; echo NO VERDICT; echo "the build ended with status 2"; exit 2\n'
+        self.assertEqual(["serial fails", "changed"], [self.result(one, text="a: ; @echo said; false\n").kind for one in (says, says.replace('"$@"', '"$@" > /dev/null'))])
+
+    def test_terminal(self) -> None:
+        if has_terminals():
+            text = "a: ; @test -t 0 && echo here > a && echo said > /dev/tty || echo none > a\n"
+            self.assertEqual(["safe", "changed"], [self.result(one, Place(stdin="terminal"), text).kind for one in ('"$@" && echo SAFE\n', '"$@" < /dev/null && echo SAFE\n')])
+
+
 class Directed(unittest.TestCase):
     """Builds that hold back what a verdict names show a race that no delay at random has shown."""
 
@@ -116,6 +155,24 @@ class Projects(unittest.TestCase):
             for draw in (Draw, GadgetDraw, NinjaDraw):
                 draw(3).draw().save(Path(room) / "p.json")
                 self.assertEqual(draw(3).draw(), load(Path(room) / "p.json", {"make": Project, "ninja": NinjaProject}))
+
+    def test_places(self) -> None:
+        """A part of the seeds has a place, the same each time; it is kept with the project. Over many seeds each kind is drawn, and recipes ask for it."""
+        drawn = [PlacedDraw(seed).draw() for seed in range(300)]
+        placed = [one for one in drawn if one.place is not None]
+        self.assertTrue(50 < len(placed) < 110, len(placed))
+        self.assertEqual([one.place for one in drawn], [PlacedDraw(seed).draw().place for seed in range(300)])
+        self.assertEqual([GadgetDraw(seed).draw() for seed in range(50) if drawn[seed].place is None], [one for one in drawn[:50] if one.place is None])
+        places = [draw_place(seed, True, True) for seed in range(600)]
+        self.assertEqual(({*INPUTS} - ({"terminal"} if not has_terminals() else set()), {*OUTPUTS}, {*FOLDERS}, {*VARIABLES}),
+                         ({p.stdin for p in places}, {p.outputs for p in places}, {p.folder for p in places}, {name for p in places for name in p.env}))
+        self.assertTrue(all(any(getattr(p, name) for p in places) for name in ("open", "linked", "mask", "nice", "files", "user", "ignored", "above")))
+        text = "".join(one.makefile() for one in placed)
+        for word in ("umask", "/proc/self/fd", "cat > $@", "p/../", "./t", "vpath %.t"):
+            self.assertTrue(word in text, word)
+        with tempfile.TemporaryDirectory() as room:
+            placed[0].save(Path(room) / "p.json")
+            self.assertEqual(placed[0], load(Path(room) / "p.json", {"make": Project}))
 
     def test_gadgets(self) -> None:
         """Over many seeds each shape is drawn, and what the command asks for; a shape alone is drawn where that is asked for."""

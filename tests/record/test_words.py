@@ -49,6 +49,15 @@ class Holes(unittest.TestCase):
     def test_data_base_that_a_variable_ends(self) -> None:
         self.assertEqual("the data base of a make lists no targets: make all", self.holes(BASE[:1] + BASE[-1:] + BASE[1:])[-1])
 
+    def test_data_base_with_a_part_or_a_macro_that_comes_twice(self) -> None:
+        """A macro's text may look like either, and nobody can say which is the real one."""
+        unclear = ["the data base of a make holds lines of a macro that look like its own: make all"]
+        for part in ("# Files", "# Implicit Rules", "# Directories", "# files hash-table stats:"):
+            self.assertEqual(unclear, self.holes([BASE[0], "# makefile", "V := x", part, part, *BASE[1:]]), part)
+        first, second = ["# makefile (from 'x', line 1)", "X = 1"], ["# makefile", "define X", "y", "endef"]
+        self.assertEqual([unclear, unclear, []], [self.holes([BASE[0], *lines, *BASE[1:]]) for lines in (first + first, first + second, first)])
+        self.assertEqual([], self.holes([BASE[0], "# makefile", "define V", "# Files", "# Files", "endef", *BASE[1:]]))
+
     def test_data_base_that_is_cut(self) -> None:
         self.assertEqual(["the data base of a make has no end: make all"], self.holes(BASE[:-1]))
 

@@ -233,7 +233,7 @@ class Asked(unittest.TestCase):
 
     def test_flags_of_the_make_above(self) -> None:
         for flags, wanted in (("kn", "n"), ("ks", ""), ("", ""), ("w -- A=n", ""), ("-j4 --jobserver-auth=3,4", ""), (" -- N=nq", ""),
-                              ("A=n", ""), ("w --debug=b", "d")):
+                              ("A=n", ""), ("w --debug=b", "d"), ("-n", "n"), (" n", "n"), ("k -t", "t"), ("-k -I n", ""), (r"--eval=a:\ ;\ b\ -n", ""), (r"-Ia\\\\ -n", "n"), ("k -- -n", "")):
             self.assertEqual(set(wanted), wrapper.asked([], flags), flags)
 
     def test_words_of_a_wrapper_above_are_taken_out(self) -> None:

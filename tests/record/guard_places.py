@@ -1,0 +1,36 @@
+"""The guards of where and how a build is called: see guard_table.py, and test_places.py for the tests."""
+
+from typing import List
+
+from guard_table import LOST_HOLE, YES, Guard
+
+
+def placed(name: str) -> str:
+    """The test of a build in a place of its own."""
+    return "test_places.Places.test_" + name
+
+
+BASE, OPTIONS, WRAPPER = "make/database.py", "make/options.py", "make/wrapper.py"
+TWICE = "test_words.Holes.test_data_base_with_a_part_or_a_macro_that_comes_twice"
+
+PLACE_GUARDS: List[Guard] = [
+    Guard("data base: parts that come twice", BASE, "base.is_unclear |= text in base.parts", "pass", "test_places.Makefiles.test_file_with_lines_like_those_of_the_data_base", LOST_HOLE),
+    Guard("data base: parts that come twice, by the environment", BASE, "base.is_unclear |= text in base.parts", "pass", "test_places.Variables.test_lines_like_those_of_the_data_base", "2 != 0"),
+    Guard("data base: parts inside of macros", BASE, "if text in PARTS and not macros.depth:", "if text in PARTS:", TWICE),
+    Guard("data base: macros that come twice", BASE, "and known.group(1) in self.base.values", "and False", TWICE),
+    Guard("data base: lines that look like its own are a hole", "make/words.py", "    if found.is_unclear:\n", "    if False:\n", "test_places.Makefiles.test_text_with_lines_like_those_of_the_data_base", LOST_HOLE),
+    Guard("places: descriptors of the caller", "main.py", "close_fds=False", "close_fds=True", placed("descriptors_that_the_caller_has_opened")),
+    Guard("places: what Python sets of the locale", "main.py", "    forget_coerced(env)\n", "", placed("signs_where_no_locale_is_set")),
+    Guard("places: what Python sets of the locale, for each make", WRAPPER, "    forget_coerced(os.environ)\n", "", placed("signs_where_no_locale_is_set")),
+    Guard("places: what the locale was", OPTIONS, "        environment.update({\"LC_CTYPE\"", "        dict({\"LC_CTYPE\"", placed("signs_where_no_locale_is_set")),
+    Guard("places: signals where make begins again", WRAPPER, "begins again\n        as_usual()\n", "begins again\n", placed("signals_where_make_begins_again")),
+    Guard("places: signals that are ignored", WRAPPER, "[signal.SIGINT] if signal.signal(signal.SIGINT, signal.SIG_IGN) != signal.SIG_IGN else []", "[signal.SIGINT, signal.signal(signal.SIGINT, signal.SIG_IGN)][:1]", placed("signals_that_the_caller_ignores")),
+    Guard("places: a key of the caller ends what it ends", WRAPPER, "[signal.SIGINT] if signal.signal(signal.SIGINT, signal.SIG_IGN) != signal.SIG_IGN else []", "[signal.signal(signal.SIGINT, signal.SIG_IGN)][:0]", placed("signals_where_make_begins_again")),
+    Guard("places: flags of GNUMAKEFLAGS that only ask", WRAPPER, 'asked(args, flags, os.environ.get("GNUMAKEFLAGS", ""))', "asked(args, flags)", placed("flags_that_only_ask")),
+    Guard("places: flags with a dash that only ask", OPTIONS, "        found |= asked_by(words_of(text))\n", "        found |= asked_by(words_of(text)[:1])\n", placed("flags_that_only_ask")),
+    Guard("places: flags of a make above", "main.py", 'JOB_WORDS.sub("", words) + dashes + values', '""', placed("flags_of_a_make_above")),
+    Guard("places: the job server of a make above", "main.py", 'JOB_WORDS.sub("", words) + dashes', "words + dashes", placed("flags_of_a_make_above")),
+    Guard("places: blanks in flags", OPTIONS, "words[-1] + \" \" + word] if goes_on else", "words[-1] + \" \" + word] if False else", "test_wrapper.Asked.test_flags_of_the_make_above"),
+    Guard("places: backslashes in flags", OPTIONS, '(len(word) - len(word.rstrip("\\\\"))) % 2 == 1', 'word.endswith("\\\\")', "test_wrapper.Asked.test_flags_of_the_make_above"),
+    Guard("data base: lines that begin like one of its parts", BASE, "elif text == PARTS[2]:", "elif text.startswith(PARTS[2]):", "test_places.Makefiles.test_file_with_lines_that_begin_so", YES),
+]
