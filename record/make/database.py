@@ -9,7 +9,8 @@ from record.make.references import NAME
 
 TARGET = re.compile(r"^(.*?)(::?)(?: (.*))?$")
 PLACE = re.compile(r"^#  recipe to execute \(from '(.*)', line (\d+)\):")
-ORIGIN = re.compile(r"# (?:makefile|environment(?: under -e)?|command line|default|automatic|'override' directive)(?: private)?(?: \(from '.*', line \d+\))?$")
+STEM = re.compile(r"^#  Implicit/static pattern stem: '(.*)'$")
+ORIGIN = re.compile(r"# (makefile|environment(?: under -e)?|command line|default|automatic|'override' directive)(?: private)?(?: \(from '(.*)', line (\d+)\))?$")
 VALUE = re.compile(r"^(" + NAME + r"*)(.*?) (?:=|:=|::=|:::=|\+=|\?=) ?(.*)$", re.A)  # its name up to a sign that names seldom have, and the rest of it
 LINES_TEXT = "$(lines)*"  # what stands for a macro of several lines
 BEGINS = r"[ \t]*(?:(?:override|export|private)[ \t]+)*define(?![\w.-])"  # a macro of several lines
@@ -42,6 +43,7 @@ class Base:
     intermediate: Set[str] = field(default_factory=set)
     also: Dict[str, List[str]] = field(default_factory=dict)
     double: Dict[str, List[Colons]] = field(default_factory=dict)
+    stems: Dict[str, str] = field(default_factory=dict)  # of targets, where make knew one
     recipes: Dict[str, List[str]] = field(default_factory=dict)
     places: Dict[str, List[Tuple[str, int]]] = field(default_factory=dict)
     implicit: Set[str] = field(default_factory=set)
@@ -54,6 +56,7 @@ class Base:
     bodies: Dict[str, List[str]] = field(default_factory=dict)  # by macro: its lines, and its values for single targets and patterns
     scoped: Set[str] = field(default_factory=set)  # targets with macros of their own
     own: Set[str] = field(default_factory=set)  # macros of single targets and patterns
+    origins: Dict[str, Tuple[str, str, int]] = field(default_factory=dict)  # by macro: who gave it its value, and where: the makefile, and the line
     cut: Set[str] = field(default_factory=set)  # names of macros that go on
     serial: bool = False
 
@@ -104,7 +107,8 @@ class _Files:
         if not text.startswith("#  "):
             return
         self.is_recipe = self.is_recipe or text.startswith("#  recipe to execute")
-        place = PLACE.match(text)
+        place, stem = PLACE.match(text), STEM.match(text)
+        base.stems.update({self.name: stem.group(1)} if stem and self.name else {})
         if place and self.name:
             base.places.setdefault(self.name, []).append((place.group(1), int(place.group(2))))
             for rule in base.double.get(self.name, [])[-1:]:
@@ -179,6 +183,7 @@ class _Macros:
             self.body(text) if self.depth else None
         elif ORIGIN.match(previous):
             self.macro(text)
+            self.from_where(text, previous)
         elif self.goes_on and not is_behind:  # make shows a value with ends of lines as it is
             self.body(text)
         else:
@@ -200,6 +205,12 @@ class _Macros:
         else:
             self.name = value.group(1)
             self.base.values[self.name] = value.group(3)
+
+    def from_where(self, text: str, remark: str) -> None:
+        """Who gave a macro its value that holds for all targets, by the line above it."""
+        found = ORIGIN.match(remark)
+        if found is not None and not text.startswith("# ") and (LINES.match(text) or VALUE.match(text)):
+            self.base.origins[self.name] = found.group(1), found.group(2) or "", int(found.group(3) or 0)
 
     def body(self, text: str) -> None:
         """A line of the last macro."""
