@@ -13,9 +13,9 @@ STEM = re.compile(r"^#  Implicit/static pattern stem: '(.*)'$")
 ORIGIN = re.compile(r"# (makefile|environment(?: under -e)?|command line|default|automatic|'override' directive)(?: private)?(?: \(from '(.*)', line (\d+)\))?$")
 VALUE = re.compile(r"^(" + NAME + r"*)(.*?) (?:=|:=|::=|:::=|\+=|\?=) ?(.*)$", re.A)  # its name up to a sign that names seldom have, and the rest of it
 LINES_TEXT = "$(lines)*"  # what stands for a macro of several lines
-BEGINS = r"[ \t]*(?:(?:override|export|private)[ \t]+)*define(?![\w.-])"  # a macro of several lines
+BEGINS = r"[ \t]*(?:(?:override|export|private)[ \t]+)*define(?![\w.-])(?![ \t]*(?:[+?!]|:{1,3})?=)"  # a macro of several lines, and not one that is called so
 LEVEL = re.compile(r"(?!\t)[ \t]*(?:(define)|endef)(?=[ \t]|$)")  # behind a tab it is a line of a recipe, and another word in front hides it
-LINES = re.compile(r"^define (" + NAME + r"*)(.*)", re.A)
+LINES = re.compile(r"^define (?![:+]?=)(" + NAME + r"*)(.*)", re.A)
 PATTERN = re.compile(r"^([^#\t:=]*%[^:=]*)(::?)(?!=) *(.*)$")
 NO_TARGET = "# Not a target:"
 BEHIND = "# variable set hash-table stats:"  # what follows the last macro
@@ -59,6 +59,7 @@ class Base:
     origins: Dict[str, Tuple[str, str, int]] = field(default_factory=dict)  # by macro: who gave it its value, and where: the makefile, and the line
     cut: Set[str] = field(default_factory=set)  # names of macros that go on
     serial: bool = False
+    is_open: bool = False  # its last macro of several lines has no end, and may hide all else
 
     @cached_property
     def tails(self) -> List[Tuple[int, str, str]]:
@@ -163,6 +164,11 @@ def own_value(base: Base, text: str, line: str) -> None:
         base.own.add(value.group(1))
 
 
+def with_signs(text: str) -> str:
+    """The line of a pattern's macro, also as makefiles may have it: make shows it as one that was worked out at once, with each sign twice, whatever it is."""
+    return text + " " + text.replace("$$", "$") if "$$" in text else text
+
+
 class _Macros:
     """The part of the data base that lists macros."""
 
@@ -197,7 +203,7 @@ class _Macros:
             self.name = lines.group(1)
             self.base.values.update({self.name: LINES_TEXT} if not lines.group(2) else {})
         elif value is None:
-            own_value(self.base, text[2:], text)
+            own_value(self.base, text[2:], with_signs(text))
         elif value.group(2):
             self.name = value.group(1)
             self.base.cut.add(self.name)
@@ -254,4 +260,5 @@ def read_base(lines: List[str]) -> Base:
             pattern_rule(base, text)
             macros.line(text, previous)
         previous = text
+    base.is_open = macros.depth > 0
     return base

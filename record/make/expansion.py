@@ -24,7 +24,8 @@ BLANKS = " \t\n\v\f\r"
 WORDS = re.compile("[^%s]+" % BLANKS)
 PLAIN_NAME = re.compile(r"[\w./+@%~^-]+", re.A)
 TARGET = re.compile(r"[\w./+-]+", re.A)
-AUTOMATIC = re.compile(r"[@<^+*?|%][DF]?")
+AUTOMATIC = re.compile(r"[@<^+*?|%]")
+PARTS = re.compile(r"[@<^+*?|%][DF]")  # of them: make knows most, and a makefile may say otherwise
 PRINTABLE = re.compile(r"[ -~]*")
 # Functions that expand all their words once, and how many words they have at most.
 SIMPLE = {"abspath": 1, "addprefix": 2, "addsuffix": 2, "basename": 1, "dir": 1, "error": 1, "file": 2, "filter": 2, "filter-out": 2, "findstring": 2, "firstword": 1,
@@ -163,7 +164,7 @@ class Expansion:
         if AUTOMATIC.fullmatch(name):
             self.asks_own = self.asks_own or name in self.own
             return frozenset((self.own.get(name, OPEN),))
-        if not PLAIN_NAME.fullmatch(name) or name == ".VARIABLES":
+        if not (PLAIN_NAME.fullmatch(name) or PARTS.fullmatch(name)) or name == ".VARIABLES":
             raise Unclear
         if self.known.steady.is_odd(name):
             self.take(name)
@@ -259,13 +260,13 @@ def map_product(function: Callable[..., Optional[str]], values: List[Values]) ->
 
 
 def put_in_place(pattern: str, other: str, text: str) -> Optional[str]:
-    """`$(patsubst ..)`; nothing where the pattern has no `%`."""
+    """`$(patsubst ..)`; nothing where the pattern has no `%`, and where blanks may stay of words that come to nothing."""
     head, percent, tail = pattern.partition("%")
     found = []
     for word in text.split():
         is_fit = len(word) >= len(head + tail) and word.startswith(head) and word.endswith(tail)
         found.append(other.replace("%", word[len(head):len(word) - len(tail)], 1) if is_fit else word)
-    return " ".join(word for word in found if word) if percent else None
+    return " ".join(word for word in found if word) if percent and not (other and "" in found) else None
 
 
 def replaced(text: str, rest: str) -> Optional[str]:

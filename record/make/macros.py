@@ -26,7 +26,7 @@ COLON = re.compile(r"(?<![^\s,=])([\w.+-]+):(?=[^\s=:])")
 FIRM = re.compile(r"\boverride[ \t]+(?:(?:export|private|define)[ \t]+)*([^\s:+?!=]+)")
 BARE = re.compile(r"(?<![({\w-])(?:eval|guile)\b")  # its name where nothing calls it
 # Macros of a recipe, and functions: these have one line, if their words do.
-NO_MACRO = re.compile(r"[@<^+*?|%][DF]?|\W?|(?:pat)?subst|strip|findstring|filter(?:-out)?|sort|words?|wordlist|firstword|lastword|(?:not)?dir|suffix|basename|addsuffix"
+NO_MACRO = re.compile(r"[@<^+*?%][DF]|\W?|(?:pat)?subst|strip|findstring|filter(?:-out)?|sort|words?|wordlist|firstword|lastword|(?:not)?dir|suffix|basename|addsuffix"
                       r"|addprefix|join|wildcard|realpath|abspath|if|or|and|intcmp|foreach|let|file|eval|error|warning|info|shell")
 # A line of a makefile that is a rule: what stands behind its colon, up to a recipe on the same line.
 RULE = re.compile(r"(?m)^(?!\t)[^\n=#]*?:(?![:=])((?:[^\n;#=]*\\\n)*[^\n;#]*)")

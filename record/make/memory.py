@@ -132,9 +132,10 @@ def words_asked(known: Macros, node: Node) -> Optional[List[str]]:
     if ANY in reached or composes("\n".join(texts), "wildcard") or sum(one.count("wildcard") for one in texts) > len(calls) or None in calls or BOUND.search("\n".join(texts)):
         return None
     own = [with_target(call or "", node.name) for call in calls]
-    if not known.reached("\n".join(own)).isdisjoint({*base.bodies, *(name for one in texts for name in looped(one))}):
+    if "@D" in base.bodies or not known.reached("\n".join(own)).isdisjoint({*base.bodies, *(name for one in texts for name in looped(one))}):
         return None  # a macro has another value for some targets, or in a loop
-    words = [word for one in own for word in with_values(one, base.values).split()]
+    values = {name: value for name, value in base.values.items() if not name.isdigit()}  # such a name may stand for a word of a call
+    words = [word for one in own for word in with_values(one, values).split()]
     if any("$" in one for one in own) and known.changed or any(UNCLEAR.search(word) or MAGIC.search(os.path.dirname(word)) for word in words):
         return None
     return words

@@ -16,7 +16,7 @@ AT_ONCE = (":", "::")  # signs before `=` by which make works a value out when i
 FIXED = ("environment", "environment under -e", "command line", "default")  # what gives a macro its value and is no makefile
 # What each recipe asks for without a word: macros that make itself reads.
 IMPLIED = frozenset(("SHELL", ".SHELLFLAGS", "MAKEFLAGS", "MFLAGS", "GNUMAKEFLAGS", "MAKEOVERRIDES", "MAKE", "VPATH", "GPATH", ".LIBPATTERNS", "MAKEFILES", "MAKELEVEL",
-                     "MAKE_TERMOUT", "MAKE_TERMERR"))
+                     "MAKE_TERMOUT", "MAKE_TERMERR", "IFS", "HOME"))
 UNDEFINES = re.compile(r"(?<![\w-])undefine(?![\w-])")
 SETS = r" *(?:(?:override|export|private)[ \t]+)*%s[ \t]*(?:[+?]|::?)?="  # a line that gives a macro its value
 

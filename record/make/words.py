@@ -307,6 +307,7 @@ def take_base(words: Words, lines: List[str]) -> None:
     if hole:
         words.holes.append("the data base of a make %s: make %s" % (hole, words.args))
     found = read_base(lines)
+    words.holes += ["the data base of a make has a macro of several lines without an end: make " + words.args] if found.is_open else []
     for one in words.rounds:
         one.base = one.base or found
 

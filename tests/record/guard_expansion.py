@@ -15,7 +15,7 @@ def call(name: str) -> str:
     return "test_calls.Makefiles.test_" + name
 
 
-EXPANSION, STEADY, MACROS, USED, MEMORY = "make/expansion.py", "make/steady.py", "make/macros.py", "make/used.py", "make/memory.py"
+EXPANSION, STEADY, MACROS, USED, MEMORY, BASE = "make/expansion.py", "make/steady.py", "make/macros.py", "make/used.py", "make/memory.py", "make/database.py"
 
 EXPANSION_GUARDS: List[Guard] = [
     Guard("calls: worked out", *COARSE, call("makefiles_of_linux"), FALSE_RACE),
@@ -55,6 +55,14 @@ EXPANSION_GUARDS: List[Guard] = [
     Guard("steady: macros of make itself", STEADY, "or name in IMPLIED or name in self.defined", "or name in self.defined", values("a_place")),
     Guard("steady: lines that assign", STEADY, ' and not self.is_set_at(name, file, line)}', "}", values("where_recipes_stand")),
     Guard("steady: recipes of templates", STEADY, "if any(one.strip() and first.endswith(one.rstrip()) for one in recipe):", "if True:", values("where_recipes_stand")),
-    Guard("data base: who gave a macro its value", "make/database.py", ' and not text.startswith("# ") and (', " and (", values("who_gave_a_value")),
+    Guard("data base: who gave a macro its value", BASE, ' and not text.startswith("# ") and (', " and (", values("who_gave_a_value")),
+    Guard("calls: words that come to nothing", EXPANSION, ' and not (other and "" in found)', "", call("name_behind_a_blank_that_stays_that_is_changed"), YES),
+    Guard("calls: parts of automatic macros", EXPANSION, 'AUTOMATIC = re.compile(r"[@<^+*?|%]")', 'AUTOMATIC = re.compile(r"[@<^+*?|%][DF]?")', call("folder_that_a_target_has_that_is_changed"), YES),
+    Guard("calls: words that a makefile sets, too", MEMORY, " if not name.isdigit()}", "}", call("word_of_a_call_that_names_a_folder"), YES),
+    Guard("lists: folders of targets that have another one", MEMORY, '"@D" in base.bodies or ', "", call("folder_that_a_target_has_in_a_list"), YES),
+    Guard("steady: what cuts words of a shell", STEADY, ', "IFS", "HOME"', ', "HOME"', call("words_between_which_a_shell_cuts"), YES),
+    Guard("data base: macros of patterns", BASE, "with_signs(text))", "text)", call("macro_of_a_pattern_by_a_computed_name_that_is_changed"), YES),
+    Guard("data base: a macro that is called define", BASE, 'r"^define (?![:+]?=)(', 'r"^define (', call("macro_that_is_called_define_that_is_changed"), YES, (BASE, "base.is_open = macros.depth > 0", "pass")),
+    Guard("data base: a macro without an end", "make/words.py", "if found.is_open else []", "if False else []", "test_words.Holes.test_macro_without_an_end"),
     Guard("calls: lists of folders", MEMORY, "reached = known.answers.of_recipe(node.name)", "reached = known.reached(text)", call("list_beside_a_call"), FALSE_RACE),
 ]

@@ -99,6 +99,7 @@ MACRO_GUARDS: List[Guard] = [
     Guard("functions: names that are put together by others", MACROS, " or any(map(self.makes_name, self.all_texts()))", "", macro("function_whose_name_is_put_together"), YES),
     Guard("functions: names that are nowhere", MACROS, "self.is_used or any(COMPUTED.search(text) for text in texts)", "self.is_used or False", macro("function_that_a_file_names"), YES),
     Guard("functions: of exported macros", MACROS, "if EVAL.search(self.text_of(name)) or COMPUTED.search(self.text_of(name))}", "if EVAL.search(self.text_of(name))}", macro("function_of_an_exported_macro"), YES),
+    Guard("assignments: a macro that is called define", BASE, '(?![ \\t]*(?:[+?!]|:{1,3})?=)"', '"', macro("macro_of_lines_for_a_while_behind_one_that_is_called_define"), YES),
     Guard("data base: lines behind a tab", BASE, 'LEVEL = re.compile(r"(?!\\t)', 'LEVEL = re.compile(r"', macro("macro_of_lines_for_a_while_with_a_tab"), YES),
     Guard("data base: lines behind the last one", BASE, "self.goes_on = not self.depth", "self.goes_on = False", macro("macro_of_lines_with_a_tab"), YES, (BASE, 'LEVEL = re.compile(r"(?!\\t)', 'LEVEL = re.compile(r"')),
     Guard("data base: lines that go on", BASE, "LEVEL.match(text) if not is_continued(previous) else None", "LEVEL.match(text)", text("lines_that_go_on")),

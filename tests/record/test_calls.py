@@ -75,12 +75,22 @@ FORMS: Dict[str, Tuple[str, str]] = {
     "name_that_a_pattern_replaces": ("V := NAME.o\n", "$($(V:%.o=%))"),
     "name_that_patsubst_gives": ("V := x.o\n", "$($(patsubst x.%,NAME,$(V)))"),
     "name_that_subst_gives": ("V := xo\n", "$($(subst xo,NAME,$(V)))"),
+    "name_behind_a_blank_that_stays": ("E :=\nB := $(E) b\n$(B) = $(NAME)\nV := a b\n", "$($(V:a%=%))"),
+    "name_behind_a_blank_that_patsubst_leaves": ("E :=\nB := $(E) b\n$(B) = $(NAME)\n", "$($(patsubst a%,%,a b))"),
+    "name_behind_a_blank_that_goes": ("V := a NAME\n", "$($(patsubst a%,,$(V)))"),
+    "part_of_prerequisites": ("|D = $(NAME)\n", "$(|D)"),
+    "folder_that_a_target_has": ("b: @D = $(NAME)\n", "$(@D)"),
+    "file_that_a_pattern_has": ("%: @F = $(NAME)\n", "$(@F)"),
+    "macro_of_a_pattern_by_a_computed_name": ("n := V\n%: $(n) = $(NAME)\n", "$(V)"),
+    "macro_of_a_computed_pattern": ("P := a\n$(P:a=%): V = $(NAME)\n", "$(V)"),
+    "macro_that_is_called_define": ("define = x\n", "$(NAME)"),
+    "macro_at_once_that_is_called_define": ("define := x\n", "$(NAME)"),
     "name_that_is_sorted": ("V := NAME\n", "$($(sort $(V)))"),
     "name_of_the_target": ("cmd_b = $(NAME)\ncmd_c = $(X)\n", "$(cmd_$@)"),
 }
 # Where one of these gives the name, more than that is taken for it.
 WIDE = {"macro_by_a_computed_name", "macro_of_a_template", "macro_of_a_program", "macro_of_a_program_at_once", "macro_of_the_target", "macro_of_another_target", "macro_of_a_pattern",
-        "macro_of_lines", "name_that_is_sorted", "value_of_a_macro", "word_with_a_comma"}
+        "macro_of_lines", "name_behind_a_blank_that_stays", "name_behind_a_blank_that_patsubst_leaves", "name_that_is_sorted", "value_of_a_macro", "word_with_a_comma"}
 COMMANDS.update({"%s_%s" % (key, way): words for way, name in (("that_is_changed", "X"), ("that_is_not", "Y"))
                  for key, words in (("macro_of_the_command", ["make", "V=" + name]), ("macro_of_the_environment", ["env", "V=" + name, "make"]),
                                    ("macro_of_the_environment_that_wins", ["env", "V=" + name, "make", "-e"]))})
@@ -164,6 +174,11 @@ CALLS: Dict[str, Small] = {
     # what each recipe is handed
     "name_in_an_exported_macro": Small("race", "f = $($(1))\nexport E = $(call f,X)\n" + PAIR % (SETS, "echo $$E > b")),
     "another_name_in_an_exported_macro": Small("safe", "f = $($(1))\nexport E = $(call f,Y)\n" + PAIR % (SETS, "echo $$E > b")),
+    "words_between_which_a_shell_cuts": Small("race", "IFS = $(eval X := $@)\n" + PAIR % ("touch a", SHOW)),
+    "part_of_prerequisites_that_sets_a_macro": Small("race", "|F = $(eval X := set)\n" + PAIR % ("$(|F)touch a", SHOW)),
+    # words of calls that are macros, too
+    "word_of_a_call_that_names_a_folder": Small("race", "1 := d/*.x\nf = $(wildcard $(1))\n" + PAIR % ("touch e/2.x a", "echo '$(call f,e/*.x)' > b"), {"e/1.x": "", "d/1.x": ""}),
+    "folder_that_a_target_has_in_a_list": Small("race", "b: @D = e\n" + PAIR % ("touch e/2.x a", "echo '$(wildcard $(@D)/*.x)' > b"), {"e/1.x": ""}),
     # what makes read a text a second time
     "word_that_eval_reads": Small("race", "f = $(eval T := $(1))\n" + PAIR % (SETS, "$(call f,$$(X))echo '$(T)' > b")),
     "word_that_a_called_branch_reads": Small("race", "f = $(call if,1,$(1))\n" + PAIR % (SETS, "echo '$(call f,$$(X))' > b")),
@@ -245,7 +260,7 @@ class Texts(unittest.TestCase):
         self.assertEqual(["a", "b,c"], words_of("a,b,c", "(", 2))
 
     def test_replaced_words(self) -> None:
-        for words, wanted in (("%.c %.o a.c  b.h c.c", "a.o b.h c.o"), ("% x a b", "x x"), ("a%b% % axb% ab", "x ab"), ("x% % x xy", "y"), ("a b a", None)):
+        for words, wanted in (("%.c %.o a.c  b.h c.c", "a.o b.h c.o"), ("% x a b", "x x"), ("a%b% % axb% ab", "x ab"), ("x% % x xy", None), ("a b a", None)):
             pattern, other, text = words.split(" ", 2)
             self.assertEqual(wanted, put_in_place(pattern, other, text), words)
         self.assertEqual(["a.o", "x.o", "a"], [replaced("a.c", ".c=.o"), (replaced("a.c", "a%=x%") or "").replace(".c", ".o"), replaced("a.c", "%.c=%")])

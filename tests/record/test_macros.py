@@ -47,6 +47,7 @@ MACROS: Dict[str, Small] = {
     "macro_of_a_computed_name_for_a_while": Small("race", N + WHILE % ("$(eval $(n) = $$(eval X := set))", "$(eval V := done)", "echo '$(X)' > a")),
     "macro_of_a_makefile_for_a_while": Small("race", N + "$(n) = $(eval X := set)\n" + WHILE % ("", "$(eval $(n) := done)", "echo '$(X)' > a")),
     "macro_of_lines_for_a_while": Small("race", N + "define $(n)\n$(eval X := set)\nendef\n" + WHILE % ("", "$(eval $(n) := done)", "echo '$(X)' > a")),
+    "macro_of_lines_for_a_while_behind_one_that_is_called_define": Small("race", "define = x\n" + N + "define $(n)\n$(eval X := set)\nendef\n" + WHILE % ("", "$(eval $(n) := done)", "echo '$(X)' > a")),
     "eval_by_a_macro_that_is_put_together_for_a_while": Small("race", N + WHILE.replace("$(V)", "$(X)") % (
         "$(eval $(n) = $$(subst x,a,evxl))", "$(eval V := done)", "$(call $(V),X := set)touch a")),
     "macro_with_another_value_for_a_while": Small("safe", WHILE % ("$(eval V = $$(Y))", "$(eval V := done)", SETS)),
