@@ -22,7 +22,8 @@ CHANGES = ("eval", "guile")  # functions of make that change macros
 LOOP = re.compile(r"\$\(foreach[ \t]+([\w.-]+),[ \t]*\$\(([\w.-]+)\)[ \t]*,")  # over the words of one macro
 # What puts words together, or brings others: what they come to stands in no text.
 MAKES = re.compile(r"\$[({](?:(?:pat)?subst|join|addprefix|addsuffix|shell|file|basename|notdir|dir|suffix)[ \t]|\$[({][\w.-]+:[^=]*=")
-COLON = re.compile(r"(?<![^\s,=])([\w.+-]+):(?=[^\s=:])")
+COLON = re.compile(r"(?<![^\s,=])([\w.+-]*):(?=[^\s=:])")
+COLON_BEHIND = re.compile(r"(?<![^\s,=])(?:[\w.+-]|\$\w|\$\([^()\s]*\)|\$\{[^{}\s]*\})+:[^\s=:]\S*=")  # a word that begins with another macro
 FIRM = re.compile(r"\boverride[ \t]+(?:(?:export|private|define)[ \t]+)*([^\s:+?!=]+)")
 BARE = re.compile(r"(?<![({\w-])(?:eval|guile)\b")  # its name where nothing calls it
 # Macros of a recipe, and functions: these have one line, if their words do.
@@ -230,14 +231,20 @@ class Macros:
     def fitting(self, pattern: str) -> List[str]:
         """The macros that a pattern fits. What stands for a `*` may have a colon or a blank, and then what stands behind it says nothing of a name."""
         head, _, tail = pattern.partition("*")
-        if tail.strip("*") and self.has_colons:
+        if tail.strip("*") and (self.has_colons or any(head + one in self.texts for one in self.before_colons)):
             return [name for name in self.texts if name.startswith(head)]
         return matching(self.texts, pattern) + [name for name in self.base.cut if tail and name.startswith(head)]
 
     @cached_property
+    def before_colons(self) -> Set[str]:
+        """What words of texts have in front of a colon: `X:s=` in a reference changes the value of X."""
+        return {found.group(1) for text in self.all_texts() for found in COLON.finditer(text)}
+
+    @cached_property
     def has_colons(self) -> bool:
-        """Whether a word of some text is the name of a macro with a colon behind it: `X:s=` in a reference changes the value of X."""
-        return any(found.group(1) in self.texts for text in self.all_texts() for found in COLON.finditer(text))
+        """Whether that is the name of a macro, or other macros give it; or a macro begins or ends with a colon."""
+        is_end = any(text.startswith(":") or text.endswith(":") for values in self.texts.values() for text in values)
+        return is_end or not self.before_colons.isdisjoint(self.texts) or any("$" in one for text in self.all_texts() for one in COLON_BEHIND.findall(text))
 
     def named_in(self, text: str, again: bool) -> FrozenSet[str]:
         """The macros that a text refers to, also where it is read again."""

@@ -106,7 +106,7 @@ MACRO_GUARDS: List[Guard] = [
     Guard("data base: remarks in lines", BASE, "elif self.goes_on and not is_behind", 'elif self.goes_on and not text.startswith("#")', macro("macro_of_lines_with_a_remark"), YES),
     Guard("data base: lines in no pairs", BASE, 'if self.depth and previous == "endef" and is_behind:', "if False:", text("lines_that_are_in_no_pairs")),
     Guard("names: with a star", MACROS, ', *self.named_in(self.text_of(name), again)}', ', *(() if "*" in name else self.named_in(self.text_of(name), again))}', macro("macro_whose_name_has_a_star"), YES),
-    Guard("names: with a colon in another macro", MACROS, 'if tail.strip("*") and self.has_colons:', "if False:", macro("macro_by_a_name_with_a_colon_in_another"), YES, COARSE),
+    Guard("names: with a colon in another macro", MACROS, 'if tail.strip("*") and (self.has_colons or any(', "if False and (any(", macro("macro_by_a_name_with_a_colon_in_another"), YES, COARSE),
     Guard("names: with a blank in another macro", MACROS, " + [name for name in self.base.cut if tail and name.startswith(head)]", "", macro("macro_by_a_name_with_a_blank_in_another"), YES),
     Guard("lines: even numbers of backslashes", REFERENCES, r"(?<!\\)((?:\\\\)*)\\\n[ \t]*", r"()\\\n[ \t]*", text("lines_of_makefiles")),
     Guard("eval: numbers that are compared", REFERENCES, "(?:foreach|let|if|or|and|intcmp)", "(?:foreach|let|if|or|and)", text("functions_that_read_a_text_again")),

@@ -179,6 +179,11 @@ CALLS: Dict[str, Small] = {
     # words of calls that are macros, too
     "word_of_a_call_that_names_a_folder": Small("race", "1 := d/*.x\nf = $(wildcard $(1))\n" + PAIR % ("touch e/2.x a", "echo '$(call f,e/*.x)' > b"), {"e/1.x": "", "d/1.x": ""}),
     "folder_that_a_target_has_in_a_list": Small("race", "b: @D = e\n" + PAIR % ("touch e/2.x a", "echo '$(wildcard $(@D)/*.x)' > b"), {"e/1.x": ""}),
+    # names with a colon that nobody can say
+    "name_and_a_colon_that_is_sorted": Small("race", PAIR % (SETS, "echo '$(X$(sort :a=b)Y)' > b")),
+    "name_and_a_colon_of_a_macro": Small("race", "colon := :\n" + PAIR % (SETS, "echo '$($(sort X$(colon)a=b)Y)' > b")),
+    "name_of_a_macro_and_a_colon": Small("race", "n := X\n" + PAIR % (SETS, "echo '$($(sort $(n):a=b)Y)' > b")),
+    "name_and_a_colon_of_another_macro": Small("safe", "src := a.c\ns := src\n" + PAIR % (SETS, "echo '$($(s):.c=.o) $(XZ$(sort a)Y)' PATH=a:b > b")),
     # what makes read a text a second time
     "word_that_eval_reads": Small("race", "f = $(eval T := $(1))\n" + PAIR % (SETS, "$(call f,$$(X))echo '$(T)' > b")),
     "word_that_a_called_branch_reads": Small("race", "f = $(call if,1,$(1))\n" + PAIR % (SETS, "echo '$(call f,$$(X))' > b")),
