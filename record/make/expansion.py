@@ -195,7 +195,7 @@ class Expansion:
             return self.loop(words_of(text, opening, 3), scope)
         if name in CHOOSING:
             words = words_of(text, opening, CHOOSING[name])
-            found = [self.text(word.strip() if at == 0 or name != "if" else word, scope) for at, word in enumerate(words)]
+            found = [self.text(word.strip(BLANKS) if at == 0 or name != "if" else word, scope) for at, word in enumerate(words)]
             return union(found[1:] if name == "if" else found) | NOTHING
         if name in LOOKING:
             return self.looked_at(self.text(words_of(text, opening, 1)[0], scope))
@@ -231,7 +231,7 @@ class Expansion:
     def loop(self, words: List[str], scope: Scope) -> Values:
         """A loop over words: its macro may be each of them."""
         names, lists = self.text(words[0], scope), self.text(words[1], scope) if len(words) == 3 else UNKNOWN
-        name = next(iter(names)).strip()
+        name = next(iter(names)).strip(BLANKS)
         if len(words) != 3 or len(names) != 1 or OPEN in name or not PLAIN_NAME.fullmatch(name):
             raise Unclear
         values = frozenset(word for text in lists for word in (WORDS.findall(text) if OPEN not in text else UNKNOWN))

@@ -31,6 +31,7 @@ EXPANSION_GUARDS: List[Guard] = [
     Guard("calls: each word of a loop", EXPANSION, "(WORDS.findall(text) if OPEN", "(WORDS.findall(text)[:1] if OPEN", call("loop_over_several_that_is_changed"), YES),
     Guard("calls: branches", EXPANSION, 'union(found[1:] if name == "if" else found)', 'union(found[1:2] if name == "if" else found)', call("branch_that_is_changed"), YES),
     Guard("calls: conditions", EXPANSION, "for at, word in enumerate(words)]", "for at, word in enumerate(words) if at]", call("condition_that_is_changed"), YES),
+    Guard("calls: blanks of another kind", EXPANSION, "word.strip(BLANKS) if", "word.strip() if", call("name_with_a_blank_of_another_kind_that_is_changed"), YES),
     Guard("calls: macros that are looked at", EXPANSION, "            else:\n                self.reads.add(name)\n", "            else:\n                pass\n", call("origin_that_is_changed"), YES),
     Guard("calls: names that nobody can say", EXPANSION, "        self.take(re.sub(OPEN + \"+\", \"*\", name))\n", "", call("name_that_is_sorted_that_is_changed"), YES),
     Guard("calls: macros that lead to eval", EXPANSION, "        if any(map(self.known.reads_twice, found)):\n            raise Unclear\n", "", call("function_of_a_macro_that_is_changed_back"), YES),

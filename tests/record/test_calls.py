@@ -85,12 +85,13 @@ FORMS: Dict[str, Tuple[str, str]] = {
     "macro_of_a_computed_pattern": ("P := a\n$(P:a=%): V = $(NAME)\n", "$(V)"),
     "macro_that_is_called_define": ("define = x\n", "$(NAME)"),
     "macro_at_once_that_is_called_define": ("define := x\n", "$(NAME)"),
+    "name_with_a_blank_of_another_kind": ("Z\u00a0 = $(NAME)\n", "$($(or $(U),Z\u00a0))"),
     "name_that_is_sorted": ("V := NAME\n", "$($(sort $(V)))"),
     "name_of_the_target": ("cmd_b = $(NAME)\ncmd_c = $(X)\n", "$(cmd_$@)"),
 }
 # Where one of these gives the name, more than that is taken for it.
 WIDE = {"macro_by_a_computed_name", "macro_of_a_template", "macro_of_a_program", "macro_of_a_program_at_once", "macro_of_the_target", "macro_of_another_target", "macro_of_a_pattern",
-        "macro_of_lines", "name_behind_a_blank_that_stays", "name_behind_a_blank_that_patsubst_leaves", "name_that_is_sorted", "value_of_a_macro", "word_with_a_comma"}
+        "macro_of_lines", "name_behind_a_blank_that_stays", "name_behind_a_blank_that_patsubst_leaves", "name_that_is_sorted", "name_with_a_blank_of_another_kind", "value_of_a_macro", "word_with_a_comma"}
 COMMANDS.update({"%s_%s" % (key, way): words for way, name in (("that_is_changed", "X"), ("that_is_not", "Y"))
                  for key, words in (("macro_of_the_command", ["make", "V=" + name]), ("macro_of_the_environment", ["env", "V=" + name, "make"]),
                                    ("macro_of_the_environment_that_wins", ["env", "V=" + name, "make", "-e"]))})
