@@ -61,6 +61,7 @@ EXPANSION_GUARDS: List[Guard] = [
     Guard("calls: parts of automatic macros", EXPANSION, 'AUTOMATIC = re.compile(r"[@<^+*?|%]")', 'AUTOMATIC = re.compile(r"[@<^+*?|%][DF]?")', call("folder_that_a_target_has_that_is_changed"), YES),
     Guard("calls: words that a makefile sets, too", MEMORY, " if not name.isdigit()}", "}", call("word_of_a_call_that_names_a_folder"), YES),
     Guard("lists: folders of targets that have another one", MEMORY, '"@D" in base.bodies or ', "", call("folder_that_a_target_has_in_a_list"), YES),
+    Guard("globs: folders of targets that have another one", "make/globs.py", '(?:\\d+|[@<^+*?|%][DF]?)[ \\t]*(?:[+?!]|::?:?)?="', '(?:\\d+|[@<^+*?|%])[ \\t]*(?:[+?!]|::?:?)?="', call("pattern_that_a_target_has_for_its_folder"), YES),
     Guard("steady: what cuts words of a shell", STEADY, ', "IFS", "HOME"', ', "HOME"', call("words_between_which_a_shell_cuts"), YES),
     Guard("names: with a colon behind their beginning", MACROS, " or any(head + one in self.texts for one in self.before_colons)", "", call("name_and_a_colon_that_is_sorted"), YES),
     Guard("names: with a colon that is a macro", MACROS, "return is_end or not", "return not", call("name_and_a_colon_of_a_macro"), YES),

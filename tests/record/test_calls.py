@@ -180,6 +180,7 @@ CALLS: Dict[str, Small] = {
     # words of calls that are macros, too
     "word_of_a_call_that_names_a_folder": Small("race", "1 := d/*.x\nf = $(wildcard $(1))\n" + PAIR % ("touch e/2.x a", "echo '$(call f,e/*.x)' > b"), {"e/1.x": "", "d/1.x": ""}),
     "folder_that_a_target_has_in_a_list": Small("race", "b: @D = e\n" + PAIR % ("touch e/2.x a", "echo '$(wildcard $(@D)/*.x)' > b"), {"e/1.x": ""}),
+    "pattern_that_a_target_has_for_its_folder": Small("race", "b: @D = e/*\n" + PAIR % ("touch e/2.x a", "echo '$(wildcard $(@D).x)' > b"), {"e/1.x": ""}),
     # names with a colon that nobody can say
     "name_and_a_colon_that_is_sorted": Small("race", PAIR % (SETS, "echo '$(X$(sort :a=b)Y)' > b")),
     "name_and_a_colon_of_a_macro": Small("race", "colon := :\n" + PAIR % (SETS, "echo '$($(sort X$(colon)a=b)Y)' > b")),
