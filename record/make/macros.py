@@ -23,6 +23,7 @@ LOOP = re.compile(r"\$\(foreach[ \t]+([\w.-]+),[ \t]*\$\(([\w.-]+)\)[ \t]*,")  #
 # What puts words together, or brings others: what they come to stands in no text.
 MAKES = re.compile(r"\$[({](?:(?:pat)?subst|join|addprefix|addsuffix|shell|file|basename|notdir|dir|suffix)[ \t]|\$[({][\w.-]+:[^=]*=")
 COLON = re.compile(r"(?<![^\s,=])([\w.+-]*):(?=[^\s=:])")
+COLON_ALONE = re.compile(r":\S*|[\w.+-]*:")  # what makes a name of the word in which it is
 COLON_BEHIND = re.compile(r"(?<![^\s,=])(?:[\w.+-]|\$\w|\$\([^()\s]*\)|\$\{[^{}\s]*\})+:[^\s=:]\S*=")  # a word that begins with another macro
 FIRM = re.compile(r"\boverride[ \t]+(?:(?:export|private|define)[ \t]+)*([^\s:+?!=]+)")
 BARE = re.compile(r"(?<![({\w-])(?:eval|guile)\b")  # its name where nothing calls it
@@ -242,9 +243,10 @@ class Macros:
 
     @cached_property
     def has_colons(self) -> bool:
-        """Whether that is the name of a macro, or other macros give it; or a macro begins or ends with a colon."""
-        is_end = any(text.startswith(":") or text.endswith(":") for values in self.texts.values() for text in values)
-        return is_end or not self.before_colons.isdisjoint(self.texts) or any("$" in one for text in self.all_texts() for one in COLON_BEHIND.findall(text))
+        """Whether that is the name of a macro, or other macros give it; or the colon is a macro in a word."""
+        ends = "|".join(re.escape(name) for name, values in self.texts.items() if any(map(COLON_ALONE.fullmatch, values)))
+        in_word = re.compile(r"[\w)}]\$[({](?:%s)[)}]|\$[({](?:%s)[)}][\w.%%$]" % (ends, ends))
+        return bool(ends) and any(map(in_word.search, self.all_texts())) or not self.before_colons.isdisjoint(self.texts) or any("$" in one for text in self.all_texts() for one in COLON_BEHIND.findall(text))
 
     def named_in(self, text: str, again: bool) -> FrozenSet[str]:
         """The macros that a text refers to, also where it is read again."""

@@ -64,7 +64,7 @@ EXPANSION_GUARDS: List[Guard] = [
     Guard("globs: folders of targets that have another one", "make/globs.py", '(?:\\d+|[@<^+*?|%][DF]?)[ \\t]*(?:[+?!]|::?:?)?="', '(?:\\d+|[@<^+*?|%])[ \\t]*(?:[+?!]|::?:?)?="', call("pattern_that_a_target_has_for_its_folder"), YES),
     Guard("steady: what cuts words of a shell", STEADY, ', "IFS", "HOME"', ', "HOME"', call("words_between_which_a_shell_cuts"), YES),
     Guard("names: with a colon behind their beginning", MACROS, " or any(head + one in self.texts for one in self.before_colons)", "", call("name_and_a_colon_that_is_sorted"), YES),
-    Guard("names: with a colon that is a macro", MACROS, "return is_end or not", "return not", call("name_and_a_colon_of_a_macro"), YES),
+    Guard("names: with a colon that is a macro", MACROS, "return bool(ends) and any(map(in_word.search, self.all_texts())) or not", "return not", call("name_and_a_colon_of_a_macro"), YES),
     Guard("names: with a colon behind another macro", MACROS, ' or any("$" in one for text in self.all_texts() for one in COLON_BEHIND.findall(text))', "", call("name_of_a_macro_and_a_colon"), YES),
     Guard("data base: macros of patterns", BASE, "with_signs(text))", "text)", call("macro_of_a_pattern_by_a_computed_name_that_is_changed"), YES),
     Guard("data base: a macro that is called define", BASE, 'r"^define (?![:+]?=)(', 'r"^define (', call("macro_that_is_called_define_that_is_changed"), YES, (BASE, "base.is_open = macros.depth > 0", "pass")),

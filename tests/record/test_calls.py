@@ -185,7 +185,7 @@ CALLS: Dict[str, Small] = {
     "name_and_a_colon_that_is_sorted": Small("race", PAIR % (SETS, "echo '$(X$(sort :a=b)Y)' > b")),
     "name_and_a_colon_of_a_macro": Small("race", "colon := :\n" + PAIR % (SETS, "echo '$($(sort X$(colon)a=b)Y)' > b")),
     "name_of_a_macro_and_a_colon": Small("race", "n := X\n" + PAIR % (SETS, "echo '$($(sort $(n):a=b)Y)' > b")),
-    "name_and_a_colon_of_another_macro": Small("safe", "src := a.c\ns := src\n" + PAIR % (SETS, "echo '$($(s):.c=.o) $(XZ$(sort a)Y)' PATH=a:b > b")),
+    "name_and_a_colon_of_another_macro": Small("safe", "true := :\nt = $(true) x\nsrc := a.c\ns := src\n" + PAIR % (SETS, "echo '$($(s):.c=.o) $(XZ$(sort a)Y) $(X$(sort a)Y)' PATH=a:b; $(true) > b")),
     # what makes read a text a second time
     "word_that_eval_reads": Small("race", "f = $(eval T := $(1))\n" + PAIR % (SETS, "$(call f,$$(X))echo '$(T)' > b")),
     "word_that_a_called_branch_reads": Small("race", "f = $(call if,1,$(1))\n" + PAIR % (SETS, "echo '$(call f,$$(X))' > b")),
