@@ -16,6 +16,7 @@ def call(name: str) -> str:
 
 
 EXPANSION, STEADY, MACROS, USED, MEMORY, BASE = "make/expansion.py", "make/steady.py", "make/macros.py", "make/used.py", "make/memory.py", "make/database.py"
+D_BOUND = ("make/globs.py", '(?:\\d+|[@<^+*?|%][DF]?)[ \\t]*(?:[+?!]|::?:?)?="', '(?:\\d+|[@<^+*?|%])[ \\t]*(?:[+?!]|::?:?)?="')  # patterns of names
 
 EXPANSION_GUARDS: List[Guard] = [
     Guard("calls: worked out", *COARSE, call("makefiles_of_linux"), FALSE_RACE),
@@ -25,7 +26,7 @@ EXPANSION_GUARDS: List[Guard] = [
     Guard("calls: the name of the function", EXPANSION, '"0": frozenset((name,)) if name == text else UNKNOWN', '"0": NOTHING', call("name_of_the_function_that_is_changed"), YES),
     Guard("calls: functions of make", EXPANSION, "name in LOOKING or name in CHOOSING or name in OTHERS", "name in LOOKING or name in OTHERS", call("word_that_a_called_branch_reads"), YES),
     Guard("calls: eval", EXPANSION, "        if name not in SIMPLE:\n            raise Unclear\n", "        if name not in SIMPLE:\n            return UNKNOWN\n", call("function_that_sets_a_macro"), YES),
-    Guard("calls: the list of all macros", EXPANSION, 'if not PLAIN_NAME.fullmatch(name) or name == ".VARIABLES":\n            raise', "if not PLAIN_NAME.fullmatch(name):\n            raise", call("list_of_all_macros"), YES),
+    Guard("calls: the list of all macros", EXPANSION, 'PARTS.fullmatch(name)) or name == ".VARIABLES":', "PARTS.fullmatch(name)):", call("list_of_all_macros"), YES),
     Guard("calls: brackets", EXPANSION, 'if sign == "," and not depth and', 'if sign == "," and', call("word_behind_brackets_that_is_not"), FALSE_RACE),
     Guard("calls: loops that hide macros", EXPANSION, "{**scope, name: values if 0 < len(values) <= MOST else UNKNOWN}", "scope", call("loop_that_hides_a_macro_that_is_changed"), YES),
     Guard("calls: each word of a loop", EXPANSION, "(WORDS.findall(text) if OPEN", "(WORDS.findall(text)[:1] if OPEN", call("loop_over_several_that_is_changed"), YES),
@@ -60,8 +61,8 @@ EXPANSION_GUARDS: List[Guard] = [
     Guard("calls: words that come to nothing", EXPANSION, ' and not (other and "" in found)', "", call("name_behind_a_blank_that_stays_that_is_changed"), YES),
     Guard("calls: parts of automatic macros", EXPANSION, 'AUTOMATIC = re.compile(r"[@<^+*?|%]")', 'AUTOMATIC = re.compile(r"[@<^+*?|%][DF]?")', call("folder_that_a_target_has_that_is_changed"), YES),
     Guard("calls: words that a makefile sets, too", MEMORY, " if not name.isdigit()}", "}", call("word_of_a_call_that_names_a_folder"), YES),
-    Guard("lists: folders of targets that have another one", MEMORY, '"@D" in base.bodies or ', "", call("folder_that_a_target_has_in_a_list"), YES),
-    Guard("globs: folders of targets that have another one", "make/globs.py", '(?:\\d+|[@<^+*?|%][DF]?)[ \\t]*(?:[+?!]|::?:?)?="', '(?:\\d+|[@<^+*?|%])[ \\t]*(?:[+?!]|::?:?)?="', call("pattern_that_a_target_has_for_its_folder"), YES),
+    Guard("lists: folders of targets that have another one", MEMORY, '"@D" in base.bodies or ', "", call("folder_that_a_target_has_in_a_list"), YES, D_BOUND),
+    Guard("globs: folders of targets that have another one", *D_BOUND, call("pattern_that_a_target_has_for_its_folder"), YES),
     Guard("steady: what cuts words of a shell", STEADY, ', "IFS", "HOME"', ', "HOME"', call("words_between_which_a_shell_cuts"), YES),
     Guard("names: with a colon behind their beginning", MACROS, " or any(head + one in self.texts for one in self.before_colons)", "", call("name_and_a_colon_that_is_sorted"), YES),
     Guard("names: with a colon that is a macro", MACROS, "return bool(ends) and any(map(in_word.search, self.all_texts())) or not", "return not", call("name_and_a_colon_of_a_macro"), YES),
