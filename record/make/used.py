@@ -26,11 +26,13 @@ def uses(macros: Macros) -> Dict[str, Use]:
         found, changed = all_uses(macros)
     while macros.learn(changed):  # what a macro is for a while may change others
         found, changed = all_uses(macros)
+    unwritten = changed - {ANY}.union(*((*use.writes, *use.keeps) for use in found.values()))  # nobody knows whose recipe does it
     exported = {name for name in changed if name != ANY and (macros.is_exported(name) or name in macros.handed_on)}
     for use in found.values():
         patterns = [name for name in use.reads if "*" in name]
         fitting = {name for one in patterns for name in (*matching(changed, one), *macros.fitting(one))}
         use.reads = set(changed) if ANY in changed else (use.reads | fitting) & changed | exported
+        use.writes |= unwritten
     wanted = {name for use in found.values() for name in use.reads}
     for use in found.values():
         use.writes = use.writes & wanted

@@ -309,6 +309,8 @@ def take_base(words: Words, lines: List[str]) -> None:
     found = read_base(lines)
     words.holes += ["the data base of a make has a macro of several lines without an end: make " + words.args] if found.is_open else []
     for one in words.rounds:
+        unread = next((job.target for job in one.jobs if one.base is None and job.target not in found.recipes), None)
+        words.holes += ["the data base of a make does not show the recipe of a target that ran: " + unread] if unread is not None else []
         one.base = one.base or found
 
 

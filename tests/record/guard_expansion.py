@@ -2,7 +2,7 @@
 
 from typing import List
 
-from guard_table import COARSE, FALSE_RACE, YES, Guard
+from guard_table import COARSE, FALSE_RACE, LOST_HOLE, YES, Guard
 
 
 def values(name: str) -> str:
@@ -69,6 +69,8 @@ EXPANSION_GUARDS: List[Guard] = [
     Guard("names: with a colon behind another macro", MACROS, ' or any("$" in one for text in self.all_texts() for one in COLON_BEHIND.findall(text))', "", call("name_of_a_macro_and_a_colon"), YES),
     Guard("data base: macros of patterns", BASE, "with_signs(text))", "text)", call("macro_of_a_pattern_by_a_computed_name_that_is_changed"), YES),
     Guard("data base: a macro that is called define", BASE, 'r"^define (?![:+]?=)(', 'r"^define (', call("macro_that_is_called_define_that_is_changed"), YES, (BASE, "base.is_open = macros.depth > 0", "pass")),
+    Guard("data base: recipes that it does not show", "make/words.py", "if unread is not None else []", "if False else []", call("target_that_begins_like_a_remark"), LOST_HOLE),
+    Guard("macros: set in a way that nobody knows", USED, "        use.writes |= unwritten\n", "", values("who_sets_a_macro_in_a_way_that_nobody_knows")),
     Guard("data base: a macro without an end", "make/words.py", "if found.is_open else []", "if False else []", "test_words.Holes.test_macro_without_an_end"),
     Guard("calls: lists of folders", MEMORY, "reached = known.answers.of_recipe(node.name)", "reached = known.reached(text)", call("list_beside_a_call"), FALSE_RACE),
 ]

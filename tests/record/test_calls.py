@@ -7,9 +7,11 @@ from unittest import mock
 
 from record.make.database import read_base
 from record.make.expansion import OPEN, Unclear, pieces, put_in_place, replaced, words_of
-from record.make.macros import Macros
+from record.make.macros import Macros, Use
 from record.make.owners import Make
 from record.make.steady import Steady
+from record.make.used import uses
+from record.make.words import Round
 from test_macros import N, PAIR, SETS
 from test_small import COMMANDS, Small, test_of
 
@@ -181,6 +183,9 @@ CALLS: Dict[str, Small] = {
     "word_of_a_call_that_names_a_folder": Small("race", "1 := d/*.x\nf = $(wildcard $(1))\n" + PAIR % ("touch e/2.x a", "echo '$(call f,e/*.x)' > b"), {"e/1.x": "", "d/1.x": ""}),
     "folder_that_a_target_has_in_a_list": Small("race", "b: @D = e\n" + PAIR % ("touch e/2.x a", "echo '$(wildcard $(@D)/*.x)' > b"), {"e/1.x": ""}),
     "pattern_that_a_target_has_for_its_folder": Small("race", "b: @D = e/*\n" + PAIR % ("touch e/2.x a", "echo '$(wildcard $(@D).x)' > b"), {"e/1.x": ""}),
+    # targets that the data base shows in an odd way
+    "target_that_begins_like_a_remark": Small("no verdict", (PAIR % (SETS, "echo '$(X)' > '# b'")).replace("a b\n", "a \\#\\ b\n").replace("\nb:", "\n\\#\\ b:"), says="does not show the recipe of a target that ran: # b"),
+    "target_that_ends_in_a_colon": Small("no verdict", (PAIR % (SETS, "echo '$(X)' > b:")).replace("a b\n", "a b\\:\n").replace("\nb:", "\nb\\::"), says="does not show the recipe of a target that ran: b:"),
     # names with a colon that nobody can say
     "name_and_a_colon_that_is_sorted": Small("race", PAIR % (SETS, "echo '$(X$(sort :a=b)Y)' > b")),
     "name_and_a_colon_of_a_macro": Small("race", "colon := :\n" + PAIR % (SETS, "echo '$($(sort X$(colon)a=b)Y)' > b")),
@@ -215,7 +220,7 @@ class Values(unittest.TestCase):
 
     def steady(self, text: str, base: List[str], copies: int = 0) -> Steady:
         """That of a make which read one makefile and has a data base."""
-        words = SimpleNamespace(args="", flags="", rounds=[], copies_of=lambda name: ["M"] * copies)
+        words = SimpleNamespace(args="", flags="", environment=frozenset(), rounds=[], copies_of=lambda name: ["M"] * copies)
         make = SimpleNamespace(folder="/w", words=words, stale=[], never_read=lambda name: False, known_text={"M": text}.get)
         with mock.patch("record.make.macros.makefiles", return_value={"M"}):
             return Macros(cast(Make, make), read_base(base)).steady
@@ -244,6 +249,13 @@ class Values(unittest.TestCase):
         base = ["# Files", "a: s", "#  recipe to execute (from 'M', line 2):", "\tx", "\ty", ""]
         for text, line, wanted in (("a: s\n\tx\n\ty", 2, {"V"}), ("a: s\n\tx\n\ty", 3, {"V"}), ("a: s\n\tx\n\ty", 4, set()), ("a: s\n$(eval $(T))", 2, set()), ("\nV = x", 2, set())):
             self.assertEqual(wanted, self.steady(text, ["# makefile (from 'M', line %d)" % line, "V = 1", *base]).observed(), (text, line))
+
+    def test_who_sets_a_macro_in_a_way_that_nobody_knows(self) -> None:
+        recipes = ["# Files", "a: s", "#  recipe to execute (from 'M', line 2):", "\ttouch $(V)", "", "b: s", "#  recipe to execute (from 'M', line 3):", "\techo $(X)", ""]
+        macros = self.steady("x = $(eval Q := 1)\na: s ; touch $(V)\nb: s ; echo $(X)\n", ["# makefile (from 'M', line 2)", "X = 1", *recipes]).known
+        macros.make.words.rounds.append(cast(Round, SimpleNamespace(nodes=["a", "b"], must={}, vpath={})))
+        found = uses(macros)
+        self.assertEqual(({"X"}, {"X"}), (found.get("a", Use()).writes, found["b"].reads))
 
     def test_who_gave_a_value(self) -> None:
         base = read_base(["# makefile (from 'M', line 1)", "V := 1", "# 'override' directive (from 'N', line 2)", "W = 2", "# makefile private (from 'M', line 3)", "define L", "x", "endef", "%.o :", "# makefile (from 'M', line 9)", "# V := 3"])
