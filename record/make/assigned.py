@@ -8,7 +8,7 @@ from record.make.database import BEGINS, level
 from record.make.references import ANY, NAME, joined
 
 LINE = r"((?:[^\n]*\\\n)*[^\n]*)"  # of a makefile
-ASSIGNED = re.compile(r"(?<!" + NAME + ")(" + NAME + r"+?)[ \t]*(?:[+?!]|:{1,3})?=" + LINE)
+ASSIGNED = re.compile(r"(?<!" + NAME + ")(" + NAME + r"+?)[ \t]*([+?!]|:{1,3})?=" + LINE)
 ASSIGNED_TO_ANY = re.compile(r"(?:[)}]|\$\w)[\w.-]*[ \t]*(?:[+?!]|:{1,3})?=" + LINE)  # the same of a macro whose name another one gives
 LATE = re.compile(r"(?:[)}]|\$\w)([\w.-]*)[ \t]*(?:[+?]|:::)?=" + LINE)  # the same, where make works out the value when somebody asks for it
 PUT_TOGETHER = re.compile(r"\$[({](?:call[ \t]+)?[\w.-]*\$")  # a reference whose name another one gives
@@ -22,7 +22,13 @@ def assigned_in(text: str) -> List[Tuple[str, str]]:
     """What makefiles assign to macros: many makes may read the same ones."""
     lines = joined(text)
     defined = ((ANY if "$" in name else name, body) for name, body in defined_in(text))
-    return [*((one.group(1), one.group(2)) for one in ASSIGNED.finditer(lines)), *((ANY, one.group(1)) for one in ASSIGNED_TO_ANY.finditer(lines)), *defined]
+    return [*((name, value) for name, _, value in signed_in(text)), *((ANY, one.group(1)) for one in ASSIGNED_TO_ANY.finditer(lines)), *defined]
+
+
+@lru_cache(8)
+def signed_in(text: str) -> List[Tuple[str, str, str]]:
+    """The macros to which single lines assign something, each with the sign before the `=`, and with the value."""
+    return [(one.group(1), one.group(2) or "", one.group(3)) for one in ASSIGNED.finditer(joined(text))]
 
 
 @lru_cache(8)

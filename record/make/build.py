@@ -14,11 +14,11 @@ from record.make.folders import Events, add_folders
 from record.make.graph import Build, Graph, Node, Task, befores, drop_lonely, order_tasks
 from record.make.inner import add_inner
 from record.make.locks import pass_locks
-from record.make.macros import Macros, Use, uses
 from record.make.memory import libraries, place_listings, share_listings
 from record.make.owners import Make, Work
 from record.make.programs import are_inside
 from record.make.unfiled import add_macros, add_outputs, count_listings
+from record.make.used import macros_of
 from record.make.words import makefiles
 from record.tools.listed import fits
 from record.trace.events import AGE_SEEN, ASKS, CHANGES, CREATED, ENTERED, FOLDER_KEPT, FOLDER_REMOVED, LISTED, MAKES, REMOVED, WRITTEN
@@ -53,8 +53,7 @@ class Builder:
         self.aged: Dict[str, Set[int]] = {}  # name: who settles its age, as far as that was asked
         self.sources: Dict[str, List[Set[str]]] = {}  # name: those whose ages it may have
         self.holes: List[str] = []
-        self.known = Macros(make, self.graph.base)
-        self.macros: Dict[str, Use] = uses(self.known)
+        self.known, self.macros = macros_of(make, self.graph.base)
         self.works_late = self.known.works_late() or are_inside(self.graph.base, make.folder, names.tops)
 
     def path_of(self, name: str) -> str:

@@ -9,12 +9,13 @@ from record.make.references import NAME
 
 TARGET = re.compile(r"^(.*?)(::?)(?: (.*))?$")
 PLACE = re.compile(r"^#  recipe to execute \(from '(.*)', line (\d+)\):")
-ORIGIN = re.compile(r"# (?:makefile|environment(?: under -e)?|command line|default|automatic|'override' directive)(?: private)?(?: \(from '.*', line \d+\))?$")
+STEM = re.compile(r"^#  Implicit/static pattern stem: '(.*)'$")
+ORIGIN = re.compile(r"# (makefile|environment(?: under -e)?|command line|default|automatic|'override' directive)(?: private)?(?: \(from '(.*)', line (\d+)\))?$")
 VALUE = re.compile(r"^(" + NAME + r"*)(.*?) (?:=|:=|::=|:::=|\+=|\?=) ?(.*)$", re.A)  # its name up to a sign that names seldom have, and the rest of it
 LINES_TEXT = "$(lines)*"  # what stands for a macro of several lines
-BEGINS = r"[ \t]*(?:(?:override|export|private)[ \t]+)*define(?![\w.-])"  # a macro of several lines
+BEGINS = r"[ \t]*(?:(?:override|export|private)[ \t]+)*define(?![\w.-])(?![ \t]*(?:[+?!]|:{1,3})?=)"  # a macro of several lines, and not one that is called so
 LEVEL = re.compile(r"(?!\t)[ \t]*(?:(define)|endef)(?=[ \t]|$)")  # behind a tab it is a line of a recipe, and another word in front hides it
-LINES = re.compile(r"^define (" + NAME + r"*)(.*)", re.A)
+LINES = re.compile(r"^define (?![:+]?=)(" + NAME + r"*)(.*)", re.A)
 PATTERN = re.compile(r"^([^#\t:=]*%[^:=]*)(::?)(?!=) *(.*)$")
 NO_TARGET = "# Not a target:"
 BEHIND = "# variable set hash-table stats:"  # what follows the last macro
@@ -43,6 +44,7 @@ class Base:
     intermediate: Set[str] = field(default_factory=set)
     also: Dict[str, List[str]] = field(default_factory=dict)
     double: Dict[str, List[Colons]] = field(default_factory=dict)
+    stems: Dict[str, str] = field(default_factory=dict)  # of targets, where make knew one
     recipes: Dict[str, List[str]] = field(default_factory=dict)
     places: Dict[str, List[Tuple[str, int]]] = field(default_factory=dict)
     implicit: Set[str] = field(default_factory=set)
@@ -55,10 +57,12 @@ class Base:
     bodies: Dict[str, List[str]] = field(default_factory=dict)  # by macro: its lines, and its values for single targets and patterns
     scoped: Set[str] = field(default_factory=set)  # targets with macros of their own
     own: Set[str] = field(default_factory=set)  # macros of single targets and patterns
+    origins: Dict[str, Tuple[str, str, int]] = field(default_factory=dict)  # by macro: who gave it its value, and where: the makefile, and the line
     cut: Set[str] = field(default_factory=set)  # names of macros that go on
     serial: bool = False
     parts: List[str] = field(default_factory=list)  # which of its parts have begun
     is_unclear: bool = False  # a macro has lines that look like those of the data base
+    is_open: bool = False  # its last macro of several lines has no end, and may hide all else
 
     @cached_property
     def found_beside(self) -> Set[str]:
@@ -112,7 +116,8 @@ class _Files:
         if not text.startswith("#  "):
             return
         self.is_recipe = self.is_recipe or text.startswith("#  recipe to execute")
-        place = PLACE.match(text)
+        place, stem = PLACE.match(text), STEM.match(text)
+        base.stems.update({self.name: stem.group(1)} if stem and self.name else {})
         if place and self.name:
             base.places.setdefault(self.name, []).append((place.group(1), int(place.group(2))))
             for rule in base.double.get(self.name, [])[-1:]:
@@ -167,6 +172,11 @@ def own_value(base: Base, text: str, line: str) -> None:
         base.own.add(value.group(1))
 
 
+def with_signs(text: str) -> str:
+    """The line of a pattern's macro, also as makefiles may have it: make shows it as one that was worked out at once, with each sign twice, whatever it is."""
+    return text + " " + text.replace("$$", "$") if "$$" in text else text
+
+
 class _Macros:
     """The part of the data base that lists macros."""
 
@@ -187,6 +197,7 @@ class _Macros:
             self.body(text) if self.depth else None
         elif ORIGIN.match(previous):
             self.macro(text)
+            self.from_where(text, previous)
         elif self.goes_on and not is_behind:  # make shows a value with ends of lines as it is
             self.body(text)
         else:
@@ -202,7 +213,7 @@ class _Macros:
             self.name = lines.group(1)
             self.base.values.update({self.name: LINES_TEXT} if not lines.group(2) else {})
         elif value is None:
-            own_value(self.base, text[2:], text)
+            own_value(self.base, text[2:], with_signs(text))
         elif value.group(2):
             self.name = value.group(1)
             self.base.cut.add(self.name)
@@ -210,6 +221,12 @@ class _Macros:
         else:
             self.name = value.group(1)
             self.base.values[self.name] = value.group(3)
+
+    def from_where(self, text: str, remark: str) -> None:
+        """Who gave a macro its value that holds for all targets, by the line above it."""
+        found = ORIGIN.match(remark)
+        if found is not None and not text.startswith("# ") and (LINES.match(text) or VALUE.match(text)):
+            self.base.origins[self.name] = found.group(1), found.group(2) or "", int(found.group(3) or 0)
 
     def body(self, text: str) -> None:
         """A line of the last macro."""
@@ -256,4 +273,5 @@ def read_base(lines: List[str]) -> Base:
             pattern_rule(base, text)
             macros.line(text, previous)
         previous = text
+    base.is_open = macros.depth > 0
     return base

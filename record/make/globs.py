@@ -21,8 +21,8 @@ REFERENCE = re.compile(r"\$(?:\(([\w.-]+)(?::[^$(){}*?\[]*)?\)|\{([\w.-]+)(?::[^
 COMPUTED = re.compile(r"\$(?:\(([\w.-]*)\$(?:\(([\w.-]+)\)|\{([\w.-]+)\}|(\w))([\w.-]*)\)|\{([\w.-]*)\$(?:\(([\w.-]+)\)|\{([\w.-]+)\}|(\w))([\w.-]*)\})")  # a name with one macro in it
 # What gives a value to a name of a target or to an argument: a loop over such a name, or one that is computed, and an assignment.
 BOUND = re.compile(r"\$[({](?:foreach|let)[ \t]+(?:[^,\n]*[^\w.,\s-]|(?:[^,\n]*\s)?\d)[^,\n]*,"
-                   r"|(?m:^)(?!\t)(?:[^\n;#=]*:)?[ \t]*(?:(?:override|export|private|define)[ \t]+)*(?:\d+|[@<^+*?|%])[ \t]*(?:[+?!]|::?:?)?="
-                   r"|(?m:^)[ \t]*(?:(?:override|export|private)[ \t]+)*define[ \t]+(?:\d+|[@<^+*?|%])[ \t]*(?:[+?!]|::?:?)?\n")
+                   r"|(?m:^)(?!\t)(?:[^\n;#=]*:)?[ \t]*(?:(?:override|export|private|define)[ \t]+)*(?:\d+|[@<^+*?|%][DF]?)[ \t]*(?:[+?!]|::?:?)?="
+                   r"|(?m:^)[ \t]*(?:(?:override|export|private)[ \t]+)*define[ \t]+(?:\d+|[@<^+*?|%][DF]?)[ \t]*(?:[+?!]|::?:?)?\n")
 # What calls `eval`, or may hand its name to `call`. A shell's own `eval` stands in a recipe, and files may be called eval.c.
 WORD_EVAL = r"(?<![\w./+-])eval(?![\w./+-])"
 EVALS = re.compile(r"[({,]\s*eval[\s\\,)}]|[({]call\s+eval\b|" + WORD_EVAL + r"[ \t]*[,)}]|(?m:^)(?:(?!\t)|\t[ \t]*(?:override|export|private|define|[\w.-]+[ \t]*(?:[+?!]|::?:?)?=))[^\n]*?" + WORD_EVAL)

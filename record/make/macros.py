@@ -1,18 +1,20 @@
 """Macros that recipes change with `$(eval ..)`: make's own memory, by which one recipe can see another."""
 
 import re
-from dataclasses import dataclass, field, replace
+from dataclasses import dataclass, field
 from functools import cached_property
 from typing import Dict, FrozenSet, Iterable, Iterator, List, NamedTuple, Optional, Set, Tuple
 
 from record.make.assigned import assigned_in, late_in, without_printed
 from record.make.database import LINES_TEXT, Base
+from record.make.expansion import Answers
 from record.make.exports import ALONE, WORD, Exports
 from record.make.globs import composes
 from record.make.idle import idle_in
 from record.make.kept import Kept, bound_in
 from record.make.owners import Make
-from record.make.references import ANY, COMPUTED, EVAL, SECOND, Eval, end_of, evals, joined, matching, named, outermost, read_again, with_functions
+from record.make.references import ANY, COMPUTED, EVAL, FILES, SECOND, Eval, end_of, evals, joined, matching, named, outermost, read_again, with_functions
+from record.make.steady import IMPLIED, Steady
 from record.make.words import makefiles
 
 UNNAMED = "\x01"  # stands for all texts of macros that nobody can name: each macro that recipes change may have any of them
@@ -20,19 +22,17 @@ CHANGES = ("eval", "guile")  # functions of make that change macros
 LOOP = re.compile(r"\$\(foreach[ \t]+([\w.-]+),[ \t]*\$\(([\w.-]+)\)[ \t]*,")  # over the words of one macro
 # What puts words together, or brings others: what they come to stands in no text.
 MAKES = re.compile(r"\$[({](?:(?:pat)?subst|join|addprefix|addsuffix|shell|file|basename|notdir|dir|suffix)[ \t]|\$[({][\w.-]+:[^=]*=")
-COLON = re.compile(r"(?<![^\s,=])([\w.+-]+):(?=[^\s=:])")
+COLON = re.compile(r"(?<![^\s,=])([\w.+-]*):(?=[^\s=:])")
+COLON_ALONE = re.compile(r":\S*|[\w.+-]*:")  # what makes a name of the word in which it is
+COLON_BEHIND = re.compile(r"(?<![^\s,=])(?:[\w.+-]|\$\w|\$\([^()\s]*\)|\$\{[^{}\s]*\})+:[^\s=:]\S*=")  # a word that begins with another macro
 FIRM = re.compile(r"\boverride[ \t]+(?:(?:export|private|define)[ \t]+)*([^\s:+?!=]+)")
 BARE = re.compile(r"(?<![({\w-])(?:eval|guile)\b")  # its name where nothing calls it
 # Macros of a recipe, and functions: these have one line, if their words do.
-NO_MACRO = re.compile(r"[@<^+*?|%][DF]?|\W?|(?:pat)?subst|strip|findstring|filter(?:-out)?|sort|words?|wordlist|firstword|lastword|(?:not)?dir|suffix|basename|addsuffix"
+NO_MACRO = re.compile(r"[@<^+*?%][DF]|\W?|(?:pat)?subst|strip|findstring|filter(?:-out)?|sort|words?|wordlist|firstword|lastword|(?:not)?dir|suffix|basename|addsuffix"
                       r"|addprefix|join|wildcard|realpath|abspath|if|or|and|intcmp|foreach|let|file|eval|error|warning|info|shell")
-FILES = re.compile(r"\$[({](?:call[ \t]+)?file[ \t,]*<")  # what reads the lines of a file
 # A line of a makefile that is a rule: what stands behind its colon, up to a recipe on the same line.
 RULE = re.compile(r"(?m)^(?!\t)[^\n=#]*?:(?![:=])((?:[^\n;#=]*\\\n)*[^\n;#]*)")
 ACTS = re.compile(r"\$[({](?:call[ \t]+)?(?:shell|eval|file|wildcard|realpath)[ \t,]")  # what makes a value by way of the disk, or of other macros
-# What each recipe asks for without a word: macros that make itself reads.
-IMPLIED = frozenset(("SHELL", ".SHELLFLAGS", "MAKEFLAGS", "MFLAGS", "GNUMAKEFLAGS", "MAKEOVERRIDES", "MAKE", "VPATH", "GPATH", ".LIBPATTERNS", "MAKEFILES", "MAKELEVEL",
-                     "MAKE_TERMOUT", "MAKE_TERMERR"))
 
 
 @dataclass
@@ -73,9 +73,10 @@ class Macros:
         self.read_twice: Dict[str, bool] = {}
         self.changed: Set[str] = set()  # those that recipes change
         self.given: Dict[str, List[str]] = {}
-        self.exports, self.kept = Exports(self), Kept(self)
+        self.exports, self.kept, self.steady = Exports(self), Kept(self), Steady(self)
         self.with_lines: Dict[str, bool] = {}
         self.acts: Dict[str, Act] = {}
+        self.answers = Answers(self)
 
     @cached_property
     def idle(self) -> Set[str]:
@@ -90,12 +91,20 @@ class Macros:
         for name, value in [*assigned_in(self.text), *((name, "\n".join(lines)) for name, lines in self.base.bodies.items())]:
             found.setdefault(name, []).append(value)
         found.pop(ANY, None)
-        late = [(end, value) for end, value in late_in(self.text) if EVAL.search(value) or COMPUTED.search(value)]
-        names = {*found, *(name for text in [*self.base.values.values(), *map("\n".join, self.base.recipes.values())] for name in named(text))} if late else ()
+        names = {*found, *(name for text in [*self.base.values.values(), *map("\n".join, self.base.recipes.values())] for name in named(text))} if self.late else ()
         for name in names:  # such a macro may give itself another value, which alone is left, or none
-            values = [value for end, value in late if name.endswith(end) and not NO_MACRO.fullmatch(name)]
+            values = self.late_of(name)
             found.update({name: found.get(name, []) + values} if values else {})
         return {name: list(map(with_functions, values)) for name, values in found.items()}
+
+    @cached_property
+    def late(self) -> List[Tuple[str, str]]:
+        """What makefiles assign to names that are put together, if it may set macros when somebody asks for it."""
+        return [(end, value) for end, value in late_in(self.text) if EVAL.search(value) or COMPUTED.search(value)]
+
+    def late_of(self, name: str) -> List[str]:
+        """Such texts that a macro may have."""
+        return [value for end, value in self.late if name.endswith(end) and not NO_MACRO.fullmatch(name)]
 
     @property
     def names(self) -> Set[str]:
@@ -139,7 +148,7 @@ class Macros:
             return False
         self.changed, self.given = changed, given
         self.named, self.ways, self.read_twice, self.whole_texts = {}, {}, {}, {}
-        self.exports, self.kept, self.with_lines, self.acts = Exports(self), Kept(self), {}, {}
+        self.exports, self.kept, self.with_lines, self.acts, self.answers = Exports(self), Kept(self), {}, {}, Answers(self)
         for name in ("handed_on", "names_eval", "rule_texts", "rule_words", "some_have_lines"):
             self.__dict__.pop(name, None)  # they are worked out anew
         return True
@@ -223,14 +232,21 @@ class Macros:
     def fitting(self, pattern: str) -> List[str]:
         """The macros that a pattern fits. What stands for a `*` may have a colon or a blank, and then what stands behind it says nothing of a name."""
         head, _, tail = pattern.partition("*")
-        if tail.strip("*") and self.has_colons:
+        if tail.strip("*") and (self.has_colons or any(head + one in self.texts for one in self.before_colons)):
             return [name for name in self.texts if name.startswith(head)]
         return matching(self.texts, pattern) + [name for name in self.base.cut if tail and name.startswith(head)]
 
     @cached_property
+    def before_colons(self) -> Set[str]:
+        """What words of texts have in front of a colon: `X:s=` in a reference changes the value of X."""
+        return {found.group(1) for text in self.all_texts() for found in COLON.finditer(text)}
+
+    @cached_property
     def has_colons(self) -> bool:
-        """Whether a word of some text is the name of a macro with a colon behind it: `X:s=` in a reference changes the value of X."""
-        return any(found.group(1) in self.texts for text in self.all_texts() for found in COLON.finditer(text))
+        """Whether that is the name of a macro, or other macros give it; or the colon is a macro in a word."""
+        ends = "|".join(re.escape(name) for name, values in self.texts.items() if any(map(COLON_ALONE.fullmatch, values)))
+        in_word = re.compile(r"[\w)}]\$[({](?:%s)[)}]|\$[({](?:%s)[)}][\w.%%$]" % (ends, ends))
+        return bool(ends) and any(map(in_word.search, self.all_texts())) or not self.before_colons.isdisjoint(self.texts) or any("$" in one for text in self.all_texts() for one in COLON_BEHIND.findall(text))
 
     def named_in(self, text: str, again: bool) -> FrozenSet[str]:
         """The macros that a text refers to, also where it is read again."""
@@ -283,7 +299,7 @@ class Macros:
 
     def reached_from(self, start: str) -> Set[str]:
         """A macro, and all that it refers to, also by way of others."""
-        return {start} | self.reached("$(%s)" % start)
+        return {start, *self.answers.of("$(%s)" % start)}
 
     def is_exported(self, name: str) -> bool:
         """Whether each process of a recipe finds a macro in its environment, or make itself reads it for each recipe."""
@@ -293,7 +309,7 @@ class Macros:
     def handed_on(self) -> Set[str]:
         """The exported macros, and all macros that their values refer to, also by way of others: make works these out for each recipe."""
         found = {name for name in self.texts if self.is_exported(name)}
-        return found.union(*map(self.reached_from, found), self.reached("\n".join(self.exports.texts)))
+        return found.union(*map(self.reached_from, found), self.answers.of("\n".join(self.exports.texts)))
 
     def works_late(self) -> bool:
         """Whether make may do something when it works out the exported macros of a recipe, or find others in them: that comes when the recipe
@@ -326,6 +342,9 @@ class Macros:
 
     def use(self, text: str, is_one: bool = True) -> Use:
         """What expanding a recipe reads and writes; `is_one`: make expands all lines at once, as those of a target with two colons may belong to several rules."""
+        exact = self.answers.sure(text)
+        if exact is not None:
+            return Use({*exact})
         found, text = Use(), with_functions(text)
         own, sure = list(self.evals(text)), outermost(text)
         found.reads = {*self.reached(text)}
@@ -365,31 +384,3 @@ class Macros:
 def may_change(text: str) -> bool:
     """Whether a text may call a function that changes macros."""
     return any(one in text or composes(text, one) for one in CHANGES)
-
-
-def uses(macros: Macros) -> Dict[str, Use]:
-    """For each target whose recipe takes part: what its recipe does with the macros that some recipe changes."""
-    base = macros.base
-    if not macros.is_used:
-        return {}
-    found, changed = all_uses(macros)
-    while macros.learn(changed):  # what a macro is for a while may change others
-        found, changed = all_uses(macros)
-    exported = {name for name in changed if name != ANY and (macros.is_exported(name) or name in macros.handed_on)}
-    for use in found.values():
-        patterns = [name for name in use.reads if "*" in name]
-        fitting = {name for one in patterns for name in (*matching(changed, one), *macros.fitting(one))}
-        use.reads = set(changed) if ANY in changed else (use.reads | fitting) & changed | exported
-    wanted = {name for use in found.values() for name in use.reads}
-    for use in found.values():
-        use.writes = use.writes & wanted
-    return {name: use for name, use in found.items() if use.reads or use.writes or use.keeps}
-
-
-def all_uses(macros: Macros) -> Tuple[Dict[str, Use], Set[str]]:
-    """For each recipe, what it does with macros, as far as is known by now which macros recipes change; and which these are."""
-    implied = macros.implied()
-    texts = {name: ("\n".join(lines), name not in macros.base.double) for name, lines in macros.base.recipes.items() if name not in macros.idle}
-    known = {text: macros.use(*text).joined(implied) for text in {*texts.values()}}  # a rule may serve many targets
-    found = {name: replace(known[text]) for name, text in texts.items()}
-    return found, macros.changed.union(*(use.writes for use in found.values()))

@@ -65,7 +65,7 @@ def own_folders(builder: "Builder", node: Node) -> Optional[Set[str]]:
     """The folders that a target's recipe lists by `wildcard`; None where nobody can say which."""
     base, known = builder.graph.base, builder.known
     text = "\n".join(base.recipes.get(node.name, ()))
-    if ".SECONDEXPANSION" in base.prerequisites or any(may_list(known, one) for one in (text, *map(known.text_of, known.reached(text)))):
+    if ".SECONDEXPANSION" in base.prerequisites or any(may_list(known, one) for one in (text, *map(known.text_of, known.answers.of_recipe(node.name)))):
         return None
     return folders_listed(known, builder.names, node)
 
@@ -126,15 +126,16 @@ def words_asked(known: Macros, node: Node) -> Optional[List[str]]:
     """The words of `wildcard` in the recipe of a target; None where nobody can say them."""
     base = known.base
     text = "\n".join(base.recipes.get(node.name, ()))
-    reached = known.reached(text)
+    reached = known.answers.of_recipe(node.name)
     texts = [text, *map(known.text_of, reached)]
     calls = [call for one in texts for call in arguments(one)]
     if ANY in reached or composes("\n".join(texts), "wildcard") or sum(one.count("wildcard") for one in texts) > len(calls) or None in calls or BOUND.search("\n".join(texts)):
         return None
     own = [with_target(call or "", node.name) for call in calls]
-    if not known.reached("\n".join(own)).isdisjoint({*base.bodies, *(name for one in texts for name in looped(one))}):
+    if "@D" in base.bodies or not known.reached("\n".join(own)).isdisjoint({*base.bodies, *(name for one in texts for name in looped(one))}):
         return None  # a macro has another value for some targets, or in a loop
-    words = [word for one in own for word in with_values(one, base.values).split()]
+    values = {name: value for name, value in base.values.items() if not name.isdigit()}  # such a name may stand for a word of a call
+    words = [word for one in own for word in with_values(one, values).split()]
     if any("$" in one for one in own) and known.changed or any(UNCLEAR.search(word) or MAGIC.search(os.path.dirname(word)) for word in words):
         return None
     return words

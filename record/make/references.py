@@ -22,6 +22,7 @@ ENDS = " \t\n:=#,(){}"  # signs before which we cut a name: what stands behind t
 PLAIN = re.compile("[^$" + re.escape(ENDS) + "]+")
 NAME = r"[^\s:=#,(){}$]"  # one of any other signs
 SETS = re.compile(r"[ \t]*(?:override[ \t]+|export[ \t]+)*([\w.-]+)[ \t]*(\+|\?|!|:{0,3})=")
+FILES = re.compile(r"\$[({](?:call[ \t]+)?file[ \t,]*<")  # what reads the lines of a file
 BRACKETS = {"(": re.compile("[()]"), "{": re.compile("[{}]")}
 ANY = "*"  # macros that nobody can name
 

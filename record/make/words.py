@@ -309,7 +309,10 @@ def take_base(words: Words, lines: List[str]) -> None:
     hole = base_hole(lines, found)
     if hole:
         words.holes.append("the data base of a make %s: make %s" % (hole, words.args))
+    words.holes += ["the data base of a make has a macro of several lines without an end: make " + words.args] if found.is_open else []
     for one in words.rounds:
+        unread = next((job.target for job in one.jobs if one.base is None and job.target not in found.recipes), None)
+        words.holes += ["the data base of a make does not show the recipe of a target that ran: " + unread] if unread is not None else []
         one.base = one.base or found
 
 

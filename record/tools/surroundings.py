@@ -10,10 +10,10 @@ from typing import Dict, Iterator, List, Optional, Sequence, Set, Tuple
 
 from record.make.database import BEGINS, Base
 from record.make.globs import composes, with_values
-from record.make.macros import CHANGES, FILES
+from record.make.macros import CHANGES
 from record.make.owners import Owners
 from record.make.references import ANY as ANY_MACRO
-from record.make.references import COMPUTED, evals, with_functions
+from record.make.references import COMPUTED, FILES, evals, with_functions
 from record.make.words import Words, makefiles
 from record.tools import shelltext
 from record.tools.scriptcut import ScriptCutter

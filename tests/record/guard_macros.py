@@ -2,7 +2,7 @@
 
 from typing import List
 
-from guard_table import FALSE_RACE, LOST_HOLE, UNSAID, YES, Guard
+from guard_table import COARSE, FALSE_RACE, LOST_HOLE, UNSAID, YES, Guard
 
 
 def macro(name: str) -> str:
@@ -16,9 +16,10 @@ def text(name: str) -> str:
 
 
 REFERENCES, MACROS, BASE, ASSIGNED = "make/references.py", "make/macros.py", "make/database.py", "make/assigned.py"
-EXPORTS, KEPT, UNFILED = "make/exports.py", "make/kept.py", "make/unfiled.py"
+EXPORTS, KEPT, UNFILED, USED = "make/exports.py", "make/kept.py", "make/unfiled.py", "make/used.py"
 # What turns off what is known of macros whose names are put together: they may be what they were when make has ended.
 LATE = (MACROS, "if name.endswith(end) and", "if False and")
+SEEN = (USED, "    if seen:\n", "    if False:\n")  # where the data base shows that a recipe has changed one
 
 MACRO_GUARDS: List[Guard] = [
     Guard("eval: what it reads a second time", REFERENCES, 'SECOND = re.compile(EVAL.pattern + "|" + ', "SECOND = re.compile(", macro("macro_behind_two_signs_that_eval_gets"), YES),
@@ -29,15 +30,15 @@ MACRO_GUARDS: List[Guard] = [
     Guard("eval: texts that are read many times", REFERENCES, 'SIGNS.sub("$", text)', 'text.replace("$$", "$")', macro("macro_behind_four_signs"), YES),
     Guard("eval: lists that get there as words of a loop", MACROS, "self.reached_by(self.named_in(text, True), True) if", "self.reached_by(self.named_in(text, True), False) if", macro("macro_in_a_list_for_eval"), YES),
     Guard("eval: arguments", MACROS, "self.reached_by(self.named_in(text, True), True) if", "self.reached_by(self.named_in(text, False), True) if", macro("macro_as_an_argument_for_eval"), YES),
-    Guard("eval: texts that are read once", MACROS, "is_again = SECOND", 'is_again = "$" in text or SECOND', macro("macro_behind_two_signs_that_is_read_once"), FALSE_RACE),
+    Guard("eval: texts that are read once", MACROS, "is_again = SECOND", 'is_again = "$" in text or SECOND', macro("macro_behind_two_signs_that_is_read_once"), FALSE_RACE, COARSE),
     Guard("eval: what it gives a macro for a while", MACROS, "found.setdefault(one.name, []).append(text[one.start + 1:one.end])", "pass", macro("macro_that_asks_for_another_for_a_while"), YES),
     Guard("eval: macros that it gives another one for a while", MACROS, "given = [*self.given.get(name, ()), *", "given = [*", macro("macro_that_sets_another_for_a_while"), YES),
     Guard("eval: what macros are that nobody can name", MACROS, "if self.given.get(ANY) else ())]", "if False else ())]", macro("macro_of_a_computed_name_for_a_while"), YES, LATE),
     Guard("eval: what macros are while nobody changes them", MACROS, "is_changed = ANY in self.changed or name in self.changed", "is_changed = ANY in self.changed", macro("macro_that_asks_for_another_for_a_while"), YES),
     Guard("eval: assignments to computed names", ASSIGNED, "*((ANY, one.group(1)) for one in ASSIGNED_TO_ANY.finditer(lines)), ", "", macro("macro_of_a_makefile_for_a_while"), YES, LATE),
-    Guard("eval: values of computed names", MACROS, "[value for end, value in late if name.endswith(end)", "[value for end, value in late if False", macro("macro_of_a_computed_name_that_sets_itself"), YES),
+    Guard("eval: values of computed names", MACROS, "[value for end, value in self.late if name.endswith(end)", "[value for end, value in self.late if False", macro("macro_of_a_computed_name_that_sets_itself"), YES, SEEN),
     Guard("eval: names that are gone", MACROS, "names = {*found, *(name for text", "names = {*found, *(name for text in () for text", macro("macro_of_a_computed_name_that_removes_itself"), YES),
-    Guard("eval: lines of computed names", ASSIGNED, ", *((end.group(1) if end else \"\", body) for end, body in defined)]", "]", macro("macro_of_lines_and_a_computed_name_that_sets_itself"), YES),
+    Guard("eval: lines of computed names", ASSIGNED, ", *((end.group(1) if end else \"\", body) for end, body in defined)]", "]", macro("macro_of_lines_and_a_computed_name_that_sets_itself"), YES, SEEN),
     Guard("eval: the ends of computed names", MACROS, "if name.endswith(end)", "if True", macro("macro_beside_one_of_a_computed_name"), FALSE_RACE),
     Guard("eval: values that are worked out at once", ASSIGNED, "(?:[+?]|:::)?=\" + LINE", "(?:[+?]|:{1,3})?=\" + LINE", macro("macro_of_a_computed_name_that_is_worked_out_at_once"), FALSE_RACE),
     Guard("eval: what a yes says of it", UNFILED, "if builder.known.is_used:", "if False:", macro("macro_of_a_computed_name_that_is_worked_out_at_once"), UNSAID),
@@ -53,11 +54,11 @@ MACRO_GUARDS: List[Guard] = [
     Guard("data base: macros of lines that hold others", BASE, "return 0 if found is None else 1 if found.group(1) else -1", "return 0 if found is None or found.group(1) else -1", macro("macro_of_lines_in_another_one"), YES,
           (BASE, "            self.goes_on = not self.depth\n", "            self.goes_on = False\n")),
     Guard("data base: values of several lines", BASE, "elif self.goes_on and not is_behind", "elif False", macro("macro_of_lines_that_were_worked_out"), YES),
-    Guard("eval: recipes of targets that nobody asks for", MACROS, " if name not in macros.idle}", "}", macro("macro_of_a_recipe_that_nobody_asks_for"), FALSE_RACE),
+    Guard("eval: recipes of targets that nobody asks for", USED, " if name not in macros.idle}", "}", macro("macro_of_a_recipe_that_nobody_asks_for"), FALSE_RACE),
     Guard("eval: recipes of targets that somebody asks for", MACROS, "places = idle_in(self.base, {name for one in self.make.words.rounds for name in (*one.nodes, *one.must, *one.vpath.values())})",
           "places = idle_in(self.base, set())", macro("macro_of_a_recipe_that_somebody_asks_for"), YES),
     Guard("names: the stem of a rule", REFERENCES, 'STEM.sub("$@", ', 'STEM.sub(" ", ', macro("macro_by_the_stem_of_a_rule"), YES),
-    Guard("names: the stem by itself", REFERENCES, 'STEM.sub("$@", text.replace("$$", "  "))', 'text.replace("$$", "  ")', macro("macro_by_the_stem_of_a_rule_that_sets_none"), FALSE_RACE),
+    Guard("names: the stem by itself", REFERENCES, 'STEM.sub("$@", text.replace("$$", "  "))', 'text.replace("$$", "  ")', macro("macro_by_the_stem_of_a_rule_that_sets_none"), FALSE_RACE, COARSE),
     Guard("eval: one sweep over macros", MACROS, "                seen |= todo\n", "                seen |= {*todo}\n                [self.reached_by({name}, again) for name in todo if len(seen) > 1]\n", "test_macros.Sweeps.test_macros_in_a_row"),
     Guard("eval: what many macros may be", MACROS, "return self.given.get(ANY, []) if name == UNNAMED else [*known", "return [*self.given.get(ANY, []), *known", "test_macros.Sweeps.test_macros_that_may_be_any_text"),
     Guard("data base: what a macro of a target gets besides", BASE, "|\\+=|\\?=)", ")", macro("macro_of_a_target_that_gets_more"), YES),
@@ -68,13 +69,13 @@ MACRO_GUARDS: List[Guard] = [
     Guard("names: signs of patterns", REFERENCES, 'map(re.escape, pattern.split("*"))', 'pattern.split("*")', macro("macro_whose_name_has_brackets_of_a_pattern"), YES),
     Guard("eval: what override sets", MACROS, "not self.firm & {one.name, ANY}", "True", macro("macro_that_override_sets"), YES),
     Guard("eval: other macros that override sets", MACROS, "not self.firm & {one.name, ANY}", "not self.firm", macro("macro_beside_one_that_override_sets"), FALSE_RACE),
-    Guard("eval: rules with two colons", MACROS, ", name not in macros.base.double)", ", True)", macro("macro_of_two_rules_with_two_colons"), YES),
+    Guard("eval: rules with two colons", USED, ", name not in base.double)", ", True)", macro("macro_of_two_rules_with_two_colons"), YES),
     Guard("eval: whether it works out what it adds", MACROS, "is_read = one.is_added and", "is_read = False and", macro("macro_that_gets_more_by_its_flavor"), YES),
     Guard("eval: what it adds without references", MACROS, 'one.is_added and any("$$" in part', 'one.is_added and any(True', macro("macro_that_gets_more"), FALSE_RACE),
     Guard("eval: arguments of or that have several lines", MACROS, "names = self.reached(text)\n        is_open", "names = self.reached_by(named(text), False)\n        is_open", macro("eval_of_lines_that_or_hands_on"), YES),
     Guard("eval: lines behind two backslashes", MACROS, 'any("\\n" in joined(one) or', 'any("\\n" in one.replace("\\\\\\n", " ") or', macro("eval_of_a_line_with_two_backslashes"), YES),
     Guard("eval: templates that assign a macro", MACROS, "if is_changed and self.is_evaluated else ()", "if False else ()", macro("macro_of_a_template_for_a_while"), YES),
-    Guard("eval: assignments of two lines", ASSIGNED, "lines = joined(text)", "lines = text", macro("assignment_of_two_lines"), YES),
+    Guard("eval: assignments of two lines", ASSIGNED, "for one in ASSIGNED.finditer(joined(text))]", "for one in ASSIGNED.finditer(text)]", macro("assignment_of_two_lines"), YES),
     Guard("eval: what programs print", UNFILED, 'builder.assumed.add("handed", node.name)', "pass", macro("text_of_a_program_that_eval_reads")),
     Guard("eval: what programs print, by or", UNFILED, 'builder.assumed.add("handed", node.name)', "pass", macro("text_of_a_program_that_or_reads")),
     Guard("eval: what programs print, and make reads once", UNFILED, '.replace("$$", "  ") for part in parts', " for part in parts", macro("text_of_a_program_that_is_read_once")),
@@ -91,20 +92,21 @@ MACRO_GUARDS: List[Guard] = [
     Guard("kept: shown by a function", KEPT, "not self.is_looked_at(name) and all(", "all(", macro("kept_and_shown_by_a_function"), YES),
     Guard("kept: words of a shell", KEPT, 'text.replace("$$", "$").replace("$$", "  ")', 'text.replace("$$", "$")', macro("kept_word_of_awk"), FALSE_RACE),
     Guard("kept: remarks", KEPT, '.partition("#")[0].strip()', ".strip()", macro("kept_with_braces_and_a_remark"), FALSE_RACE),
-    Guard("loops: over arguments", MACROS, "if name.isdigit() or self.bound", "if self.bound", macro("loop_over_an_argument"), YES),
-    Guard("loops: over macros of others", MACROS, "if name.isdigit() or self.bound & {name, ANY}:", "if name.isdigit():", macro("loop_over_a_macro_of_a_loop"), YES),
-    Guard("loops: over macros of others with computed names", MACROS, "self.bound & {name, ANY}:", "self.bound & {name}:", macro("loop_over_a_macro_of_a_computed_loop"), YES),
-    Guard("loops: behind two signs", MACROS, "and is_loop and not re.search", "and not re.search", macro("loop_behind_two_signs"), YES),
+    Guard("loops: over arguments", MACROS, "if name.isdigit() or self.bound", "if self.bound", macro("loop_over_an_argument"), YES, COARSE),
+    Guard("loops: over macros of others", MACROS, "if name.isdigit() or self.bound & {name, ANY}:", "if name.isdigit():", macro("loop_over_a_macro_of_a_loop"), YES, COARSE),
+    Guard("loops: over macros of others with computed names", MACROS, "self.bound & {name, ANY}:", "self.bound & {name}:", macro("loop_over_a_macro_of_a_computed_loop"), YES, COARSE),
+    Guard("loops: behind two signs", MACROS, "and is_loop and not re.search", "and not re.search", macro("loop_behind_two_signs"), YES, COARSE),
     Guard("functions: names that are put together by others", MACROS, " or any(map(self.makes_name, self.all_texts()))", "", macro("function_whose_name_is_put_together"), YES),
     Guard("functions: names that are nowhere", MACROS, "self.is_used or any(COMPUTED.search(text) for text in texts)", "self.is_used or False", macro("function_that_a_file_names"), YES),
     Guard("functions: of exported macros", MACROS, "if EVAL.search(self.text_of(name)) or COMPUTED.search(self.text_of(name))}", "if EVAL.search(self.text_of(name))}", macro("function_of_an_exported_macro"), YES),
+    Guard("assignments: a macro that is called define", BASE, '(?![ \\t]*(?:[+?!]|:{1,3})?=)"', '"', macro("macro_of_lines_for_a_while_behind_one_that_is_called_define"), YES),
     Guard("data base: lines behind a tab", BASE, 'LEVEL = re.compile(r"(?!\\t)', 'LEVEL = re.compile(r"', macro("macro_of_lines_for_a_while_with_a_tab"), YES),
     Guard("data base: lines behind the last one", BASE, "self.goes_on = not self.depth", "self.goes_on = False", macro("macro_of_lines_with_a_tab"), YES, (BASE, 'LEVEL = re.compile(r"(?!\\t)', 'LEVEL = re.compile(r"')),
     Guard("data base: lines that go on", BASE, "LEVEL.match(text) if not is_continued(previous) else None", "LEVEL.match(text)", text("lines_that_go_on")),
     Guard("data base: remarks in lines", BASE, "elif self.goes_on and not is_behind", 'elif self.goes_on and not text.startswith("#")', macro("macro_of_lines_with_a_remark"), YES),
     Guard("data base: lines in no pairs", BASE, 'if self.depth and previous == "endef" and is_behind:', "if False:", text("lines_that_are_in_no_pairs")),
     Guard("names: with a star", MACROS, ', *self.named_in(self.text_of(name), again)}', ', *(() if "*" in name else self.named_in(self.text_of(name), again))}', macro("macro_whose_name_has_a_star"), YES),
-    Guard("names: with a colon in another macro", MACROS, 'if tail.strip("*") and self.has_colons:', "if False:", macro("macro_by_a_name_with_a_colon_in_another"), YES),
+    Guard("names: with a colon in another macro", MACROS, 'if tail.strip("*") and (self.has_colons or any(', "if False and (any(", macro("macro_by_a_name_with_a_colon_in_another"), YES, COARSE),
     Guard("names: with a blank in another macro", MACROS, " + [name for name in self.base.cut if tail and name.startswith(head)]", "", macro("macro_by_a_name_with_a_blank_in_another"), YES),
     Guard("lines: even numbers of backslashes", REFERENCES, r"(?<!\\)((?:\\\\)*)\\\n[ \t]*", r"()\\\n[ \t]*", text("lines_of_makefiles")),
     Guard("eval: numbers that are compared", REFERENCES, "(?:foreach|let|if|or|and|intcmp)", "(?:foreach|let|if|or|and)", text("functions_that_read_a_text_again")),
@@ -123,7 +125,7 @@ MACRO_GUARDS: List[Guard] = [
     Guard("exports: of a shell", EXPORTS, "first = ENDS.split(text)[0]", "first = text", macro("export_of_a_shell"), FALSE_RACE),
     Guard("exports: quotes of a shell", EXPORTS, "[;&|'\\\"]", "[;&|]", macro("export_of_a_shell_with_quotes"), FALSE_RACE),
     Guard("exports: words of make in a makefile", EXPORTS, "(*self.words_of_make, *flags)", "self.words_of_make", macro("macro_among_the_words_of_make_in_a_makefile"), YES),
-    Guard("exports: MAKEFILES", MACROS, '"MAKEFILES", ', "", macro("makefiles_that_a_recipe_sets"), YES),
+    Guard("exports: MAKEFILES", "make/steady.py", '"MAKEFILES", ', "", macro("makefiles_that_a_recipe_sets"), YES),
     Guard("copies: makefiles that are written again", "make/wrapper.py", "self.copies.add(packet, self.log)", "pass", macro("macro_of_a_makefile_that_is_written_again"), FALSE_RACE),
     Guard("copies: what they say", "make/owners.py", "self.words.copies_of(name) or [", "[", macro("export_in_a_makefile_that_is_written_again"), YES),
     Guard("given: the text of standard input", "make/wrapper.py", "given, began = take_input(args), now()", "given, began = None, now()", "test_wrapper.Given.test_makefile_on_standard_input"),

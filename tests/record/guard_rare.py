@@ -2,7 +2,7 @@
 
 from typing import List
 
-from guard_table import FALSE_RACE, YES, Guard
+from guard_table import COARSE, FALSE_RACE, YES, Guard
 
 
 def rare(name: str) -> str:
@@ -16,12 +16,12 @@ def texts(name: str) -> str:
 
 
 RARE_GUARDS: List[Guard] = [
-    Guard("macros: what exported ones refer to", "make/macros.py", " or name in macros.handed_on)", ")", rare("macro_that_an_exported_one_names"), YES),
+    Guard("macros: what exported ones refer to", "make/used.py", " or name in macros.handed_on)", ")", rare("macro_that_an_exported_one_names"), YES),
     Guard("macros: what exported ones refer to by others", "make/macros.py", "found.union(*map(self.reached_from, found), ", "found.union(*map(self.named_by, found), ",
           rare("macro_that_an_exported_one_names_by_another"), YES),
     Guard("macros: exported by a name in another one", "make/exports.py", ".union(*(one or () for one in others))", "",
           rare("macro_that_is_exported_by_a_name_in_another"), YES),
-    Guard("macros: what an exported one of a target refers to", "make/macros.py", ', self.reached("\\n".join(self.exports.texts)))', ")", rare("macro_of_a_target_that_is_exported"), YES,
+    Guard("macros: what an exported one of a target refers to", "make/macros.py", ', self.answers.of("\\n".join(self.exports.texts)))', ")", rare("macro_of_a_target_that_is_exported"), YES,
           ("make/exports.py", "        for text in self.texts:\n", "        for text in ():\n")),
     Guard("macros: those that the words of make set", "make/exports.py", "(*self.words_of_make, *flags)", "flags",
           rare("macro_that_the_words_of_make_set"), YES),
@@ -30,7 +30,7 @@ RARE_GUARDS: List[Guard] = [
     Guard("functions: eval whose name is put together", "make/macros.py", "one in text or composes(text, one)", "one in text", rare("eval_whose_name_is_put_together"), YES,
           ("make/macros.py", "self.is_used or any(COMPUTED.search(text) for text in texts)", "self.is_used or False")),
     Guard("functions: eval whose name is put together, among others", "make/macros.py", ' or any(composes("\\n".join(found), one) for one in CHANGES)', "", rare("eval_whose_name_is_put_together"), YES),
-    Guard("loops: names of macros", "make/macros.py", "if words is not None and is_loop and not re.search", "if False and not re.search", rare("loop_over_names_of_macros"), FALSE_RACE),
+    Guard("loops: names of macros", "make/macros.py", "if words is not None and is_loop and not re.search", "if False and not re.search", rare("loop_over_names_of_macros"), FALSE_RACE, COARSE),
     Guard("loops: names in another macro", "make/macros.py", "found |= words.union(*(other or () for other in others))", "found |= words", rare("loop_over_names_in_another_macro"), YES),
     Guard("loops: a loop in another one", "make/macros.py", r"(?:eval\b|(?:foreach|let)[ \t]+[^,]*", r"(?:eval\b|(?:no)[ \t]+[^,]*", rare("loop_over_names_in_another_loop"), YES),
     Guard("loops: a name beside a loop", "make/macros.py", "body, words = text[loop.end():end], self", "end = len(text)\n            body, words = text[loop.end():end], self", rare("loop_over_names_and_a_name_beside_it"), YES),

@@ -42,7 +42,7 @@ SOUGHT_GUARDS: List[Guard] = [
     Guard("output: makes that group what they print", "granted.py", "if GROUPS.search(", "if False and GROUPS.search(", sought("make_that_groups_what_it_prints"), UNSAID),
     Guard("output: makes that are handed jobs", "granted.py", "HANDS_JOBS.search(line) for", "False for", sought("make_with_jobs_that_keeps_errors")),
     Guard("output: makes whose errors nobody keeps", "granted.py", "if not words.kept_errors or not", "if not", sought("make_without_jobs")),
-    Guard("macros: that each recipe works out", "make/macros.py", ".joined(implied) for", ".joined(Use()) for", sought("macro_that_an_exported_one_sets"), YES),
+    Guard("macros: that each recipe works out", "make/used.py", ".joined(implied) for", ".joined(Use()) for", sought("macro_that_an_exported_one_sets"), YES),
     Guard("macros: that a second expansion sets", "make/unfiled.py", "(builder.known.changed or is_set_late(builder))", "builder.known.changed", sought("macro_that_a_second_expansion_sets"), LOST_HOLE),
     Guard("macros: that a second expansion sets for nobody", "make/unfiled.py", "not names.isdisjoint(asked)", "bool(names)", sought("macro_that_a_second_expansion_sets_for_nobody"), "0 != 2"),
     Guard("ages: by the words of a script", "tools/shellages.py", ' or has_age_words(" ".join(argv[1:]) + " ")', "", sought("ages_by_words_of_a_script"), YES),

@@ -44,6 +44,10 @@ class Guard:
         return [module for module, _, _ in self.edits()]
 
 
+# What turns off that texts are worked out (guard_expansion.py), for guards of what counts where they cannot be.
+COARSE = ("make/expansion.py", "if known.is_lost or ANY in known.changed:", "if True:")
+
+
 def case(name: str) -> str:
     """The test of a folder of cases/."""
     return "test_cases.Cases.test_" + name.replace("-", "_")
@@ -293,14 +297,14 @@ UNFILED: List[Guard] = [
     Guard("wrapper: intermediate files", "make/lines.py", 'b"Removing intermediate files...", ', "", "test_output.Output.test_intermediate_files"),
     Guard("wrapper: order-only prerequisites", "make/lines.py", """b"' is order-only for target '", """, "", "test_output.Output.test_order_only_prerequisite_of_a_target_that_is_there"),
     Guard("macros that recipes change", "make/build.py", "        add_macros(self, created)\n", "", small("macro_that_a_recipe_changes"), YES),
-    Guard("macros: by way of others", "make/macros.py", "todo = set().union(*(self.named_by(name, again) for name in todo)) - seen", "todo = set()", small("macro_by_way_of_another"), YES),
-    Guard("macros: by computed names", "make/references.py", 'found + "*", end_of(text, at + 1)', "found, end_of(text, at + 1)", small("macro_by_a_part_of_its_name"), YES),
-    Guard("macros: by patterns that fit", "make/references.py", "if fits(name, pattern)", "", small("macro_by_a_part_of_another_name"), FALSE_RACE),
-    Guard("macros: asked for by origin", "make/references.py", "value|origin|flavor)\\s+", "value)\\s+", small("macro_by_its_origin"), YES),
+    Guard("macros: by way of others", "make/macros.py", "todo = set().union(*(self.named_by(name, again) for name in todo)) - seen", "todo = set()", small("macro_by_way_of_another"), YES, COARSE),
+    Guard("macros: by computed names", "make/references.py", 'found + "*", end_of(text, at + 1)', "found, end_of(text, at + 1)", small("macro_by_a_part_of_its_name"), YES, COARSE),
+    Guard("macros: by patterns that fit", "make/references.py", "if fits(name, pattern)", "", small("macro_by_a_part_of_another_name"), FALSE_RACE, COARSE),
+    Guard("macros: asked for by origin", "make/references.py", "value|origin|flavor)\\s+", "value)\\s+", small("macro_by_its_origin"), YES, COARSE),
     Guard("macros: in the list of all", "make/references.py", 'ANY if fits(".VARIABLES", name) else name', "name", small("macro_in_the_list_of_all"), YES),
     Guard("macros: that make reads", "make/macros.py", " or name in IMPLIED", "", small("macro_that_make_reads"), YES),
     Guard("macros: of the caller", "make/macros.py", "or self.exports.is_inherited(name)", "", small("macro_that_the_caller_sets"), YES),
-    Guard("macros: more than a macro", "make/macros.py", "set(changed) if ANY in changed else", "", small("search_path_that_a_recipe_sets"), UNSAID),
+    Guard("macros: more than a macro", "make/used.py", "set(changed) if ANY in changed else", "", small("search_path_that_a_recipe_sets"), UNSAID),
     Guard("macros: second expansion", "make/unfiled.py", "(builder.known.changed or ", "(False or ", small("prerequisites_that_a_recipe_sets"), LOST_HOLE),
     Guard("listings that make keeps", "make/memory.py", "add_list(make, make.acts.setdefault((builder.number, node.name), Work()), folder, place)", "pass", small("listing_that_make_keeps"), YES),
     Guard("listings that make keeps: for who asks", "make/memory.py", "(asked is None or folder in asked)", "True", small("listing_that_nobody_else_asks_for"), FALSE_RACE),
@@ -329,7 +333,7 @@ UNFILED: List[Guard] = [
     Guard("recipes: behind another mark", "make/database.py", 'self.is_recipe = self.is_recipe or text.startswith("#  recipe to execute")', "pass", small("file_behind_another_mark_of_recipes"), YES),
     Guard("recipes: behind an empty line", "make/database.py", "if self.is_recipe and (text or self.goes_on):", "if self.is_recipe and text:", small("macro_behind_an_empty_line"), YES),
     Guard("system folders: links to a top", "trace/skips.py", "return any((real +", "return False and any((real +", "test_skips.Skips.test_link_that_leads_to_a_top"),
-    Guard("macros: in the environment", "make/macros.py", "& changed | exported", "& changed", small("macro_in_the_environment"), YES),
+    Guard("macros: in the environment", "make/used.py", "& changed | exported", "& changed", small("macro_in_the_environment"), YES),
     Guard("macros: of leaves", "make/build.py", " or node.name in self.macros:", ":", small("macro_of_leaves"), FALSE_RACE),
     Guard("macros: set by the recipe itself", "make/macros.py", "                found.reads.discard(one.name)\n", "                pass\n", small("macro_that_each_recipe_sets"), FALSE_RACE),
     Guard("macros: that keep what they read", "make/unfiled.py", "builder.add_events(looker, events, created)", "pass", small("macro_that_keeps_what_it_read"), YES),

@@ -3,7 +3,7 @@ the tests."""
 
 from typing import List
 
-from guard_table import FALSE_RACE, UNSAID, YES, Guard
+from guard_table import COARSE, FALSE_RACE, UNSAID, YES, Guard
 
 
 def tried(name: str) -> str:
@@ -22,7 +22,7 @@ TRIED_GUARDS: List[Guard] = [
     Guard("tried: words of a function on the next line", "make/references.py", 'CONTINUED.sub(" ", text)', "text", tried("eval_whose_words_stand_on_the_next_line"), YES),
     Guard("tried: a new line behind the name of a function", "make/references.py", 'SPLIT.sub(r"$\\1\\2 ", CONTINUED.sub(" ", text))', 'CONTINUED.sub(" ", text)', tried("eval_with_a_new_line_behind_its_name"), YES),
     Guard("tried: the list of all macros by parts of its name", "make/references.py", 'fits(".VARIABLES", name)', 'name == ".VARIABLES"', tried("list_of_all_macros_by_a_name_that_is_put_together"), YES),
-    Guard("tried: other names that are put together", "make/references.py", 'fits(".VARIABLES", name)', '"*" in name', tried("names_of_macros_that_nobody_sets"), FALSE_RACE),
+    Guard("tried: other names that are put together", "make/references.py", 'fits(".VARIABLES", name)', '"*" in name', tried("names_of_macros_that_nobody_sets"), FALSE_RACE, COARSE),
     Guard("tried: brackets that a quote cuts", TEXT, ' or ends and "[" in BRACKETS.sub("", bare) else', " else", tried("brackets_with_a_quote"), YES),
     Guard("tried: brackets that a blank cuts", TEXT, ' or ends and "[" in BRACKETS.sub("", bare) else', " else", tried("brackets_with_a_blank"), YES),
     Guard("tried: brackets that are whole", TEXT, ' or ends and "[" in BRACKETS.sub("", bare) else', ' or ends and "[" in bare else', text("brackets_that_a_quote_cuts")),

@@ -47,6 +47,7 @@ MACROS: Dict[str, Small] = {
     "macro_of_a_computed_name_for_a_while": Small("race", N + WHILE % ("$(eval $(n) = $$(eval X := set))", "$(eval V := done)", "echo '$(X)' > a")),
     "macro_of_a_makefile_for_a_while": Small("race", N + "$(n) = $(eval X := set)\n" + WHILE % ("", "$(eval $(n) := done)", "echo '$(X)' > a")),
     "macro_of_lines_for_a_while": Small("race", N + "define $(n)\n$(eval X := set)\nendef\n" + WHILE % ("", "$(eval $(n) := done)", "echo '$(X)' > a")),
+    "macro_of_lines_for_a_while_behind_one_that_is_called_define": Small("race", "define = x\n" + N + "define $(n)\n$(eval X := set)\nendef\n" + WHILE % ("", "$(eval $(n) := done)", "echo '$(X)' > a")),
     "eval_by_a_macro_that_is_put_together_for_a_while": Small("race", N + WHILE.replace("$(V)", "$(X)") % (
         "$(eval $(n) = $$(subst x,a,evxl))", "$(eval V := done)", "$(call $(V),X := set)touch a")),
     "macro_with_another_value_for_a_while": Small("safe", WHILE % ("$(eval V = $$(Y))", "$(eval V := done)", SETS)),
@@ -61,8 +62,8 @@ MACROS: Dict[str, Small] = {
     "macro_by_the_last_part_of_a_stem": Small("race", "all: s d/x.a b\ns: ; touch s\ncmd_x = $(eval X := set)touch d/x.a\nd/x.a: %.a: s ; $(cmd_$(*F))\nb: s ; echo '$(X)' > b\n", {"d/k": ""}),
     "macro_by_the_stem_of_a_rule_that_sets_none": Small("safe", "all: s x.a y.a b\ns: ; touch s\ncmd_x = touch x.a\ncmd_y = touch y.a\nset = $(eval X := set)\n$(set)\nx.a y.a: %.a: s ; $(cmd_$*)\nb: s ; echo '$(X)$*' > b\n"),
     # recipes of other targets
-    "macro_of_a_recipe_that_nobody_asks_for": Small("safe", FUNCTIONS + "all: a b\na b: ; touch $@ $(X)\ncheck: ; $(call say,X,y)\n"),
-    "macro_of_a_recipe_that_somebody_asks_for": Small("race", FUNCTIONS + "all: a b check\na b: ; touch $@ $(X)\ncheck: ; $(call say,X,y)\n"),
+    "macro_of_a_recipe_that_nobody_asks_for": Small("safe", FUNCTIONS + "all: a b\na b: ; touch $@ $(X)\ncheck: ; $(call say,$(shell echo X),y)\n"),
+    "macro_of_a_recipe_that_somebody_asks_for": Small("race", FUNCTIONS + "all: a b check\na b: ; touch $@ $(X)\ncheck: ; $(call say,$(shell echo X),y)\n"),
     # several lines
     "eval_of_two_lines": Small("race", "define two\n1\nX := set\nendef\n" + PAIR % ("$(eval T := $(two))touch a", SHOWS)),
     "eval_of_two_lines_as_an_argument": Small("race", "define two\n1\nX := set\nendef\ngive = $(eval T := $(1))\n" + PAIR % ("$(call give,$(two))touch a", SHOWS)),

@@ -61,6 +61,10 @@ class Holes(unittest.TestCase):
     def test_data_base_that_is_cut(self) -> None:
         self.assertEqual(["the data base of a make has no end: make all"], self.holes(BASE[:-1]))
 
+    def test_macro_without_an_end(self) -> None:
+        for line, wanted in (("define V", ["the data base of a make has a macro of several lines without an end: make all"]), ("define = x", []), ("define := x", [])):
+            self.assertEqual(wanted, self.holes([BASE[0], "# makefile (from 'M', line 1)", line, *BASE[1:]]), line)
+
     def test_variable_with_a_line_of_the_log(self) -> None:
         words = self.words(BASE[0], "EXIT x", *BASE[1:])
         self.assertEqual(([], 0), (words.holes, words.status))

@@ -1,0 +1,344 @@
+"""Which macros make asks for when it expands a text: also those whose names other macros give, and what `call` hands on (`$($(quiet)cmd_$(1))`).
+
+Make's own rules work a text out to all that it may come to. `OPEN` stands for what nobody can say, and a name with such a part is any that fits.
+Where make may read a text a second time, and where a name is odd, nothing is said at all (`Unclear`): then each text that a macro may lead to counts.
+"""
+
+import re
+from functools import cached_property
+from itertools import product
+from math import prod
+from typing import TYPE_CHECKING, AbstractSet, Callable, Dict, FrozenSet, Iterable, Iterator, List, NamedTuple, Optional, Set, Tuple
+
+from record.make.references import ANY, ENDS, with_functions
+
+if TYPE_CHECKING:
+    from record.make.macros import Macros
+
+OPEN = "\0"
+UNKNOWN = frozenset((OPEN,))
+NOTHING = frozenset(("",))
+CLOSES = {"(": ")", "{": "}"}
+FUNCTION = re.compile(r"([A-Za-z0-9_.-]+)[ \t\n\v\f\r]")  # a name, and what shows that it may be a function's
+BLANKS = " \t\n\v\f\r"
+WORDS = re.compile("[^%s]+" % BLANKS)
+PLAIN_NAME = re.compile(r"[\w./+@%~^-]+", re.A)
+TARGET = re.compile(r"[\w./+-]+", re.A)
+AUTOMATIC = re.compile(r"[@<^+*?|%]")
+PARTS = re.compile(r"[@<^+*?|%][DF]")  # of them: make knows most, and a makefile may say otherwise
+PRINTABLE = re.compile(r"[ -~]*")
+# Functions that expand all their words once, and how many words they have at most.
+SIMPLE = {"abspath": 1, "addprefix": 2, "addsuffix": 2, "basename": 1, "dir": 1, "error": 1, "file": 2, "filter": 2, "filter-out": 2, "findstring": 2, "firstword": 1,
+          "info": 1, "join": 2, "lastword": 1, "notdir": 1, "patsubst": 3, "realpath": 1, "shell": 1, "sort": 1, "strip": 1, "subst": 3, "suffix": 1, "warning": 1,
+          "wildcard": 1, "word": 2, "wordlist": 3, "words": 1}
+LOOKING = ("value", "origin", "flavor")  # at a macro itself
+CHOOSING = {"if": 3, "or": 0, "and": 0}  # of their words, each of which is expanded once at most
+OTHERS = ("call", "foreach", "let", "intcmp", "eval", "guile")
+MOST, LONGEST, STEPS, DEPTH = 64, 4096, 20_000, 40  # texts that one may come to, signs of one, texts that are worked out for a recipe, and calls in calls
+COUNT = "#"  # in a scope: how many words the outermost `call` hands on; no name of a macro has such a sign
+
+Values = FrozenSet[str]
+Scope = Dict[str, Values]
+
+
+class Unclear(Exception):
+    """What a text asks for cannot be said."""
+
+
+class Reference(NamedTuple):
+    """What stands behind a sign of make: one letter, or the text in brackets, and which brackets."""
+
+    body: str
+    opening: str
+
+
+def pieces(text: str) -> Iterator[Tuple[str, Optional[Reference]]]:
+    """A text in pieces: what stands in front of each reference, and that. The last piece has none."""
+    at = 0
+    while True:
+        sign = text.find("$", at)
+        behind = text[sign + 1:sign + 2]
+        if sign < 0:
+            yield text[at:], None
+            return
+        if behind in ("", "$"):  # one at the end is a sign, too
+            yield text[at:sign] + "$", None
+            at = sign + 2
+        elif behind in CLOSES:
+            end = end_of(text, sign + 1)
+            yield text[at:sign], Reference(text[sign + 2:end], behind)
+            at = end + 1
+        else:
+            yield text[at:sign], Reference(behind, "")
+            at = sign + 2
+
+
+def end_of(text: str, at: int) -> int:
+    """Where the bracket is that ends a reference. A plain name goes up to the first one; else brackets of that kind are in pairs."""
+    opening, first = text[at], text.find(CLOSES[text[at]], at)
+    if first >= 0 and "$" not in text[at:first] and FUNCTION.match(text, at + 1) is None:
+        return first
+    depth = 0
+    for place in re.compile("[%s%s]" % (opening, CLOSES[opening])).finditer(text, at):
+        depth += 1 if place.group() == opening else -1
+        if not depth:
+            return place.start()
+    raise Unclear
+
+
+def words_of(text: str, opening: str, most: int) -> List[str]:
+    """The words of a function, at each comma that stands in no other brackets of that kind; the last one of `most` has all others."""
+    found, depth = [""], 0
+    for sign in text.lstrip(BLANKS):
+        depth += (sign == opening) - (sign == CLOSES[opening])
+        if sign == "," and not depth and len(found) != most:
+            found.append("")
+        else:
+            found[-1] += sign
+    return found
+
+
+class Expansion:
+    """One text that make expands, for one target where its name is known. `reads`: the macros that it asks for."""
+
+    def __init__(self, known: "Macros", target: str) -> None:
+        self.known = known
+        is_known = target and target not in known.base.double and PRINTABLE.fullmatch(known.base.stems.get(target, OPEN))
+        self.own = {"@": target or OPEN, "*": known.base.stems[target] if is_known else OPEN}  # what make itself gives macros of a recipe
+        self.asks_own = self.has_patterns = False
+        self.reads: Set[str] = set()
+        self.done: Dict[Tuple[str, FrozenSet[Tuple[str, Values]]], Values] = {}
+        self.steps = self.depth = 0
+
+    def text(self, text: str, scope: Scope) -> Values:
+        """All that a text may come to."""
+        self.steps += 1
+        if self.steps > STEPS:
+            raise Unclear
+        found: Values = NOTHING
+        for plain, one in pieces(text):
+            found = joined(found, frozenset((plain,)))
+            found = joined(found, self.reference(one, scope)) if one is not None else found
+        return found
+
+    def reference(self, one: Reference, scope: Scope) -> Values:
+        """What a reference may come to: a function's, or a macro's where its name is worked out first."""
+        function = FUNCTION.match(one.body) if one.opening else None
+        if function is not None:
+            return self.function(function.group(1), one.body[function.end():], one.opening, scope)
+        names = self.text(one.body, scope) if one.opening else frozenset((one.body,))
+        return union(self.named(name, scope) for name in names)
+
+    def named(self, text: str, scope: Scope) -> Values:
+        """What a reference comes to whose inner text was worked out: behind a colon it may say what is put in the place of what."""
+        name, colon, rest = text.partition(":")
+        if OPEN in name:
+            return self.pattern(name)
+        if colon and "=" not in rest:
+            raise Unclear
+        found = self.macro(name, scope)
+        return found if not colon else union(map_product(replaced, [found, frozenset((rest,))]))
+
+    def pattern(self, name: str) -> Values:
+        """A macro whose name has a part that nobody can say: it may be each that fits, and what stands there is not followed with its words."""
+        if any(sign in ENDS or sign == "*" for sign in name):
+            raise Unclear
+        self.has_patterns = True
+        self.take(re.sub(OPEN + "+", "*", name))
+        return UNKNOWN
+
+    def take(self, name: str) -> None:
+        """A macro with all that it may lead to, whatever its words are."""
+        found = self.known.reached_by((name,), False)
+        if any(map(self.known.reads_twice, found)):
+            raise Unclear
+        self.reads |= found
+
+    def macro(self, name: str, scope: Scope) -> Values:
+        """What a macro may hold."""
+        if name in scope:
+            return scope[name]
+        if not name:
+            return NOTHING
+        self.reads.update([name] if "*" not in name else [])  # (that would be any)
+        if AUTOMATIC.fullmatch(name):
+            self.asks_own = self.asks_own or name in self.own
+            return frozenset((self.own.get(name, OPEN),))
+        if not (PLAIN_NAME.fullmatch(name) or PARTS.fullmatch(name)) or name == ".VARIABLES":
+            raise Unclear
+        if self.known.steady.is_odd(name):
+            self.take(name)
+            return UNKNOWN
+        return self.held(name, scope)
+
+    def held(self, name: str, scope: Scope) -> Values:
+        """The same of one whose texts are known."""
+        key = name, frozenset(scope.items())
+        if key not in self.done:
+            self.done[key] = UNKNOWN  # where it asks for itself
+            self.depth += 1
+            if self.depth > DEPTH:
+                raise Unclear
+            for text in self.known.steady.texts(name):
+                self.text(text, scope)
+            values = self.known.steady.values(name)
+            self.done[key] = union(self.text(text, scope) for text in values) if values is not None else UNKNOWN
+            self.depth -= 1
+        return self.done[key]
+
+    # ---------------------------------------------------------------- functions
+    def function(self, name: str, text: str, opening: str, scope: Scope) -> Values:
+        """What a call of a function may come to."""
+        if name == "call":
+            return self.call(words_of(text, opening, 0), scope)
+        if name == "foreach":
+            return self.loop(words_of(text, opening, 3), scope)
+        if name in CHOOSING:
+            words = words_of(text, opening, CHOOSING[name])
+            found = [self.text(word.strip(BLANKS) if at == 0 or name != "if" else word, scope) for at, word in enumerate(words)]
+            return union(found[1:] if name == "if" else found) | NOTHING
+        if name in LOOKING:
+            return self.looked_at(self.text(words_of(text, opening, 1)[0], scope))
+        if name not in SIMPLE:
+            raise Unclear
+        values = [self.text(word, scope) for word in words_of(text, opening, SIMPLE[name])]
+        return union(map_product(EXACT[name], values)) if name in EXACT and len(values) == SIMPLE[name] else UNKNOWN
+
+    def looked_at(self, names: Values) -> Values:
+        """A macro that is not expanded."""
+        for name in names:
+            if OPEN in name:
+                self.pattern(name)
+            elif not PLAIN_NAME.fullmatch(name) or name == ".VARIABLES":
+                raise Unclear
+            else:
+                self.reads.add(name)
+        return UNKNOWN
+
+    def call(self, words: List[str], scope: Scope) -> Values:
+        """A function that makefiles define: it sees the words that it is handed, and none of those that the one around it got."""
+        values = [self.text(word, scope) for word in words]
+        count = max(len(values), *map(int, scope.get(COUNT, frozenset("0"))))
+        own = {str(at): values[at] if at < len(values) else NOTHING for at in range(count)}
+        found = []
+        for text in values[0]:
+            name = (WORDS.findall(text) or [""])[0]
+            if OPEN in text or name in SIMPLE or name in LOOKING or name in CHOOSING or name in OTHERS or name and not PLAIN_NAME.fullmatch(name):
+                raise Unclear
+            found.append(self.macro(name, {**scope, **own, "0": frozenset((name,)) if name == text else UNKNOWN, COUNT: frozenset((str(count),))}))
+        return union(found)
+
+    def loop(self, words: List[str], scope: Scope) -> Values:
+        """A loop over words: its macro may be each of them."""
+        names, lists = self.text(words[0], scope), self.text(words[1], scope) if len(words) == 3 else UNKNOWN
+        name = next(iter(names)).strip(BLANKS)
+        if len(words) != 3 or len(names) != 1 or OPEN in name or not PLAIN_NAME.fullmatch(name):
+            raise Unclear
+        values = frozenset(word for text in lists for word in (WORDS.findall(text) if OPEN not in text else UNKNOWN))
+        self.text(words[2], {**scope, name: values if 0 < len(values) <= MOST else UNKNOWN})
+        return UNKNOWN
+
+
+def joined(first: Values, second: Values) -> Values:
+    """Each text of one kind with each of another behind it."""
+    found = frozenset(one + other for one in first for other in second) if len(first) * len(second) <= MOST else UNKNOWN
+    return found if all(len(one) <= LONGEST for one in found) else UNKNOWN
+
+
+def union(values: Iterable[Values]) -> Values:
+    """All that one of several texts may come to."""
+    found: Values = frozenset().union(*values)
+    return found if len(found) <= MOST else UNKNOWN
+
+
+def map_product(function: Callable[..., Optional[str]], values: List[Values]) -> Iterator[Values]:
+    """What a function makes of each choice of words; nobody can say it where a word is open, or has signs that functions may take otherwise."""
+    for words in product(*values) if prod(map(len, values)) <= MOST else ((OPEN,),):
+        is_plain = all(map(PRINTABLE.fullmatch, words)) and not any("\\" in word for word in words)
+        value = function(*words) if is_plain else None
+        yield UNKNOWN if value is None else frozenset((value,))
+
+
+def put_in_place(pattern: str, other: str, text: str) -> Optional[str]:
+    """`$(patsubst ..)`; nothing where the pattern has no `%`, and where blanks may stay of words that come to nothing."""
+    head, percent, tail = pattern.partition("%")
+    found = []
+    for word in text.split():
+        is_fit = len(word) >= len(head + tail) and word.startswith(head) and word.endswith(tail)
+        found.append(other.replace("%", word[len(head):len(word) - len(tail)], 1) if is_fit else word)
+    return " ".join(word for word in found if word) if percent and not (other and "" in found) else None
+
+
+def replaced(text: str, rest: str) -> Optional[str]:
+    """`$(X:a=b)`, for the value of X and what stands behind the colon."""
+    pattern, _, other = rest.partition("=")
+    return put_in_place(pattern, other, text) if "%" in pattern else put_in_place("%" + pattern, "%" + other, text)
+
+
+def substituted(old: str, new: str, text: str) -> Optional[str]:
+    """`$(subst ..)`; nothing where there is no text to look for."""
+    return text.replace(old, new) if old else None
+
+
+EXACT: Dict[str, Callable[..., Optional[str]]] = {
+    "strip": lambda text: " ".join(text.split()), "subst": substituted, "patsubst": put_in_place,
+    "addprefix": lambda head, text: " ".join(head + word for word in text.split()), "addsuffix": lambda tail, text: " ".join(word + tail for word in text.split()),
+}
+
+
+class Answer(NamedTuple):
+    """The macros that a text asks for, None where that cannot be said; and whether the name of a target may say more."""
+
+    reads: Optional[FrozenSet[str]]
+    may_be_less: bool
+
+
+def asked(known: "Macros", text: str, target: str = "") -> Answer:
+    """What a text asks for."""
+    if known.is_lost or ANY in known.changed:
+        return Answer(None, False)
+    one = Expansion(known, target)
+    try:
+        one.text(text, {})
+    except (Unclear, RecursionError):
+        return Answer(None, one.asks_own)
+    return Answer(frozenset(one.reads), one.asks_own and one.has_patterns)
+
+
+class Answers:
+    """What the texts of one make ask for."""
+
+    def __init__(self, known: "Macros") -> None:
+        self.known = known
+        self.found: Dict[Tuple[str, str], Answer] = {}
+
+    def sure(self, text: str, target: str = "") -> Optional[FrozenSet[str]]:
+        """The macros that a text asks for, if need be for one target; nothing where that cannot be said, and where it may set some."""
+        found: Optional[FrozenSet[str]] = None
+        for name in ("", self.surely_named(target)):
+            if (text, name) not in self.found:
+                self.found[text, name] = asked(self.known, with_functions(text), name)
+            answer = self.found[text, name]
+            found = answer.reads if answer.reads is not None else found
+            if not answer.may_be_less:
+                break
+        return found
+
+    def surely_named(self, target: str) -> str:
+        """The name of a target if it surely is `$@` in its recipe: no search path gives it another one, and no other target has the same recipe run."""
+        return target if not self.known.base.search and target not in self.grouped and TARGET.fullmatch(target) else ""
+
+    @cached_property
+    def grouped(self) -> Set[str]:
+        """Targets of which one recipe makes several."""
+        also = self.known.base.also
+        return {*also, *(other for others in also.values() for other in others)}
+
+    def of(self, text: str, target: str = "") -> AbstractSet[str]:
+        """All macros that a text asks for, or may ask for."""
+        exact = self.sure(text, target)
+        return exact if exact is not None else self.known.reached(text)
+
+    def of_recipe(self, target: str) -> AbstractSet[str]:
+        """The same of the recipe of a target."""
+        return self.of("\n".join(self.known.base.recipes.get(target, ())), target)
