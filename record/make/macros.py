@@ -249,8 +249,8 @@ class Macros:
         return bool(ends) and any(map(in_word.search, self.all_texts())) or not self.before_colons.isdisjoint(self.texts) or any("$" in one for text in self.all_texts() for one in COLON_BEHIND.findall(text))
 
     def named_in(self, text: str, again: bool) -> FrozenSet[str]:
-        """The macros that a text refers to, also where it is read again."""
-        text = self.with_loops(text)
+        """The macros that a text refers to, also where it is read again. A target may have parts of the stem of its own, whose names look like patterns."""
+        text = self.with_loops(text) + "".join(self.text_of(one) for one in ("*D", "*F") if one in self.base.bodies and one in text)
         return named(read_again(text) if again else text)
 
     def with_loops(self, text: str) -> str:

@@ -60,6 +60,7 @@ EXPANSION_GUARDS: List[Guard] = [
     Guard("data base: who gave a macro its value", BASE, ' and not text.startswith("# ") and (', " and (", values("who_gave_a_value")),
     Guard("calls: words that come to nothing", EXPANSION, ' and not (other and "" in found)', "", call("name_behind_a_blank_that_stays_that_is_changed"), YES),
     Guard("calls: parts of automatic macros", EXPANSION, 'AUTOMATIC = re.compile(r"[@<^+*?|%]")', 'AUTOMATIC = re.compile(r"[@<^+*?|%][DF]?")', call("folder_that_a_target_has_that_is_changed"), YES),
+    Guard("macros: parts of the stem that a target has", MACROS, "if one in self.base.bodies and one in text)", "if False)", call("stem_that_a_target_has_beside_a_text_that_is_read_again_that_is_changed"), YES),
     Guard("calls: words that a makefile sets, too", MEMORY, " if not name.isdigit()}", "}", call("word_of_a_call_that_names_a_folder"), YES),
     Guard("lists: folders of targets that have another one", MEMORY, '"@D" in base.bodies or ', "", call("folder_that_a_target_has_in_a_list"), YES, D_BOUND),
     Guard("globs: folders of targets that have another one", *D_BOUND, call("pattern_that_a_target_has_for_its_folder"), YES),

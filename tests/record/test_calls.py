@@ -83,6 +83,8 @@ FORMS: Dict[str, Tuple[str, str]] = {
     "part_of_prerequisites": ("|D = $(NAME)\n", "$(|D)"),
     "folder_that_a_target_has": ("b: @D = $(NAME)\n", "$(@D)"),
     "file_that_a_pattern_has": ("%: @F = $(NAME)\n", "$(@F)"),
+    "stem_that_a_target_has": ("b: *F = $(NAME)\n", "$(*F)"),
+    "stem_that_a_target_has_beside_a_text_that_is_read_again": ("b: *F = $(NAME)\n", "$(*F)$(call or,)"),
     "macro_of_a_pattern_by_a_computed_name": ("n := V\n%: $(n) = $(NAME)\n", "$(V)"),
     "macro_of_a_computed_pattern": ("P := a\n$(P:a=%): V = $(NAME)\n", "$(V)"),
     "macro_that_is_called_define": ("define = x\n", "$(NAME)"),
