@@ -24,8 +24,8 @@ COPIES = ("make/wrapper.py", "self.copies.add(packet, self.log)", "pass")
 
 @dataclass(frozen=True)
 class Guard:
-    """One guard: its name, the module and the text that stands there once, what turns it off, and who sees it; and the edit
-    that turns off what would find the same fault in another way."""
+    """One guard: its name, the module and the text that stands there once, what turns it off, and who sees it; and the edits
+    that turn off what would find the same fault in other ways."""
 
     name: str
     module: str
@@ -34,15 +34,19 @@ class Guard:
     test: str
     gives: str = ""
     beside: Optional[Tuple[str, str, str]] = None
+    third: Optional[Tuple[str, str, str]] = None
 
     def edits(self) -> List[Tuple[str, str, str]]:
         """Each module with its text and what is put in its place."""
-        return [(self.module, self.old, self.new)] + ([self.beside] if self.beside else [])
+        return [(self.module, self.old, self.new), *(one for one in (self.beside, self.third) if one)]
 
     def modules(self) -> List[str]:
         """The modules that are other ones where it is off."""
         return [module for module, _, _ in self.edits()]
 
+
+# What turns off that the data base shows which macros recipes have changed.
+SHOWN = ("make/used.py", "    if seen:\n", "    if False:\n")
 
 # What turns off that texts are worked out (guard_expansion.py), for guards of what counts where they cannot be.
 COARSE = ("make/expansion.py", "if known.is_lost or ANY in known.changed:", "if True:")
