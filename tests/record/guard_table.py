@@ -333,7 +333,7 @@ UNFILED: List[Guard] = [
     Guard("folders: one below it is made", "tools/shelltext.py", "startswith(os.path.normpath(form.group(\"d\").strip(\"'\\\"\")) + \"/\")", "endswith(os.path.normpath(form.group(\"d\").strip(\"'\\\"\")) + \"/\")",
           small("folder_tested_and_one_below_made"), FALSE_RACE),
     Guard("ages: folders by whole names", "trace/calls.py", 'path == "." or path.startswith("/") and above', 'path == "." or path.startswith("/")', small("ages_of_a_folder_by_its_whole_name"), YES),
-    Guard("recipes: behind another mark", "make/database.py", 'self.is_recipe = self.is_recipe or text.startswith("#  recipe to execute")', "pass", small("file_behind_another_mark_of_recipes"), YES),
+    Guard("recipes: behind another mark", "make/database.py", 'self.is_recipe = self.is_recipe or text.startswith("#  recipe to execute")', "pass", small("file_behind_another_mark_of_recipes")),
     Guard("recipes: behind an empty line", "make/database.py", "if self.is_recipe and (text or self.goes_on):", "if self.is_recipe and text:", small("macro_behind_an_empty_line"), YES),
     Guard("system folders: links to a top", "trace/skips.py", "return any((real +", "return False and any((real +", "test_skips.Skips.test_link_that_leads_to_a_top"),
     Guard("macros: in the environment", "make/used.py", "& changed | exported", "& changed", small("macro_in_the_environment"), YES),
