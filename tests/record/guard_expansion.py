@@ -2,7 +2,7 @@
 
 from typing import List
 
-from guard_table import COARSE, FALSE_RACE, LOST_HOLE, YES, Guard
+from guard_table import COARSE, FALSE_RACE, LOST_HOLE, SHOWN, YES, Guard
 
 
 def values(name: str) -> str:
@@ -25,7 +25,7 @@ EXPANSION_GUARDS: List[Guard] = [
     Guard("calls: words of their own", EXPANSION, "{**scope, **own, \"0\"", "{**own, **scope, \"0\"", call("word_that_is_handed_on_that_is_changed"), YES),
     Guard("calls: the name of the function", EXPANSION, '"0": frozenset((name,)) if name == text else UNKNOWN', '"0": NOTHING', call("name_of_the_function_that_is_changed"), YES),
     Guard("calls: functions of make", EXPANSION, "name in LOOKING or name in CHOOSING or name in OTHERS", "name in LOOKING or name in OTHERS", call("word_that_a_called_branch_reads"), YES),
-    Guard("calls: eval", EXPANSION, "        if name not in SIMPLE:\n            raise Unclear\n", "        if name not in SIMPLE:\n            return UNKNOWN\n", call("function_that_sets_a_macro"), YES),
+    Guard("calls: eval", EXPANSION, "        if name not in SIMPLE:\n            raise Unclear\n", "        if name not in SIMPLE:\n            return UNKNOWN\n", call("function_that_sets_a_macro"), YES, SHOWN),
     Guard("calls: the list of all macros", EXPANSION, 'PARTS.fullmatch(name)) or name == ".VARIABLES":', "PARTS.fullmatch(name)):", call("list_of_all_macros"), YES),
     Guard("calls: brackets", EXPANSION, 'if sign == "," and not depth and', 'if sign == "," and', call("word_behind_brackets_that_is_not"), FALSE_RACE),
     Guard("calls: loops that hide macros", EXPANSION, "{**scope, name: values if 0 < len(values) <= MOST else UNKNOWN}", "scope", call("loop_that_hides_a_macro_that_is_changed"), YES),
@@ -35,15 +35,15 @@ EXPANSION_GUARDS: List[Guard] = [
     Guard("calls: blanks of another kind", EXPANSION, "word.strip(BLANKS) if", "word.strip() if", call("name_with_a_blank_of_another_kind_that_is_changed"), YES),
     Guard("calls: macros that are looked at", EXPANSION, "            else:\n                self.reads.add(name)\n", "            else:\n                pass\n", call("origin_that_is_changed"), YES),
     Guard("calls: names that nobody can say", EXPANSION, "        self.take(re.sub(OPEN + \"+\", \"*\", name))\n", "", call("name_that_is_sorted_that_is_changed"), YES),
-    Guard("calls: macros that lead to eval", EXPANSION, "        if any(map(self.known.reads_twice, found)):\n            raise Unclear\n", "", call("function_of_a_macro_that_is_changed_back"), YES),
+    Guard("calls: macros that lead to eval", EXPANSION, "        if any(map(self.known.reads_twice, found)):\n            raise Unclear\n", "", call("function_of_a_macro_that_is_changed_back"), YES, SHOWN),
     Guard("calls: names in front of a colon", EXPANSION, "found = self.macro(name, scope)\n        return found if", "found = NOTHING if colon else self.macro(name, scope)\n        return found if", call("name_that_a_pattern_replaces_that_is_changed"), YES),
     Guard("calls: what is put in the place", EXPANSION, '"%" in pattern else put_in_place("%" + pattern, "%" + other, text)', "True else \"\"", call("name_that_is_replaced_that_is_not"), FALSE_RACE),
     Guard("calls: the stem", EXPANSION, '"*": known.base.stems[target] if is_known else OPEN}', '"*": OPEN}', call("makefiles_of_linux"), FALSE_RACE),
-    Guard("calls: the stems of two rules", EXPANSION, "target and target not in known.base.double and", "target and", call("stem_of_two_rules"), YES),
+    Guard("calls: the stems of two rules", EXPANSION, "target and target not in known.base.double and", "target and", call("stem_of_two_rules"), YES, SHOWN),
     Guard("calls: the name of the target", EXPANSION, '{"@": target or OPEN,', '{"@": OPEN,', call("name_of_the_target_that_is_not"), FALSE_RACE),
     Guard("calls: names of several targets", EXPANSION, "and target not in self.grouped and", "and", call("name_of_another_target_of_the_recipe"), YES),
     Guard("calls: exported macros", MACROS, 'self.answers.of("\\n".join(self.exports.texts)))', 'self.reached("\\n".join(self.exports.texts)))', call("another_name_in_an_exported_macro"), FALSE_RACE),
-    Guard("steady: what recipes change", STEADY, "name in self.known.changed or name in", "name in", call("macro_of_a_computed_name_that_leads_to_one_that_sets_it"), YES),
+    Guard("steady: what recipes change", STEADY, "name in self.known.changed or name in", "name in", call("macro_of_a_computed_name_that_leads_to_one_that_sets_it"), YES, (USED, "        use.writes |= unwritten\n", "")),
     Guard("steady: macros of targets", STEADY, "or name in self.defined or", "or", call("name_that_a_target_has_by_a_template"), YES),
     Guard("steady: who set them last", STEADY, " if self.is_set_at(name, file, line) else None", "", values("a_place")),
     Guard("steady: makefiles that are written twice", STEADY, " and len(make.words.copies_of(file)) < 2", "", values("makefiles_that_are_written_twice")),
@@ -64,12 +64,12 @@ EXPANSION_GUARDS: List[Guard] = [
     Guard("calls: words that a makefile sets, too", MEMORY, " if not name.isdigit()}", "}", call("word_of_a_call_that_names_a_folder"), YES),
     Guard("lists: folders of targets that have another one", MEMORY, '"@D" in base.bodies or ', "", call("folder_that_a_target_has_in_a_list"), YES, D_BOUND),
     Guard("globs: folders of targets that have another one", *D_BOUND, call("pattern_that_a_target_has_for_its_folder"), YES),
-    Guard("steady: what cuts words of a shell", STEADY, ', "IFS", "HOME"', ', "HOME"', call("words_between_which_a_shell_cuts"), YES),
+    Guard("steady: what cuts words of a shell", STEADY, ', "IFS", "HOME"', ', "HOME"', call("words_between_which_a_shell_cuts"), YES, SHOWN),
     Guard("names: with a colon behind their beginning", MACROS, " or any(head + one in self.texts for one in self.before_colons)", "", call("name_and_a_colon_that_is_sorted"), YES),
     Guard("names: with a colon that is a macro", MACROS, "return bool(ends) and any(map(in_word.search, self.all_texts())) or not", "return not", call("name_and_a_colon_of_a_macro"), YES),
     Guard("names: with a colon behind another macro", MACROS, ' or any("$" in one for text in self.all_texts() for one in COLON_BEHIND.findall(text))', "", call("name_of_a_macro_and_a_colon"), YES),
     Guard("data base: macros of patterns", BASE, "with_signs(text))", "text)", call("macro_of_a_pattern_by_a_computed_name_that_is_changed"), YES),
-    Guard("data base: a macro that is called define", BASE, 'r"^define (?![:+]?=)(', 'r"^define (', call("macro_that_is_called_define_that_is_changed"), YES, (BASE, "base.is_open = macros.depth > 0", "pass")),
+    Guard("data base: a macro that is called define", BASE, 'r"^define (?![:+]?=)(', 'r"^define (', call("macro_that_is_called_define_that_is_changed")),
     Guard("data base: recipes that it does not show", "make/words.py", "if unread is not None else []", "if False else []", call("target_that_begins_like_a_remark"), LOST_HOLE),
     Guard("macros: set in a way that nobody knows", USED, "        use.writes |= unwritten\n", "", values("who_sets_a_macro_in_a_way_that_nobody_knows")),
     Guard("data base: a macro without an end", "make/words.py", "if found.is_open else []", "if False else []", "test_words.Holes.test_macro_without_an_end"),

@@ -2,7 +2,7 @@
 
 from typing import List
 
-from guard_table import COARSE, FALSE_RACE, LOST_HOLE, UNSAID, YES, Guard
+from guard_table import COARSE, FALSE_RACE, LOST_HOLE, SHOWN, UNSAID, YES, Guard
 
 
 def macro(name: str) -> str:
@@ -43,16 +43,16 @@ MACRO_GUARDS: List[Guard] = [
     Guard("eval: values that are worked out at once", ASSIGNED, "(?:[+?]|:::)?=\" + LINE", "(?:[+?]|:{1,3})?=\" + LINE", macro("macro_of_a_computed_name_that_is_worked_out_at_once"), FALSE_RACE),
     Guard("eval: what a yes says of it", UNFILED, "if builder.known.is_used:", "if False:", macro("macro_of_a_computed_name_that_is_worked_out_at_once"), UNSAID),
     Guard("eval: lines of a computed name", ASSIGNED, 'ANY if "$" in name else name, body', "name, body", macro("macro_of_lines_for_a_while"), YES, LATE),
-    Guard("eval: texts of several lines", MACROS, "or not self.may_have_lines(text[one.start + 2:one.end])", "or True", macro("eval_of_two_lines"), YES),
+    Guard("eval: texts of several lines", MACROS, "or not self.may_have_lines(text[one.start + 2:one.end])", "or True", macro("eval_of_two_lines"), YES, SHOWN),
     Guard("eval: lines that a macro has for a while", MACROS, "any(map(self.has_lines, self.names))", "any(map(self.has_lines, self.texts))",
-          macro("eval_of_lines_of_a_file_for_a_while"), YES),
+          macro("eval_of_lines_of_a_file_for_a_while"), YES, SHOWN),
     Guard("eval: a function that is put together for a while", MACROS, '"handed_on", "names_eval", ', '"handed_on", ',
           macro("eval_by_a_macro_that_is_put_together_for_a_while"), YES),
-    Guard("eval: arguments of several lines", MACROS, "or is_open and self.some_have_lines ", "", macro("eval_of_two_lines_as_an_argument"), YES),
-    Guard("eval: files of several lines", MACROS, "FILES.search(text) is not None or is_open", "is_open", macro("eval_of_the_lines_of_a_file"), YES),
+    Guard("eval: arguments of several lines", MACROS, "or is_open and self.some_have_lines ", "", macro("eval_of_two_lines_as_an_argument"), YES, SHOWN),
+    Guard("eval: files of several lines", MACROS, "FILES.search(text) is not None or is_open", "is_open", macro("eval_of_the_lines_of_a_file"), YES, SHOWN),
     Guard("eval: words of functions", MACROS, "and not NO_MACRO.fullmatch(name) for", "for", macro("eval_of_words"), FALSE_RACE),
     Guard("data base: macros of lines that hold others", BASE, "return 0 if found is None else 1 if found.group(1) else -1", "return 0 if found is None or found.group(1) else -1", macro("macro_of_lines_in_another_one"), YES,
-          (BASE, "            self.goes_on = not self.depth\n", "            self.goes_on = False\n")),
+          (BASE, "            self.goes_on = not self.depth\n", "            self.goes_on = False\n"), SHOWN),
     Guard("data base: values of several lines", BASE, "elif self.goes_on and not is_behind", "elif False", macro("macro_of_lines_that_were_worked_out"), YES),
     Guard("eval: recipes of targets that nobody asks for", USED, " if name not in macros.idle}", "}", macro("macro_of_a_recipe_that_nobody_asks_for"), FALSE_RACE),
     Guard("eval: recipes of targets that somebody asks for", MACROS, "places = idle_in(self.base, {name for one in self.make.words.rounds for name in (*one.nodes, *one.must, *one.vpath.values())})",
@@ -72,8 +72,8 @@ MACRO_GUARDS: List[Guard] = [
     Guard("eval: rules with two colons", USED, ", name not in base.double)", ", True)", macro("macro_of_two_rules_with_two_colons"), YES),
     Guard("eval: whether it works out what it adds", MACROS, "is_read = one.is_added and", "is_read = False and", macro("macro_that_gets_more_by_its_flavor"), YES),
     Guard("eval: what it adds without references", MACROS, 'one.is_added and any("$$" in part', 'one.is_added and any(True', macro("macro_that_gets_more"), FALSE_RACE),
-    Guard("eval: arguments of or that have several lines", MACROS, "names = self.reached(text)\n        is_open", "names = self.reached_by(named(text), False)\n        is_open", macro("eval_of_lines_that_or_hands_on"), YES),
-    Guard("eval: lines behind two backslashes", MACROS, 'any("\\n" in joined(one) or', 'any("\\n" in one.replace("\\\\\\n", " ") or', macro("eval_of_a_line_with_two_backslashes"), YES),
+    Guard("eval: arguments of or that have several lines", MACROS, "names = self.reached(text)\n        is_open", "names = self.reached_by(named(text), False)\n        is_open", macro("eval_of_lines_that_or_hands_on"), YES, SHOWN),
+    Guard("eval: lines behind two backslashes", MACROS, 'any("\\n" in joined(one) or', 'any("\\n" in one.replace("\\\\\\n", " ") or', macro("eval_of_a_line_with_two_backslashes"), YES, SHOWN),
     Guard("eval: templates that assign a macro", MACROS, "if is_changed and self.is_evaluated else ()", "if False else ()", macro("macro_of_a_template_for_a_while"), YES),
     Guard("eval: assignments of two lines", ASSIGNED, "for one in ASSIGNED.finditer(joined(text))]", "for one in ASSIGNED.finditer(text)]", macro("assignment_of_two_lines"), YES),
     Guard("eval: what programs print", UNFILED, 'builder.assumed.add("handed", node.name)', "pass", macro("text_of_a_program_that_eval_reads")),
@@ -100,8 +100,8 @@ MACRO_GUARDS: List[Guard] = [
     Guard("functions: names that are nowhere", MACROS, "self.is_used or any(COMPUTED.search(text) for text in texts)", "self.is_used or False", macro("function_that_a_file_names"), YES),
     Guard("functions: of exported macros", MACROS, "if EVAL.search(self.text_of(name)) or COMPUTED.search(self.text_of(name))}", "if EVAL.search(self.text_of(name))}", macro("function_of_an_exported_macro"), YES),
     Guard("assignments: a macro that is called define", BASE, '(?![ \\t]*(?:[+?!]|:{1,3})?=)"', '"', macro("macro_of_lines_for_a_while_behind_one_that_is_called_define"), YES),
-    Guard("data base: lines behind a tab", BASE, 'LEVEL = re.compile(r"(?!\\t)', 'LEVEL = re.compile(r"', macro("macro_of_lines_for_a_while_with_a_tab"), YES),
-    Guard("data base: lines behind the last one", BASE, "self.goes_on = not self.depth", "self.goes_on = False", macro("macro_of_lines_with_a_tab"), YES, (BASE, 'LEVEL = re.compile(r"(?!\\t)', 'LEVEL = re.compile(r"')),
+    Guard("data base: lines behind a tab", BASE, 'LEVEL = re.compile(r"(?!\\t)', 'LEVEL = re.compile(r"', macro("macro_of_lines_for_a_while_with_a_tab"), YES, SHOWN),
+    Guard("data base: lines behind the last one", BASE, "self.goes_on = not self.depth", "self.goes_on = False", macro("macro_of_lines_with_a_tab"), YES, (BASE, 'LEVEL = re.compile(r"(?!\\t)', 'LEVEL = re.compile(r"'), SHOWN),
     Guard("data base: lines that go on", BASE, "LEVEL.match(text) if not is_continued(previous) else None", "LEVEL.match(text)", text("lines_that_go_on")),
     Guard("data base: remarks in lines", BASE, "elif self.goes_on and not is_behind", 'elif self.goes_on and not text.startswith("#")', macro("macro_of_lines_with_a_remark"), YES),
     Guard("data base: lines in no pairs", BASE, 'if self.depth and previous == "endef" and is_behind:', "if False:", text("lines_that_are_in_no_pairs")),

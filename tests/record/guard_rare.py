@@ -2,7 +2,7 @@
 
 from typing import List
 
-from guard_table import COARSE, FALSE_RACE, YES, Guard
+from guard_table import COARSE, FALSE_RACE, SHOWN, YES, Guard
 
 
 def rare(name: str) -> str:
@@ -31,9 +31,9 @@ RARE_GUARDS: List[Guard] = [
           ("make/macros.py", "self.is_used or any(COMPUTED.search(text) for text in texts)", "self.is_used or False")),
     Guard("functions: eval whose name is put together, among others", "make/macros.py", ' or any(composes("\\n".join(found), one) for one in CHANGES)', "", rare("eval_whose_name_is_put_together"), YES),
     Guard("loops: names of macros", "make/macros.py", "if words is not None and is_loop and not re.search", "if False and not re.search", rare("loop_over_names_of_macros"), FALSE_RACE, COARSE),
-    Guard("loops: names in another macro", "make/macros.py", "found |= words.union(*(other or () for other in others))", "found |= words", rare("loop_over_names_in_another_macro"), YES),
-    Guard("loops: a loop in another one", "make/macros.py", r"(?:eval\b|(?:foreach|let)[ \t]+[^,]*", r"(?:eval\b|(?:no)[ \t]+[^,]*", rare("loop_over_names_in_another_loop"), YES),
-    Guard("loops: a name beside a loop", "make/macros.py", "body, words = text[loop.end():end], self", "end = len(text)\n            body, words = text[loop.end():end], self", rare("loop_over_names_and_a_name_beside_it"), YES),
+    Guard("loops: names in another macro", "make/macros.py", "found |= words.union(*(other or () for other in others))", "found |= words", rare("loop_over_names_in_another_macro"), YES, SHOWN),
+    Guard("loops: a loop in another one", "make/macros.py", r"(?:eval\b|(?:foreach|let)[ \t]+[^,]*", r"(?:eval\b|(?:no)[ \t]+[^,]*", rare("loop_over_names_in_another_loop"), YES, SHOWN),
+    Guard("loops: a name beside a loop", "make/macros.py", "body, words = text[loop.end():end], self", "end = len(text)\n            body, words = text[loop.end():end], self", rare("loop_over_names_and_a_name_beside_it"), YES, SHOWN),
     Guard("functions: a name that a macro puts together", "make/globs.py", "is_open and word.strip", "False and word.strip", rare("eval_whose_name_a_macro_puts_together"), YES),
     Guard("functions: wildcard whose name is put together", "make/globs.py", ' or composes(macros.text, "wildcard"):', ":", rare("wildcard_whose_name_is_put_together"), YES),
     Guard("functions: wildcard whose name is put together, beside another", "make/memory.py", ' or composes("\\n".join(texts), "wildcard")', "",

@@ -3,7 +3,7 @@ and test_sought.py for the tests."""
 
 from typing import List
 
-from guard_table import FALSE_RACE, LOST_HOLE, UNSAID, YES, Guard
+from guard_table import FALSE_RACE, LOST_HOLE, SHOWN, UNSAID, YES, Guard
 
 
 def sought(name: str) -> str:
@@ -15,9 +15,9 @@ SOUGHT_GUARDS: List[Guard] = [
     Guard("folders: whose name a file has", "trace/calls.py", 'if found.inode is None or found.inode.kind != "d":', "if False:", sought("folder_whose_name_a_file_has"), YES),
     Guard("macros: that a recipe may set", "make/macros.py", " and one.start in sure", "", sought("macro_that_a_recipe_may_set"), YES),
     Guard("macros: that a recipe surely sets", "make/macros.py", " and one.start in sure", " and False", sought("macro_that_a_recipe_surely_sets")),
-    Guard("macros: by a function that is called", "make/references.py", "    count: int = \"call\" in text\n", "    count = False\n", sought("macro_by_a_function_that_is_called"), YES),
+    Guard("macros: by a function that is called", "make/references.py", "    count: int = \"call\" in text\n", "    count = False\n", sought("macro_by_a_function_that_is_called"), YES, SHOWN),
     Guard("macros: by a called function that shows one", "make/references.py", r"call\s+(call|eval|guile|value|origin|flavor)", r"call\s+(call|eval|guile)", sought("macro_that_a_called_function_shows"), YES),
-    Guard("macros: by a function of a computed name", "make/macros.py", "(self.names_eval or BARE.search(text))", "False", sought("macro_by_a_function_of_a_computed_name"), YES),
+    Guard("macros: by a function of a computed name", "make/macros.py", "(self.names_eval or BARE.search(text))", "False", sought("macro_by_a_function_of_a_computed_name"), YES, SHOWN),
     Guard("macros: of lines with a computed name", "make/macros.py", ', *((name, "\\n".join(lines)) for name, lines in self.base.bodies.items())', "", sought("macro_of_lines_with_a_computed_name"), YES),
     Guard("macros: that eval reads", "make/macros.py", "if is_again else found", "if False else found", sought("macro_that_eval_reads"), YES,
           ("make/macros.py", "found.setdefault(one.name, []).append(text[one.start + 1:one.end])", "pass")),

@@ -24,8 +24,8 @@ COPIES = ("make/wrapper.py", "self.copies.add(packet, self.log)", "pass")
 
 @dataclass(frozen=True)
 class Guard:
-    """One guard: its name, the module and the text that stands there once, what turns it off, and who sees it; and the edit
-    that turns off what would find the same fault in another way."""
+    """One guard: its name, the module and the text that stands there once, what turns it off, and who sees it; and the edits
+    that turn off what would find the same fault in other ways."""
 
     name: str
     module: str
@@ -34,15 +34,19 @@ class Guard:
     test: str
     gives: str = ""
     beside: Optional[Tuple[str, str, str]] = None
+    third: Optional[Tuple[str, str, str]] = None
 
     def edits(self) -> List[Tuple[str, str, str]]:
         """Each module with its text and what is put in its place."""
-        return [(self.module, self.old, self.new)] + ([self.beside] if self.beside else [])
+        return [(self.module, self.old, self.new), *(one for one in (self.beside, self.third) if one)]
 
     def modules(self) -> List[str]:
         """The modules that are other ones where it is off."""
         return [module for module, _, _ in self.edits()]
 
+
+# What turns off that the data base shows which macros recipes have changed.
+SHOWN = ("make/used.py", "    if seen:\n", "    if False:\n")
 
 # What turns off that texts are worked out (guard_expansion.py), for guards of what counts where they cannot be.
 COARSE = ("make/expansion.py", "if known.is_lost or ANY in known.changed:", "if True:")
@@ -330,7 +334,7 @@ UNFILED: List[Guard] = [
     Guard("folders: one below it is made", "tools/shelltext.py", "startswith(os.path.normpath(form.group(\"d\").strip(\"'\\\"\")) + \"/\")", "endswith(os.path.normpath(form.group(\"d\").strip(\"'\\\"\")) + \"/\")",
           small("folder_tested_and_one_below_made"), FALSE_RACE),
     Guard("ages: folders by whole names", "trace/calls.py", 'path == "." or path.startswith("/") and above', 'path == "." or path.startswith("/")', small("ages_of_a_folder_by_its_whole_name"), YES),
-    Guard("recipes: behind another mark", "make/database.py", 'self.is_recipe = self.is_recipe or text.startswith("#  recipe to execute")', "pass", small("file_behind_another_mark_of_recipes"), YES),
+    Guard("recipes: behind another mark", "make/database.py", 'self.is_recipe = self.is_recipe or text.startswith("#  recipe to execute")', "pass", small("file_behind_another_mark_of_recipes")),
     Guard("recipes: behind an empty line", "make/database.py", "if self.is_recipe and (text or self.goes_on):", "if self.is_recipe and text:", small("macro_behind_an_empty_line"), YES),
     Guard("system folders: links to a top", "trace/skips.py", "return any((real +", "return False and any((real +", "test_skips.Skips.test_link_that_leads_to_a_top"),
     Guard("macros: in the environment", "make/used.py", "& changed | exported", "& changed", small("macro_in_the_environment"), YES),
