@@ -9,7 +9,8 @@ from record.make.owners import Owners
 from record.make.words import Words, read_words
 from record.trace.lives import Life
 
-BASE = ["# Make data base, printed on Monday", "# files hash-table stats:", "# Finished Make data base on Monday"]
+RECIPES = [line for name in "ab" for line in ("%s:" % name, "#  recipe to execute (from 'Makefile', line 2):", "\techo %s" % name, "")]
+BASE = ["# Make data base, printed on Monday", "# Files", "", *RECIPES, "# files hash-table stats:", "# Finished Make data base on Monday"]
 
 
 def words_of(*lines: str, status: Optional[str] = "EXIT 0") -> Words:
