@@ -3,7 +3,7 @@ the tests."""
 
 from typing import List
 
-from guard_table import COARSE, FALSE_RACE, UNSAID, YES, Guard
+from guard_table import COARSE, FALSE_RACE, SHOWN, UNSAID, YES, Guard
 
 
 def tried(name: str) -> str:
@@ -19,8 +19,8 @@ def text(name: str) -> str:
 TEXT, AGES, COMPUTED, TRACED = "tools/shelltext.py", "tools/shellages.py", "tools/computed.py", "tools/traced.py"
 
 TRIED_GUARDS: List[Guard] = [
-    Guard("tried: words of a function on the next line", "make/references.py", 'CONTINUED.sub(" ", text)', "text", tried("eval_whose_words_stand_on_the_next_line"), YES),
-    Guard("tried: a new line behind the name of a function", "make/references.py", 'SPLIT.sub(r"$\\1\\2 ", CONTINUED.sub(" ", text))', 'CONTINUED.sub(" ", text)', tried("eval_with_a_new_line_behind_its_name"), YES),
+    Guard("tried: words of a function on the next line", "make/references.py", 'CONTINUED.sub(" ", text)', "text", tried("eval_whose_words_stand_on_the_next_line"), YES, SHOWN),
+    Guard("tried: a new line behind the name of a function", "make/references.py", 'SPLIT.sub(r"$\\1\\2 ", CONTINUED.sub(" ", text))', 'CONTINUED.sub(" ", text)', tried("eval_with_a_new_line_behind_its_name"), YES, SHOWN),
     Guard("tried: the list of all macros by parts of its name", "make/references.py", 'fits(".VARIABLES", name)', 'name == ".VARIABLES"', tried("list_of_all_macros_by_a_name_that_is_put_together"), YES),
     Guard("tried: other names that are put together", "make/references.py", 'fits(".VARIABLES", name)', '"*" in name', tried("names_of_macros_that_nobody_sets"), FALSE_RACE, COARSE),
     Guard("tried: brackets that a quote cuts", TEXT, ' or ends and "[" in BRACKETS.sub("", bare) else', " else", tried("brackets_with_a_quote"), YES),
