@@ -29,7 +29,7 @@ def name_real_makes(lives: "List[Life]", bin_folder: str, tops: Sequence[str]) -
                 raise OSError(0, "it is no text")
             put_right(Path(path), as_without(text, bin_folder))
         except OSError as fault:
-            left.append("%s may name the make of the recorder, which is gone: %s" % (path, fault.strerror))
+            left.append("%s may name the make of the recorder, which is gone: make that file again (%s)" % (path, fault.strerror))
     return left
 
 

@@ -51,7 +51,7 @@ class Output(unittest.TestCase):
             found = project.record()
             kept = (project.folder / "b").read_bytes()
         self.assertRegex(kept, rb"race-record-\w+/bin/make\0$")
-        note = "%s/b may name the make of the recorder, which is gone: it is no text" % os.path.realpath(project.folder)
+        note = "%s/b may name the make of the recorder, which is gone: make that file again (it is no text)" % os.path.realpath(project.folder)
         self.assertEqual([note], [one for one in (found.record or {})["notes"] if "may name" in one])
 
     def test_times_of_what_configuring_keeps(self) -> None:
