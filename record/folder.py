@@ -57,7 +57,7 @@ class Record:
     configured: List[str] = field(default_factory=list)  # others that were there: what `./configure` made
     stands_alone: bool = False  # their recipes did not run, and can run beside no other
     notes: List[str] = field(default_factory=list)
-    hints: List[str] = field(default_factory=list)  # of a build that failed: who looks for what others make
+    hints: List[str] = field(default_factory=list)  # what to try: of a build that failed, who looks for what others make
     missingdeps: int = 0  # what `ninja -t missingdeps` finds
     missing: Optional[Dict[str, Any]] = None  # with --missing: what its answer takes for granted, and why there may be none
 

@@ -21,7 +21,7 @@ from record.folder import Record, write_record
 from record.footprints import write_footprints
 from record.granted import add_granted, idle_targets, named_by_ninja
 from record.make.build import Builder
-from record.make.cover import copy_of
+from record.make.cover import copy_of, way_to_cover
 from record.make.elsewhere import Elsewhere
 from record.make.graph import Build
 from record.make.owners import Owners
@@ -115,6 +115,7 @@ def note_holes(spool: Path, replay: Calls, owners: Owners, names: Names, record:
     record.holes += ["nobody knows who started a process: " + one for one in replay.strays()]
     record.holes += ["a make ran past the recorder: " + p for p in replay.past + replay.without_program()]
     record.notes += [PRINTED] if (replay.past or replay.unread) and owners.makes else []
+    record.hints += way_to_cover(record.words) if replay.past and not replay.covered else []
     for path in sorted(spool.glob("*.past")):
         record.holes += ["a make that prints its own words (-d, -p, --debug), or has nowhere to print them, ran past the recorder: " + t for t in path.read_text(errors="replace").splitlines()]
 

@@ -19,7 +19,7 @@ from itertools import islice
 from pathlib import Path
 from typing import Dict, List, Optional, Set, Tuple, cast
 
-from record import VERSION
+from record import RELEASE, VERSION
 from record.entry import STOPPING, Stopped, end_traced, printable
 from record.folder import ROOMS, NotWhole, Record, Taken, accept_warm, alone, aside, is_record, reading, rewrite, what_stands
 from record.judge import find_race, judge, no_race
@@ -202,6 +202,7 @@ def parser_of_words() -> argparse.ArgumentParser:
     parser.add_argument("--keep-trace", action="store_true", help="keep the trace in the record")
     parser.add_argument("--footprints", action="store_true", help="keep a listing and footprints of each build, for race check --makefile")
     parser.add_argument("--missing", action="store_true", help="report missing inputs too: files whose edit does not make a target again")
+    parser.add_argument("-V", "--version", action="version", version="%(prog)s " + RELEASE, help="print the version")
     parser.add_argument("words", nargs=argparse.REMAINDER, metavar="-- COMMAND ..", help="what builds the project")
     parser.set_defaults(linked=[])  # files of a copy that have names outside of it, in the folder itself
     return parser

@@ -6,10 +6,12 @@ That takes a list of mounts of one's own, which the system gives to root (CAP_SY
 
 import ctypes
 import os
+import shlex
 import shutil
+import subprocess
 import tempfile
 from pathlib import Path
-from typing import List, Optional
+from typing import List, Optional, Sequence
 
 from record.tools.shelltext import first_words
 
@@ -17,6 +19,10 @@ OWN_MOUNTS = 0x20000  # for unshare
 BIND, BELOW, FOLLOWS = 1 << 12, 1 << 14, 1 << 19  # for mount: a second name, all that is mounted below, and mounts that come from outside alone
 ROOM, RAN = "race-make-", "real.new"
 PAST = "past"  # the folder of the make for who may not read the recorder's program
+WHOLE_PATHS = "to record makes that are called by their whole path, "
+CONTAINER = WHOLE_PATHS + "give the container --cap-add=SYS_ADMIN, clean the tree, and record again"
+BY_NAMES = WHOLE_PATHS + "clean the tree, and run unshare -r race-record -- %s (the build then believes that it is root)"
+BY_ROOT = WHOLE_PATHS + "clean the tree, and record as root"
 
 
 class Cover:
@@ -76,3 +82,15 @@ def copy_of(spool: Path) -> str:
     except FileNotFoundError:
         return ""
     return os.path.realpath(path) if os.path.basename(os.path.dirname(path)).startswith(ROOM) else ""
+
+
+def works(option: str) -> bool:
+    """Whether this user gets mounts of its own by an option of unshare."""
+    return shutil.which("unshare") is not None and subprocess.run(["unshare", option, "true"], capture_output=True, check=False).returncode == 0
+
+
+def way_to_cover(words: Sequence[str]) -> List[str]:
+    """What to do where nothing lay over the make, and a build of these words called it by its whole path; nothing where that may not help."""
+    if os.geteuid() == 0:
+        return [] if works("-m") else [CONTAINER]
+    return [BY_NAMES % shlex.join(words) if works("-rm") else BY_ROOT]

@@ -12,6 +12,7 @@ from unittest import mock
 import support
 from support import races_of
 
+from record.make import cover
 from record.make.cover import OWN_MOUNTS, Cover
 
 MAKE = str(shutil.which("make"))
@@ -115,6 +116,18 @@ class Uncovered(Recorded):
 
     def test_make_as_the_command(self) -> None:
         self.wants("$(MAKE) -f in.mk", [MAKE])
+
+    def test_way(self) -> None:
+        """The report says what to do, by who records; and nothing where mounts are not what is missing."""
+        with mock.patch.object(cover, "works", return_value=False):
+            self.assertIn("\nHINT  " + cover.CONTAINER, self.outcome(MAKE + " -f in.mk > log", ORDERED).text().replace(cover.BY_ROOT, cover.CONTAINER))
+            with mock.patch("os.geteuid", return_value=1000):
+                self.assertEqual([cover.BY_ROOT], cover.way_to_cover(["make"]))
+        with mock.patch.object(cover, "works", return_value=True):
+            with mock.patch("os.geteuid", return_value=0):
+                self.assertEqual([], cover.way_to_cover(["make"]))
+            with mock.patch("os.geteuid", return_value=1000):
+                self.assertEqual([cover.BY_NAMES % "'a b' c"], cover.way_to_cover(["a b", "c"]))
 
 
 @unittest.skipUnless(os.geteuid() == 0 and shutil.which("setpriv"), "setpriv is missing (Debian: apt-get install util-linux), or not root runs this")
