@@ -45,6 +45,7 @@ from record.trace.lives import Life
 from record.trace.names import Names, mount_points
 from record.trace.past import Past, beginning
 from record.trace.skips import SYSTEM, unseen_changes
+from record.trace.spelling import twice
 from record.trace.strace import read_trace
 from record.warm import did_nothing, made_unseen, stand_alone, warm_names
 
@@ -110,7 +111,7 @@ def cut_words(spool: Path, lives: List[Life]) -> List[str]:
 def note_holes(spool: Path, replay: Calls, owners: Owners, names: Names, record: Record) -> None:
     """The holes of the trace itself, and of makes that ran past the recorder."""
     record.holes += ["a limit on the size of files (ulimit -f) cuts what a make says: " + one for one in cut_words(spool, replay.all)]
-    record.holes += replay.holes + owners.holes + names.mounted(mount_points()) + names.too_long()
+    record.holes += replay.holes + owners.holes + names.mounted(mount_points()) + names.too_long() + twice(names, replay.all, owners.makes)
     record.holes += ["--fresh copied %s, which has a name outside of the folder too, and the build writes it" % path for path in replay.hard_links if path in names.shared]
     record.holes += ["nobody knows who started a process: " + one for one in replay.strays()]
     record.holes += ["a make ran past the recorder: " + p for p in replay.past + replay.without_program()]

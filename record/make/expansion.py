@@ -179,10 +179,9 @@ class Expansion:
             self.depth += 1
             if self.depth > DEPTH:
                 raise Unclear
-            for text in self.known.steady.texts(name):
-                self.text(text, scope)
+            found = {text: self.text(text, scope) for text in self.known.steady.texts(name)}
             values = self.known.steady.values(name)
-            self.done[key] = union(self.text(text, scope) for text in values) if values is not None else UNKNOWN
+            self.done[key] = union(found[text] if text in found else self.text(text, scope) for text in values) if values is not None else UNKNOWN
             self.depth -= 1
         return self.done[key]
 

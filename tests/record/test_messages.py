@@ -105,7 +105,7 @@ class NoRace(unittest.TestCase):
     def scripts(self, scripts: str, pages: str) -> Path:
         """Puts the scripts and the pages there; the folder of the scripts."""
         for name in COMPANIONS:
-            shutil.copytree(TOP / name, self.room / scripts / name, ignore=shutil.ignore_patterns("__pycache__"))
+            shutil.copytree(TOP / name, self.room / scripts / name)  # with what Python compiled
         (self.room / pages).mkdir(parents=True)
         for name in ("INSTALL.md", "RECORD.md"):
             (self.room / pages / name).touch()
