@@ -116,7 +116,7 @@ def note_holes(spool: Path, replay: Calls, owners: Owners, names: Names, record:
     record.holes += ["nobody knows who started a process: " + one for one in replay.strays()]
     record.holes += ["a make ran past the recorder: " + p for p in replay.past + replay.without_program()]
     record.notes += [PRINTED] if (replay.past or replay.unread) and owners.makes else []
-    record.hints += way_to_cover(record.words) if replay.past and not replay.covered else []
+    record.hints += way_to_cover(record.words, replay.real) if replay.past and not replay.covered else []
     for path in sorted(spool.glob("*.past")):
         record.holes += ["a make that prints its own words (-d, -p, --debug), or has nowhere to print them, ran past the recorder: " + t for t in path.read_text(errors="replace").splitlines()]
 

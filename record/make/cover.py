@@ -19,6 +19,7 @@ OWN_MOUNTS = 0x20000  # for unshare
 BIND, BELOW, FOLLOWS = 1 << 12, 1 << 14, 1 << 19  # for mount: a second name, all that is mounted below, and mounts that come from outside alone
 ROOM, RAN = "race-make-", "real.new"
 PAST = "past"  # the folder of the make for who may not read the recorder's program
+SCRIPT = "%s is a script: put the folder of the make that it runs in front of its own on PATH, clean the tree, and record again"
 WHOLE_PATHS = "to record makes that are called by their whole path, "
 CONTAINER = WHOLE_PATHS + "give the container --cap-add=SYS_ADMIN, clean the tree, and record again"
 BY_NAMES = WHOLE_PATHS + "clean the tree, and run unshare -r race-record -- %s (the build then believes that it is root)"
@@ -89,8 +90,10 @@ def works(option: str) -> bool:
     return shutil.which("unshare") is not None and subprocess.run(["unshare", option, "true"], capture_output=True, check=False).returncode == 0
 
 
-def way_to_cover(words: Sequence[str]) -> List[str]:
+def way_to_cover(words: Sequence[str], real: str) -> List[str]:
     """What to do where nothing lay over the make, and a build of these words called it by its whole path; nothing where that may not help."""
+    if first_words(real):
+        return [SCRIPT % real]
     if os.geteuid() == 0:
         return [] if works("-m") else [CONTAINER]
     return [BY_NAMES % shlex.join(words) if works("-rm") else BY_ROOT]

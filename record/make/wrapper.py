@@ -40,7 +40,7 @@ class Splitter:
 
     def __init__(self, log: Kept, out: int, says: bool = False) -> None:
         self.log, self.out = log, out
-        self.start = True  # nothing but make's version was written yet
+        self.start = True  # make has said nothing but its version
         self.base = False  # inside of the data base
         self.blank = False  # an empty line that may belong to the data base is held back
         self.tail = False  # the empty line behind the data base is due
@@ -217,7 +217,6 @@ class Splitter:
             if self.copies is not None:
                 self.copies.add(packet, self.log)
         else:
-            self.start = False
             self.note_said()
             self.pass_on(packet[2:] if is_folder(packet) else packet)
 

@@ -16,7 +16,9 @@ COVER_GUARDS: List[Guard] = [
     Guard("cover: another user", "trace/started.py", "                self.past.append(program)\n", "                pass\n", COVERED + "another_user", LOST_HOLE),
     Guard("no cover: makes past the recorder", "trace/started.py", "            self.past.append(\" \".join(life.argv)[:200])\n\n    def is_unknown", "            pass\n\n    def is_unknown", UNCOVERED + "path", LOST_HOLE),
     Guard("no cover: scripts of make", "trace/started.py", "if found.path == self.real:  # the kernel", "if False:  # the kernel", UNCOVERED + "script", LOST_HOLE),
-    Guard("no cover: what to do", "importing.py", "way_to_cover(record.words) if replay.past and not replay.covered else []", "[]", UNCOVERED + "way", "not found in"),
+    Guard("no cover: what to do", "importing.py", "way_to_cover(record.words, replay.real) if replay.past and not replay.covered else []", "[]", UNCOVERED + "way", "not found in"),
     Guard("no cover: what to do where mounts are not what is missing", "make/cover.py", "[] if works(\"-m\") else [CONTAINER]", "[CONTAINER]", UNCOVERED + "way"),
+    Guard("no cover: what to do where the make is a script", "make/cover.py", "    if first_words(real):\n        return", "    if False:\n        return", UNCOVERED + "make_that_is_a_script", UNSAID),
+    Guard("output: behind what a script in the place of make prints", "make/wrapper.py", "        else:\n            self.note_said()\n", "        else:\n            self.start = False\n            self.note_said()\n", UNCOVERED + "make_that_is_a_script"),
     Guard("no cover: what such a make prints", "importing.py", "[PRINTED] if (replay.past or replay.unread) and owners.makes else []", "[]", UNCOVERED + "path", UNSAID),
 ]

@@ -122,12 +122,22 @@ class Uncovered(Recorded):
         with mock.patch.object(cover, "works", return_value=False):
             self.assertIn("\nHINT  " + cover.CONTAINER, self.outcome(MAKE + " -f in.mk > log", ORDERED).text().replace(cover.BY_ROOT, cover.CONTAINER))
             with mock.patch("os.geteuid", return_value=1000):
-                self.assertEqual([cover.BY_ROOT], cover.way_to_cover(["make"]))
+                self.assertEqual([cover.BY_ROOT], cover.way_to_cover(["make"], MAKE))
         with mock.patch.object(cover, "works", return_value=True):
             with mock.patch("os.geteuid", return_value=0):
-                self.assertEqual([], cover.way_to_cover(["make"]))
+                self.assertEqual([], cover.way_to_cover(["make"], MAKE))
             with mock.patch("os.geteuid", return_value=1000):
-                self.assertEqual([cover.BY_NAMES % "'a b' c"], cover.way_to_cover(["a b", "c"]))
+                self.assertEqual([cover.BY_NAMES % "'a b' c"], cover.way_to_cover(["a b", "c"], MAKE))
+
+
+    def test_make_that_is_a_script(self) -> None:
+        """It prints a line of its own, and runs a make by its whole path."""
+        with support.Project({"Makefile": "all: ; @echo 1 > all\n", "bin/make": "#!/bin/sh\necho mine\nexec %s \"$@\"\n" % MAKE}) as project:
+            project.sh("chmod +x bin/make")
+            env = {**os.environ, "PATH": "%s/bin:%s" % (project.folder, os.environ["PATH"])}
+            outcome = project.run(["--race", support.race_program(), "--", "make"], env)
+            self.assertEqual((2, "mine\nNO VERDICT"), (outcome.status, outcome.text()[:15]), outcome.text())
+            self.assertIn("HINT  " + cover.SCRIPT % (project.folder / "bin/make"), outcome.text())
 
 
 @unittest.skipUnless(os.geteuid() == 0 and shutil.which("setpriv"), "setpriv is missing (Debian: apt-get install util-linux), or not root runs this")
