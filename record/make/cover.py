@@ -11,7 +11,7 @@ import shutil
 import subprocess
 import tempfile
 from pathlib import Path
-from typing import List, Optional, Sequence
+from typing import List, Sequence
 
 from record.tools.shelltext import first_words
 
@@ -29,7 +29,7 @@ BY_ROOT = WHOLE_PATHS + "clean the tree, and record as root"
 class Cover:
     """A copy of the make, which the recorder's make runs, and the mount that lays that over the make."""
 
-    def __init__(self, spool: Path, real: str, rooms: Optional[str]) -> None:
+    def __init__(self, spool: Path, real: str, rooms: str) -> None:
         self.spool, self.real = spool, os.path.realpath(real)
         self.room = Path(tempfile.mkdtemp(prefix=ROOM, dir=rooms))
         self.copy, self.past = self.room / "make", self.room / PAST / "make"

@@ -32,5 +32,8 @@ PLACE_GUARDS: List[Guard] = [
     Guard("places: the job server of a make above", "main.py", 'JOB_WORDS.sub("", words) + dashes', "words + dashes", placed("flags_of_a_make_above")),
     Guard("places: blanks in flags", OPTIONS, "words[-1] + \" \" + word] if goes_on else", "words[-1] + \" \" + word] if False else", "test_wrapper.Asked.test_flags_of_the_make_above"),
     Guard("places: backslashes in flags", OPTIONS, '(len(word) - len(word.rstrip("\\\\"))) % 2 == 1', 'word.endswith("\\\\")', "test_wrapper.Asked.test_flags_of_the_make_above"),
+    Guard("rooms: programs may run there", "folder.py", "for place in filter(may_run, places):", "for place in places:", "test_places.Rooms.test_first_folder_in_which_programs_may_run"),
+    Guard("rooms: none", "folder.py", "    raise NoRoom(", "    return places[0]\n    raise NoRoom(", "test_places.Rooms.test_no_folder"),
+    Guard("rooms: mounted noexec", "folder.py", " and not os.statvfs(place).f_flag & os.ST_NOEXEC", "", "test_places.Rooms.test_folder"),
     Guard("data base: lines that begin like one of its parts", BASE, "elif text == PARTS[2]:", "elif text.startswith(PARTS[2]):", "test_places.Makefiles.test_file_with_lines_that_begin_so", YES),
 ]
