@@ -95,6 +95,8 @@ PROJECT_GUARDS: List[Guard] = [
     Guard("ages: updates that compare none, by the words of cp", "tools/shellages.py", '"cp": re.compile(r"\\s(-\\w*u|--u(?!\\w*=(?:all|none)))")', '"cp": re.compile(r"\\s(-\\w*u|--u)")', "test_ages.Ages.test_words_that_do_not", "True is not false"),
     Guard("ages: what a compiler writes", "tools/shellages.py", r'OUTPUT.sub(r"\1x", text)', "text", project("tool_that_is_linked_with_a_library"), FALSE_RACE),
     Guard("ages: what xargs runs", "tools/shellages.py", 'text if "xargs" in text else ', "", "test_ages.Ages.test_words_that_compare", "False is not true"),
+    Guard("messages: calls with many words", "report.py", 'words if len(words) <= WORDS else words[:WORDS].rpartition(" ")[0] + " .."', "words", "test_messages.NoVerdict.test_calls_with_many_words", "Lists differ"),
+    Guard("messages: names as the paths have them", "folder.py", 'shown(m.replace(" %s/" % root.rstrip("/"), " "))', "shown(m)", "test_afterwards.Makefiles.test_age_of_a_folder", UNSAID),
     Guard("ages: scripts that libtool puts in the place of programs", "tools/shellages.py", "if script and is_put_by_libtool(os.path.join(folder, script)):", "if False:", project("programs_that_libtool_stands_in_for"), FALSE_RACE),
     Guard("ages: where their links lead", "trace/replay.py", "self.aged[key] and (above is None or not shellages.asks_where_it_leads(life.argv, above.argv, above.folder))", "self.aged[key]", project("programs_that_libtool_stands_in_for"), FALSE_RACE),
     Guard("ages: scripts that libtool did not write", "tools/shellages.py", "return OF_LIBTOOL.match(contents(path)) is not None", "return True", project("scripts_that_ask_as_those_of_libtool"), YES),
