@@ -325,8 +325,15 @@ class Answers:
         return found
 
     def surely_named(self, target: str) -> str:
-        """The name of a target if it surely is `$@` in its recipe: no search path gives it another one, and no other target has the same recipe run."""
-        return target if not self.known.base.search and target not in self.grouped and TARGET.fullmatch(target) else ""
+        """The name of a target if it surely is `$@` in its recipe: no search path gives it another one, as make has run that by this name, and no other
+        target has the same recipe run."""
+        is_own = not self.known.base.search or target in self.ran
+        return target if is_own and target not in self.grouped and TARGET.fullmatch(target) else ""
+
+    @cached_property
+    def ran(self) -> Set[str]:
+        """The names by which make has said that it remakes targets: what it found in a search path, it has renamed before that, or not at all."""
+        return {job.target for one in self.known.make.words.rounds for job in one.jobs}
 
     @cached_property
     def grouped(self) -> Set[str]:

@@ -41,6 +41,7 @@ EXPANSION_GUARDS: List[Guard] = [
     Guard("calls: the stem", EXPANSION, '"*": known.base.stems[target] if is_known else OPEN}', '"*": OPEN}', call("makefiles_of_linux"), FALSE_RACE),
     Guard("calls: the stems of two rules", EXPANSION, "target and target not in known.base.double and", "target and", call("stem_of_two_rules"), YES, SHOWN),
     Guard("calls: the name of the target", EXPANSION, '{"@": target or OPEN,', '{"@": OPEN,', call("name_of_the_target_that_is_not"), FALSE_RACE),
+    Guard("calls: names that make has said", EXPANSION, " or target in self.ran", "", call("name_of_a_target_that_is_not_taken_from_a_search_path"), FALSE_RACE),
     Guard("calls: names of several targets", EXPANSION, "and target not in self.grouped and", "and", call("name_of_another_target_of_the_recipe"), YES),
     Guard("calls: exported macros", MACROS, 'self.answers.of("\\n".join(self.exports.texts)))', 'self.reached("\\n".join(self.exports.texts)))', call("another_name_in_an_exported_macro"), FALSE_RACE),
     Guard("steady: what recipes change", STEADY, "name in self.known.changed or name in", "name in", call("macro_of_a_computed_name_that_leads_to_one_that_sets_it"), YES, (USED, "        use.writes |= unwritten\n", "")),
