@@ -116,7 +116,7 @@ def write_build(folder: Path, build: "Build", within: Optional[Dict[str, str]]) 
             file.write(line + "\n")
             about.setdefault(label, {"target": "", "kind": "group", "file": "", "line": 0, "recipe": ""})
             edges += len(json.loads(line)["after"])
-    meanings = {relative(root, p): shown(m) for p, m in build.meanings.items()}
+    meanings = {relative(root, p): shown(m.replace(" %s/" % root.rstrip("/"), " ")) for p, m in build.meanings.items()}  # with names as the paths have them
     askers = {relative(root, path): labels[at] for path, at in build.askers.items() if at >= 0}
     counts = {
         "considered": build.considered, "tasks": len(about), "edges": edges,

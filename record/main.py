@@ -170,7 +170,8 @@ def run_build(words: List[str], spool: Path, tops: List[str], cover: Cover) -> T
         ended, filled = threading.Event(), threading.Event()
         filling = pool.submit(pipe.fill, ended.wait, Standstill(process.pid).see)
         filling.add_done_callback(lambda _: filled.set())
-        sifting, loading = pool.submit(sift, pipe.file, tops, spool / "sifted", filled.wait), pool.submit(import_module, "record.importing")
+        covered = [cover.real] if cover.is_ready else []
+        sifting, loading = pool.submit(sift, pipe.file, tops, spool / "sifted", filled.wait, covered), pool.submit(import_module, "record.importing")
         try:
             signal.pthread_sigmask(signal.SIG_SETMASK, held)
             status, seconds = process.wait(), time.monotonic() - began

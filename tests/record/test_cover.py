@@ -19,6 +19,7 @@ MAKE = str(shutil.which("make"))
 RACE, ORDERED = "all: a b\na: ; echo a > a\nb: ; cat a > b\n", "all: a b\na: ; echo a > a\nb: a ; cat a > b\n"
 RULES = "#!%s -f\n" % MAKE
 PAST = "a make ran past the recorder: "
+READ_IT = "a program read make itself, and found the recorder's script in its place: "
 
 
 def may_cover() -> bool:
@@ -83,6 +84,12 @@ class Covered(Recorded):
             found = project.record()
         self.assertEqual((1, ["mk"]), (found.status, races_of(found.text())), found.text())
 
+    def test_make_that_is_read(self) -> None:
+        """It is another file than without the recorder, as for `ldd` in the makefile of keyutils. Who asks whether it is there sees the same."""
+        for recipe, status in (("cat %s > x" % MAKE, 2), ("test -x %s && stat -c %%A %s > x" % (MAKE, MAKE), 0)):
+            found = self.outcome(recipe, "all: ;\n")
+            self.assertEqual((status, status == 2), (found.status, READ_IT + "cat " + MAKE in found.text()), found.text())
+
     def test_cover_that_is_gone(self) -> None:
         found = self.outcome("umount %s; %s -f in.mk > log" % (os.path.realpath(MAKE), MAKE), ORDERED)
         self.assertEqual(2, found.status, found.text())
@@ -113,6 +120,12 @@ class Uncovered(Recorded):
         found = self.outcome("./rules all > log", ORDERED)
         self.assertEqual(2, found.status, found.text())
         self.assertIn(PAST, found.text())
+
+    def test_make_that_is_read(self) -> None:
+        """By its whole path that is make itself; the first one on PATH is the recorder's."""
+        for recipe, status in (("cat %s > x" % MAKE, 0), ("cat `command -v make` > x", 2)):
+            found = self.outcome(recipe, "all: ;\n")
+            self.assertEqual((status, status == 2), (found.status, READ_IT + "cat /" in found.text()), found.text())
 
     def test_make_as_the_command(self) -> None:
         self.wants("$(MAKE) -f in.mk", [MAKE])
