@@ -32,5 +32,7 @@ PLACE_GUARDS: List[Guard] = [
     Guard("places: the job server of a make above", "main.py", 'JOB_WORDS.sub("", words) + dashes', "words + dashes", placed("flags_of_a_make_above")),
     Guard("places: blanks in flags", OPTIONS, "words[-1] + \" \" + word] if goes_on else", "words[-1] + \" \" + word] if False else", "test_wrapper.Asked.test_flags_of_the_make_above"),
     Guard("places: backslashes in flags", OPTIONS, '(len(word) - len(word.rstrip("\\\\"))) % 2 == 1', 'word.endswith("\\\\")', "test_wrapper.Asked.test_flags_of_the_make_above"),
+    Guard("output: files that a make removes which stops", WRAPPER, "elif self.next is not None and packet == REMOVING:", "elif False:", "test_output.Output.test_intermediate_files_of_a_build_that_fails"),
+    Guard("output: that line of a recipe that prints it", WRAPPER, "remade(packet) == self.next and not any(", "False and not any(", "test_wrapper.Splits.test_files_that_a_make_removes_which_stops_before_a_recipe"),
     Guard("data base: lines that begin like one of its parts", BASE, "elif text == PARTS[2]:", "elif text.startswith(PARTS[2]):", "test_places.Makefiles.test_file_with_lines_that_begin_so", YES),
 ]
