@@ -364,6 +364,7 @@ def called_as(me: str, spool: str) -> str:
 
 def main(spool: str) -> None:
     """Runs the real make, as the caller asked."""
+    signal.signal(signal.SIGCHLD, signal.SIG_DFL)  # as make does, too: who ignores the end of a child does not learn its status
     USUAL.extend([signal.SIGINT] if signal.signal(signal.SIGINT, signal.SIG_IGN) != signal.SIG_IGN else [])
     forget_coerced(os.environ)
     name, args = called_as(sys.argv[0], spool), sys.argv[1:]
