@@ -271,7 +271,7 @@ def attempt(options: argparse.Namespace, words: List[str], tools: Dict[str, str]
         cover.prepare(names.tops)
         if options.missing:
             (spool / "again").touch()
-        status, seconds = run_build(by_name(words, real), spool, names.tops, cover)
+        status, seconds = run_build(by_name(words, real, is_covered=cover.can_be_laid()), spool, names.tops, cover)
         record = Record(options.words, folder, status, round(seconds, 2), dict(tools))
         if status != 0:
             record.holes.append("the build ended with status %d" % status + (": signal %d stopped it" % -status if status < 0 else ""))
