@@ -16,7 +16,7 @@ from importlib import import_module
 from pathlib import Path
 from typing import Iterator, List
 
-STOPPING = (signal.SIGINT, signal.SIGTERM, signal.SIGHUP)
+STOPPING = (signal.SIGINT, signal.SIGTERM, signal.SIGHUP, signal.SIGQUIT)
 UNHEARD: List[signal.Signals] = []  # what this program hears, and its caller ignores, as a build would
 FAILED = 3
 SHORT = 100  # bytes of a path that may stand in the first line of a script

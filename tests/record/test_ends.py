@@ -28,7 +28,7 @@ SAFE = {"Makefile": "all: ; @touch all\n"}
 def alone() -> None:
     """A session of its own, in which signals do what they usually do."""
     os.setsid()
-    for number in (signal.SIGINT, signal.SIGTERM, signal.SIGHUP):
+    for number in (signal.SIGINT, signal.SIGTERM, signal.SIGHUP, signal.SIGQUIT):
         signal.signal(number, signal.SIG_DFL)
 
 
@@ -71,6 +71,10 @@ class Signals(unittest.TestCase):
 
     def test_hung_up(self) -> None:
         self.stopped(signal.SIGHUP)
+
+    def test_quit(self) -> None:
+        self.stopped(signal.SIGQUIT, True)
+        self.stopped(signal.SIGQUIT)
 
     def test_interrupted_at_a_terminal(self) -> None:
         self.stopped(signal.SIGINT, True)
