@@ -68,7 +68,7 @@ def replay_trace(spool: Path, names: Names, real: str, folder: str, tops: List[s
     return replay
 
 
-PRINTED = "a make that ran past the recorder prints the recorder's words, where a make started it: a file that keeps what it printed is not as without race-record, so clean the tree before you build again"
+PRINTED = "a make that ran past the recorder prints the recorder's words, where a make started it (its version, what it considers, its data base): a file that keeps what it printed is not as without race-record, so clean the tree before you build again"
 
 
 @dataclass

@@ -20,7 +20,7 @@ from pathlib import Path
 from typing import Dict, List, Optional, Set, Tuple, cast
 
 from record import RELEASE, VERSION
-from record.entry import STOPPING, Stopped, end_traced, printable
+from record.entry import STOPPING, UNHEARD, Stopped, end_traced, interpreter, printable
 from record.folder import NoRoom, NotWhole, Record, Taken, accept_warm, alone, aside, is_record, reading, rewrite, room_of_programs, what_stands
 from record.judge import find_race, judge, no_race
 from record.make.cover import Cover
@@ -119,7 +119,7 @@ def prepare_spool(spool: Path, real: str, past: Path) -> None:
     for stream in (1, 2):
         note_output(str(spool), stream, "")
     (spool / "wrapper").write_bytes(wrapper())
-    text = PROGRAM % (sys.executable, str(spool / "wrapper"), str(past), str(spool))
+    text = PROGRAM % (interpreter(spool), str(spool / "wrapper"), str(past), str(spool))
     for name in ("make", "gmake"):
         if shutil.which(name):
             path = spool / "bin" / name
@@ -140,6 +140,8 @@ def enter(cover: Cover, older: Older, heard: object, held: Set[signal.Signals]) 
     for one in STOPPING[1:]:
         if signal.getsignal(one) is not signal.SIG_IGN:
             signal.signal(one, signal.SIG_DFL)
+    for one in UNHEARD:
+        signal.signal(one, signal.SIG_IGN)
     signal.pthread_sigmask(signal.SIG_SETMASK, held)
 
 
@@ -272,7 +274,7 @@ def attempt(options: argparse.Namespace, words: List[str], tools: Dict[str, str]
         cover.prepare(names.tops)
         if options.missing:
             (spool / "again").touch()
-        status, seconds = run_build(by_name(words, real), spool, names.tops, cover)
+        status, seconds = run_build(by_name(words, real, is_covered=cover.can_be_laid), spool, names.tops, cover)
         record = Record(options.words, folder, status, round(seconds, 2), dict(tools))
         if status != 0:
             record.holes.append("the build ended with status %d" % status + (": signal %d stopped it" % -status if status < 0 else ""))

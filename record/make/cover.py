@@ -55,21 +55,34 @@ class Cover:
         done: bool = self.libc.mount(source, target, None, ctypes.c_ulong(flags), None) == 0
         return done
 
-    def enter(self) -> None:
-        """For the process that becomes strace: it, and all that it starts, have mounts of their own. SPOOL/real says which make runs then."""
+    def lay(self) -> bool:
+        """Gives this process, and all that it starts, mounts of their own, in which the recorder's make lies over the make; whether both can run."""
         if not self.is_ready or self.libc.unshare(OWN_MOUNTS) != 0 or not self.mount(b"none", b"/", BELOW | FOLLOWS):
-            return
+            return False
         target = os.fsencode(self.real)
         if not self.mount(os.fsencode(self.spool / "bin" / "make"), target, BIND):
+            return False
+        if os.access(target, os.X_OK) and os.access(self.copy, os.X_OK):  # the folder may be one in which nothing runs
+            return True
+        self.libc.umount(target)
+        return False
+
+    def can_be_laid(self) -> bool:
+        """Whether the system lets a process do so."""
+        child = os.fork() if self.is_ready else 0
+        if self.is_ready and child == 0:
+            os._exit(0 if self.lay() else 1)
+        return self.is_ready and os.waitpid(child, 0)[1] == 0
+
+    def enter(self) -> None:
+        """For the process that becomes strace. SPOOL/real says which make runs then."""
+        if not self.lay():
             return
         try:
-            if os.access(target, os.X_OK) and os.access(self.copy, os.X_OK):  # the folder may be one in which nothing runs
-                (self.spool / RAN).write_text(str(self.copy))
-                os.replace(self.spool / RAN, self.spool / "real")
-                return
+            (self.spool / RAN).write_text(str(self.copy))
+            os.replace(self.spool / RAN, self.spool / "real")
         except OSError:  # the disk is full
-            pass
-        self.libc.umount(target)
+            self.libc.umount(os.fsencode(self.real))
 
     def remove(self) -> None:
         """Takes the copy away, when the build has ended."""

@@ -9,6 +9,9 @@ COVERED, UNCOVERED = "test_cover.Covered.test_", "test_cover.Uncovered.test_"
 
 COVER_GUARDS: List[Guard] = [
     Guard("cover: the recorder's make runs", "make/cover.py", "if not self.is_ready or ", "if True or ", COVERED + "path"),
+    Guard("cover: the command as it is", "main.py", "is_covered=cover.can_be_laid)", "is_covered=bool)", COVERED + "command_that_names_make_by_its_path"),
+    Guard("cover: scripts of make as they are", "ninja/again.py", "os.path.realpath(first[0]) == os.path.realpath(real) and not is_covered():", "os.path.realpath(first[0]) == os.path.realpath(real):", COVERED + "command_that_names_make_by_its_path"),
+    Guard("no cover: the command by name", "make/cover.py", "return self.is_ready and os.waitpid(child, 0)[1] == 0", "return True", UNCOVERED + "make_as_the_command", "(1, ['a']) != (2, [])"),
     Guard("cover: is known in the trace", "trace/started.py", " or path == self.covered:", ":", COVERED + "path"),
     Guard("cover: scripts of make", "trace/started.py", "            path = self.names.find(life.folder, words[0], True).path\n        return \"\"", "            break\n        return \"\"", COVERED + "script"),
     Guard("cover: the kernel reads a script", "trace/started.py", "            self.look(life, program, True, True, READ)\n            self.look_at_interpreters(life, program)\n        self.unread", "            pass\n        self.unread", COVERED + "script_whose_interpreter_a_recipe_makes", "(1, ['mk']) != (0, [])"),

@@ -298,7 +298,7 @@ UNFILED: List[Guard] = [
     Guard("serial: the user's own -j1, handed on", "make/options.py", "return own_jobs(args[at + 1:])", "return own_jobs(args)", small("own_jobs_that_a_recipe_hands_on"), YES),
     Guard("holes: several jobs at once", "make/words.py", "words.holes += [SEVERAL + words.args] if", "words.holes += [] if", small("jobs_of_a_makefile"), "2 != ",
           ("make/owners.py", "return any(second.born < first.died for", "return any(False for")),
-    Guard("wrapper: intermediate files", "make/lines.py", 'b"Removing intermediate files...", ', "", "test_output.Output.test_intermediate_files"),
+    Guard("wrapper: intermediate files", "make/lines.py", "REMOVING[:-1], ", "", "test_output.Output.test_intermediate_files"),
     Guard("wrapper: order-only prerequisites", "make/lines.py", """b"' is order-only for target '", """, "", "test_output.Output.test_order_only_prerequisite_of_a_target_that_is_there"),
     Guard("macros that recipes change", "make/build.py", "        add_macros(self, created)\n", "", small("macro_that_a_recipe_changes"), YES),
     Guard("macros: by way of others", "make/macros.py", "todo = set().union(*(self.named_by(name, again) for name in todo)) - seen", "todo = set()", small("macro_by_way_of_another"), YES, COARSE),

@@ -77,6 +77,16 @@ class Covered(Recorded):
         self.assertEqual(plain.stdout, found.stdout[:len(plain.stdout)])
         self.assertEqual(b"\x7fELF", Path(MAKE).read_bytes()[:4])
 
+    def test_command_that_names_make_by_its_path(self) -> None:
+        """$(MAKE) is that path then, and the lines that make prints have it."""
+        files = {"Makefile": "all: ; $(MAKE) -s -f in.mk > log\n", "in.mk": "all: ; @echo $(MAKE)\n", "rules": RULES + "include Makefile\n"}
+        for words in ([MAKE], ["./rules"]):
+            with self.subTest(words), support.Project(files) as project:
+                project.sh("chmod +x rules")
+                plain, found = project.plain(words), project.record(words)
+                self.assertEqual((0, plain.stdout), (found.status, found.stdout[:len(plain.stdout)]))
+                self.assertEqual(MAKE + "\n", (project.folder / "log").read_text())
+
     def test_script_whose_interpreter_a_recipe_makes(self) -> None:
         """The kernel goes by a link that nothing else reads."""
         with support.Project({"Makefile": "all: mk use\nmk: ; ln -s %s mk\nuse: ; +./rules > /dev/null || true\n" % MAKE, "rules": "#!./mk -f\nall: ; echo x > x\n"}) as project:

@@ -1,6 +1,7 @@
 """Where and how a build is called: what its caller has opened, set and ignored is for the recorded build as it is for a plain one."""
 
 import os
+import shutil
 import tempfile
 import unittest
 from dataclasses import dataclass
@@ -35,7 +36,8 @@ class Places(unittest.TestCase):
     def left(self, makefile: str, place: Place, is_recorded: bool) -> Left:
         with support.Project({"Makefile": makefile}) as project:
             room = project.folder.parent
-            words = [str(support.RECORDER), "--race", support.race_program(), "--", "make"] if is_recorded else ["make"]
+            command = place.command(["make"])
+            words = [str(support.RECORDER), "--race", support.race_program(), "--", *command] if is_recorded else command
             status, out, err = Ran(place, words, room, BARE).wait(support.SECONDS)
             here = os.fsencode(room)
             files = {path.name: path.read_bytes() for path in sorted(project.folder.iterdir()) if path.is_file()}
@@ -67,6 +69,17 @@ class Places(unittest.TestCase):
     def test_signals_that_the_caller_ignores(self) -> None:
         for makefile in ("all: ; @" + SIGNALS + "\n", AGAIN % SIGNALS):
             self.both(makefile, Place(ignored=["INT", "HUP"]))
+
+    def test_end_of_a_child_that_the_caller_ignores(self) -> None:
+        """Who ignores it learns no status of a child: a race would be lost."""
+        self.both(RULES, Place(ignored=["CHLD"]), 1)
+        says = "python3 -c 'import os, signal, sys; print(signal.getsignal(signal.SIGCHLD) is signal.SIG_IGN, flush=True); os.execvp(sys.argv[1], sys.argv[1:])'"
+        self.assertEqual(b"True\n", self.both("all: ; @touch all\n", Place(ignored=["CHLD"], call=says)).out)
+
+    @unittest.skipUnless(shutil.which("python3", path=os.defpath), "no Python is where it is sought without a PATH")
+    def test_no_variables_at_all(self) -> None:
+        """Python does not know its own path then. Make runs nothing without a shell: the recorder sets a PATH."""
+        self.both(RULES.replace("cp a b", "cat a > b"), Place(env=dict.fromkeys(BARE)), 1)
 
     def test_flags_that_only_ask(self) -> None:
         """What they print is the build's, and there is no verdict."""
