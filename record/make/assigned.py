@@ -2,7 +2,7 @@
 
 import re
 from functools import lru_cache
-from typing import Iterator, List, Tuple
+from typing import Iterator, List, NamedTuple, Tuple
 
 from record.make.database import BEGINS, level
 from record.make.references import ANY, NAME, joined
@@ -14,6 +14,8 @@ LATE = re.compile(r"(?:[)}]|\$\w)([\w.-]*)[ \t]*(?:[+?]|:::)?=" + LINE)  # the s
 PUT_TOGETHER = re.compile(r"\$[({](?:call[ \t]+)?[\w.-]*\$")  # a reference whose name another one gives
 WHOLE = re.compile(r"(?ms)(?<!\\\n)^ *(?:(?:export|override)[ \t]+)*define[ \t]+([\w.-]+)[ \t]*=?[ \t]*\n.*?^[ \t]*endef\b")
 END_OF_NAME = re.compile(r"(?:[)}]|\$\w)([\w.-]*)[ \t]*(?:[:+?!]*=)?[ \t]*$")  # behind what another macro gives of it, in a line that begins with `define`
+WORD = re.compile(r"([\w.-]*)(\$[({]?\w+[)}]?)")  # of a name: what stands there, and another macro
+BEHIND_TWO = re.compile(r"\$\$[({](?:call[ \t]+)?(?:eval|guile)[ \t,]")  # in a text that a template gives to a macro, which then sets others
 DEFINED = re.compile(BEGINS + r"[ \t]*(" + NAME + r"*)([^\n]*)")
 
 
@@ -21,7 +23,7 @@ DEFINED = re.compile(BEGINS + r"[ \t]*(" + NAME + r"*)([^\n]*)")
 def assigned_in(text: str) -> List[Tuple[str, str]]:
     """What makefiles assign to macros: many makes may read the same ones."""
     lines = joined(text)
-    defined = ((ANY if "$" in name else name, body) for name, body in defined_in(text))
+    defined = ((ANY if "$" in name else name, body) for name, body in all_defined(text))
     return [*((name, value) for name, _, value in signed_in(text)), *((ANY, one.group(1)) for one in ASSIGNED_TO_ANY.finditer(lines)), *defined]
 
 
@@ -31,11 +33,40 @@ def signed_in(text: str) -> List[Tuple[str, str, str]]:
     return [(one.group(1), one.group(2) or "", one.group(3)) for one in ASSIGNED.finditer(joined(text))]
 
 
+class Late(NamedTuple):
+    """What makefiles assign to macros whose names others give, and make works out when somebody asks for it: how the name ends, the value, and the beginning of the
+    name: what stands there, and the macro that gives a part of it (nothing where it has more)."""
+
+    end: str
+    value: str
+    begin: str = ""
+    macro: str = ""
+
+    def value_of(self, name: str) -> str:
+        """The value that a macro has, as far as the text of a template says it."""
+        head = name[len(self.begin):len(name) - len(self.end)]
+        is_known = self.macro and name.startswith(self.begin) and head
+        return once(self.value.replace(self.macro, head) if is_known else self.value)
+
+
+def once(text: str) -> str:
+    """A text that a template gives to a macro, as make has read it."""
+    return text.replace("$$", "$") if BEHIND_TWO.search(text) else text
+
+
 @lru_cache(8)
-def late_in(text: str) -> List[Tuple[str, str]]:
-    """What makefiles assign to macros whose names others give, and make works out when somebody asks for it: how the name ends, and the value."""
-    defined = ((END_OF_NAME.search(name), body) for name, body in defined_in(text) if "$" in name)
-    return [*((one.group(1), one.group(2)) for one in LATE.finditer(joined(text))), *((end.group(1) if end else "", body) for end, body in defined)]
+def late_in(text: str) -> List[Late]:
+    """All that makefiles say so."""
+    lines = joined(text)
+    defined = ((END_OF_NAME.search(name), body) for name, body in all_defined(text) if "$" in name)
+    return [*(late_at(lines, one) for one in LATE.finditer(lines)), *(Late(end.group(1) if end else "", body) for end, body in defined)]
+
+
+def late_at(lines: str, one: "re.Match[str]") -> Late:
+    """What is assigned at a place of a makefile."""
+    end = one.start(1)
+    word = WORD.fullmatch(lines[max(lines.rfind(sign, 0, end) for sign in "\n\t ,") + 1:end])
+    return Late(one.group(1), one.group(2), *(word.groups() if word is not None else ()))
 
 
 def defined_in(text: str) -> Iterator[Tuple[str, str]]:
@@ -54,6 +85,13 @@ def defined_in(text: str) -> Iterator[Tuple[str, str]]:
         previous = line
     if depth:
         yield name, "\n".join(body)
+
+
+def all_defined(text: str) -> Iterator[Tuple[str, str]]:
+    """The same, and those that stand in others, as make defines them where it reads such a one as a template."""
+    for name, body in defined_in(text):
+        yield name, body
+        yield from all_defined(body)
 
 
 def without_printed(text: str) -> str:

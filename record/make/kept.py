@@ -5,6 +5,7 @@ import re
 from functools import cached_property
 from typing import TYPE_CHECKING, Dict, Iterator, List, Set
 
+from record.make.assigned import once
 from record.make.references import ANY, BINDS, EVAL, Eval, evals, fits, name_at, named
 
 if TYPE_CHECKING:
@@ -24,7 +25,7 @@ class Kept:
     def holds(self, name: str, one: Eval) -> bool:
         """Whether an `eval` in the text of a macro gives this macro the value that it keeps."""
         if name not in self.found:
-            self.found[name] = not self.is_looked_at(name) and all(self.is_right(name, text) for text in self.known.texts_of(name) if EVAL.search(text))
+            self.found[name] = not self.is_looked_at(name) and all(self.is_right(name, once(text)) for text in self.known.texts_of(name) if EVAL.search(text))
         return one.name == name and one.is_fresh and self.found[name]
 
     def is_right(self, name: str, text: str) -> bool:

@@ -5,7 +5,7 @@ from dataclasses import dataclass, field
 from functools import cached_property
 from typing import Dict, FrozenSet, Iterable, Iterator, List, NamedTuple, Optional, Set, Tuple
 
-from record.make.assigned import assigned_in, late_in, without_printed
+from record.make.assigned import Late, assigned_in, late_in, without_printed
 from record.make.database import LINES_TEXT, Base
 from record.make.expansion import Answers
 from record.make.exports import ALONE, WORD, Exports
@@ -98,13 +98,13 @@ class Macros:
         return {name: list(map(with_functions, values)) for name, values in found.items()}
 
     @cached_property
-    def late(self) -> List[Tuple[str, str]]:
+    def late(self) -> List[Late]:
         """What makefiles assign to names that are put together, if it may set macros when somebody asks for it."""
-        return [(end, value) for end, value in late_in(self.text) if EVAL.search(value) or COMPUTED.search(value)]
+        return [one for one in late_in(self.text) if EVAL.search(one.value) or COMPUTED.search(one.value)]
 
     def late_of(self, name: str) -> List[str]:
         """Such texts that a macro may have."""
-        return [value for end, value in self.late if name.endswith(end) and not NO_MACRO.fullmatch(name)]
+        return [one.value_of(name) for one in self.late if name.endswith(one.end) and not NO_MACRO.fullmatch(name)]
 
     @property
     def names(self) -> Set[str]:
@@ -222,6 +222,10 @@ class Macros:
         if name not in self.read_twice:
             self.read_twice[name] = SECOND.search(self.text_of(name)) is not None
         return self.read_twice[name]
+
+    def sets_others(self, name: str) -> bool:
+        """Whether a macro may set others when somebody asks for it."""
+        return EVAL.search(self.text_of(name)) is not None or self.names_eval and COMPUTED.search(self.text_of(name)) is not None
 
     def named_by(self, name: str, again: bool = True) -> Set[str]:
         """The macros that a macro refers to, also where its text is read again; those that a pattern fits."""

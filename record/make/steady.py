@@ -4,10 +4,10 @@ import re
 from functools import cached_property
 from typing import TYPE_CHECKING, Dict, Iterator, List, Optional, Set, Tuple
 
-from record.make.assigned import defined_in, signed_in
+from record.make.assigned import BEHIND_TWO, all_defined, late_in, once, signed_in
 from record.make.database import LINES_TEXT
 from record.make.expansion import OPEN
-from record.make.references import CONTINUED, with_functions
+from record.make.references import CONTINUED, read_again, with_functions
 
 if TYPE_CHECKING:
     from record.make.macros import Macros
@@ -18,6 +18,7 @@ FIXED = ("environment", "environment under -e", "command line", "default")  # wh
 IMPLIED = frozenset(("SHELL", ".SHELLFLAGS", "MAKEFLAGS", "MFLAGS", "GNUMAKEFLAGS", "MAKEOVERRIDES", "MAKE", "VPATH", "GPATH", ".LIBPATTERNS", "MAKEFILES", "MAKELEVEL",
                      "MAKE_TERMOUT", "MAKE_TERMERR", "IFS", "HOME"))
 UNDEFINES = re.compile(r"(?<![\w-])undefine(?![\w-])")
+HANDED = re.compile(r"\$[({]call[ \t]+[^,()\n]*,([^\n]*\$\$[^\n]*)")  # what a function gets that stands in a text once more
 SETS = re.compile(r"[ \t]*(?:[+?]|::?)?=")  # what stands behind a name in a line that gives it its value
 MODIFIER = re.compile(r"(?:override|export|private)[ \t]+")
 
@@ -57,7 +58,7 @@ class Steady:
     def defined(self) -> Dict[str, List[str]]:
         """The same of macros of several lines, and of those that single targets have. What make reads there behind the end of a line it keeps as it is."""
         found: Dict[str, List[str]] = {}
-        for name, body in [*defined_in(self.known.text), *((name, "\n".join(lines)) for name, lines in self.known.base.bodies.items())]:
+        for name, body in [*all_defined(self.known.text), *((name, "\n".join(lines)) for name, lines in self.known.base.bodies.items())]:
             found.setdefault(name, []).append(CONTINUED.sub(OPEN, body))
         return found
 
@@ -67,6 +68,7 @@ class Steady:
             value = self.known.base.values.get(name, LINES_TEXT)
             assigned = [text for sign, text in self.signed.get(name, ()) if sign not in AT_ONCE]
             found = [*([value] if value != LINES_TEXT else ()), *assigned, *self.defined.get(name, ()), *self.known.late_of(name)]
+            found += [once(one) for one in found]
             self.by_name[name] = [*dict.fromkeys(map(with_functions, found))]
         return self.by_name[name]
 
@@ -123,15 +125,63 @@ class Steady:
 
     # ---------------------------------------------------------------- what recipes have set
     def observed(self) -> Set[str]:
-        """Macros that got their last value where a recipe stands: it has set them by `eval`, whose lines all count as that one."""
-        places = {*self.lines_of_recipes()}
-        return {name for name, (_, file, line) in self.known.base.origins.items() if (file, line) in places and not self.is_set_at(name, file, line)}
+        """Macros that a recipe has set by `eval`, by where they got their last value: all that `eval` reads counts as the line of the recipe. A template counts as
+        the line that calls it, with its recipes and all that it sets: there only what may have had a text by which recipes set macros counts."""
+        plain, made = {*self.lines_of_recipes(True)}, {*self.lines_of_recipes(False)}
+        found, unclear = set(), set()
+        for name, places in self.places().items():
+            if any(place in plain and not self.is_set_at(name, *place) or self.is_taken_in(place[0]) for place in places):
+                found.add(name)
+            elif not made.isdisjoint(places):
+                unclear.add(name)
+        return found | {name for name in {*unclear, *self.gone()} if self.is_hidden(name)}
 
-    def lines_of_recipes(self) -> Iterator[Tuple[str, int]]:
-        """The lines of recipes that stand in makefiles as they are."""
+    def places(self) -> Dict[str, Set[Tuple[str, int]]]:
+        """Where each macro got its last value, and where single targets and patterns got theirs."""
+        base = self.known.base
+        found = {name: {(file, line)} for name, (_, file, line) in base.origins.items()}
+        for name, places in base.own_places.items():
+            found[name] = found.get(name, set()) | places
+        return found
+
+    def is_taken_in(self, file: str) -> bool:
+        """Whether a recipe has read a makefile while make expanded it."""
+        return any(file == one or file.endswith("/" + one) for one in self.known.make.words.included)
+
+    def gone(self) -> Set[str]:
+        """Macros that recipes ask for, and that are not there at the end, where some may be taken away."""
+        known = self.known
+        asked = (known.reached("\n".join(lines)) for lines in known.base.recipes.values()) if self.is_taken_away else ()
+        return set().union(*asked) - known.base.values.keys()
+
+    def is_hidden(self, name: str) -> bool:
+        """Whether a macro may have had a text that leads to one which sets macros, and has no such text any more: by a name that makefiles put together, or by a template."""
+        wanted = set().union(*(setters for end, is_whole, setters in self.hidden if (name == end if is_whole else name.endswith(end))))
+        return not wanted <= self.known.reached("$(%s)" % name)
+
+    @cached_property
+    def hidden(self) -> List[Tuple[str, bool, Set[str]]]:
+        """Such texts: the name, or how it ends, whether it is whole, and the macros that set others."""
+        known = self.known
+        given = [*((one.end, False, one.value) for one in late_in(known.text)),
+                 *((name, True, value) for name, values in self.signed.items() for sign, value in values if sign not in AT_ONCE and "$$" in value),
+                 *((name, True, value) for name, value in all_defined(known.text) if "$$" in value)]
+        found = [(name, is_whole, self.setters(value)) for name, is_whole, value in given]
+        return [one for one in found if one[2]]
+
+    def setters(self, value: str) -> Set[str]:
+        """The macros by which a text sets others. It may have parts that a template is handed."""
+        known = self.known
+        reached = known.reached(read_again(value))
+        handed = "".join(HANDED.findall(known.text)) if any(map(str.isdigit, reached)) else ""
+        acts = {one for one in reached | known.reached(read_again(handed)) if known.sets_others(one)}
+        return acts | ({""} if BEHIND_TWO.search(handed) else set())
+
+    def lines_of_recipes(self, is_plain: bool) -> Iterator[Tuple[str, int]]:
+        """The lines of recipes that stand in makefiles as they are, or of all others."""
         base = self.known.base
         for name, file, begin in ((name, *place) for name, places in base.places.items() for place in places):
             recipe, lines = base.recipes.get(name, []), self.lines(file)
             first = lines[begin - 1].rstrip() if 0 < begin <= len(lines) else ""
-            if any(one.strip() and first.endswith(one.rstrip()) for one in recipe):
+            if any(one.strip() and first.endswith(one.rstrip()) for one in recipe) == is_plain:
                 yield from ((file, begin + at) for at in range(len(recipe)))

@@ -227,7 +227,7 @@ class Values(unittest.TestCase):
 
     def steady(self, text: str, base: List[str], copies: int = 0) -> Steady:
         """That of a make which read one makefile and has a data base."""
-        words = SimpleNamespace(args="", flags="", environment=frozenset(), rounds=[], copies_of=lambda name: ["M"] * copies)
+        words = SimpleNamespace(args="", flags="", environment=frozenset(), rounds=[], included=[], copies_of=lambda name: ["M"] * copies)
         make = SimpleNamespace(folder="/w", words=words, stale=[], never_read=lambda name: False, known_text={"M": text}.get)
         with mock.patch("record.make.macros.makefiles", return_value={"M"}):
             return Macros(cast(Make, make), read_base(base)).steady
