@@ -37,7 +37,7 @@ from record.trace.names import Names
 from record.trace.newer import Older
 from record.trace.pipe import Pipe
 from record.trace.skips import sift
-from record.users import other_user
+from record.users import unseen
 
 STRACE = ["strace", "-f", "-q", "-y", "--seccomp-bpf", "-s", str(32 * os.sysconf("SC_PAGE_SIZE")), "-e", "signal=hup,int,quit,abrt,kill,segv,pipe,term,xfsz", "-e", "trace=" + traced()]
 EXAMPLE = """examples:
@@ -337,9 +337,9 @@ def run(options: argparse.Namespace) -> int:
         return judge_warm(out, race) if out.exists() else stop("there is no record in %s: which command builds the project? (race-record --warm -- make)" % out)
     if shutil.which(options.words[0]) is None:
         return stop(no_command(options.words[0]))
-    other = other_user(options.words)
-    if other is not None:
-        return stop(other)
+    why = unseen(options.words)
+    if why is not None:
+        return stop(why)
     try:
         with alone(out):
             return record_and_judge(options, tools, out, race)

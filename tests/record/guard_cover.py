@@ -25,6 +25,7 @@ COVER_GUARDS: List[Guard] = [
     Guard("no cover: scripts of make", "trace/started.py", "if found.path == self.real:  # the kernel", "if False:  # the kernel", UNCOVERED + "script", LOST_HOLE),
     Guard("no cover: what to do", "importing.py", "way_to_cover(record.words, replay.real) if replay.past and not replay.covered else []", "[]", UNCOVERED + "way", "not found in"),
     Guard("no cover: what to do where mounts are not what is missing", "make/cover.py", "[] if works(\"-m\") else [CONTAINER]", "[CONTAINER]", UNCOVERED + "way"),
+    Guard("no cover: a script in the place of make is refused", "users.py", "other_user(words) or script_of_make(words)", "other_user(words)", UNCOVERED + "make_that_is_a_script_as_the_command"),
     Guard("no cover: what to do where the make is a script", "make/cover.py", "    if first_words(real):\n        return", "    if False:\n        return", UNCOVERED + "make_that_is_a_script", UNSAID),
     Guard("output: behind what a script in the place of make prints", "make/wrapper.py", "        else:\n            self.note_said()\n", "        else:\n            self.start = False\n            self.note_said()\n", UNCOVERED + "make_that_is_a_script"),
     Guard("no cover: what such a make prints", "importing.py", "[PRINTED] if (replay.past or replay.unread) and owners.makes else []", "[]", UNCOVERED + "path", UNSAID),

@@ -247,7 +247,7 @@ OWNERS: List[Guard] = [
     Guard("report: no line orders a look of a target's own rule", "report.py", "    if any(own_look(about, path, one) for one in (first, second)):\n", "    if False:\n",
           small("look_of_a_rule_that_makes_both")),
     Guard("report: an empty recipe may wait", "report.py", " and runs and path ==", " and path ==", small("look_of_an_empty_recipe")),
-    Guard("users: a command that changes the user", "main.py", "    if other is not None:\n", "    if False:\n", "test_command.Users.test_command_that_changes_the_user"),
+    Guard("users: a command that changes the user", "main.py", "    if why is not None:\n", "    if False:\n", "test_command.Users.test_command_that_changes_the_user"),
     Guard("entry: closed errors", "entry.py", "    if sys.stderr is None:", "    if False:", "test_entry.Closed.test_closed_errors"),
     Guard("entry: closed output", "entry.py", "    if sys.stdout is None:  # another file may then have its number, and nobody would see the answer", "    if False:", "test_entry.Closed.test_closed_output"),
     Guard("entry: nobody may trace", "main.py", "    if status != 0 and not has_calls(pipe.file):", "    if False:", "test_entry.Untraced.test_nobody_may_trace"),

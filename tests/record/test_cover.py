@@ -14,6 +14,7 @@ from support import races_of
 
 from record.make import cover
 from record.make.cover import OWN_MOUNTS, Cover
+from record.users import SCRIPT
 
 MAKE = str(shutil.which("make"))
 RACE, ORDERED = "all: a b\na: ; echo a > a\nb: ; cat a > b\n", "all: a b\na: ; echo a > a\nb: a ; cat a > b\n"
@@ -153,14 +154,22 @@ class Uncovered(Recorded):
                 self.assertEqual([cover.BY_NAMES % "'a b' c"], cover.way_to_cover(["a b", "c"], MAKE))
 
 
-    def test_make_that_is_a_script(self) -> None:
-        """It prints a line of its own, and runs a make by its whole path."""
-        with support.Project({"Makefile": "all: ; @echo 1 > all\n", "bin/make": "#!/bin/sh\necho mine\nexec %s \"$@\"\n" % MAKE}) as project:
-            project.sh("chmod +x bin/make")
+    def of_script(self, words: Sequence[str]) -> Tuple[support.Outcome, Path]:
+        """What is said where a script stands first on PATH that prints a line of its own, and runs the make by its whole path."""
+        files = {"Makefile": "all: ; @echo 1 > all\n", "build.sh": "#!/bin/sh\nmake\n", "bin/make": "#!/bin/sh\necho mine\nexec %s \"$@\"\n" % MAKE}
+        with support.Project(files) as project:
+            project.sh("chmod +x bin/make build.sh")
             env = {**os.environ, "PATH": "%s/bin:%s" % (project.folder, os.environ["PATH"])}
-            outcome = project.run(["--race", support.race_program(), "--", "make"], env)
-            self.assertEqual((2, "mine\nNO VERDICT"), (outcome.status, outcome.text()[:15]), outcome.text())
-            self.assertIn("HINT  " + cover.SCRIPT % (project.folder / "bin/make"), outcome.text())
+            return project.run(["--race", support.race_program(), "--", *words], env), project.folder / "bin/make"
+
+    def test_make_that_is_a_script(self) -> None:
+        outcome, make = self.of_script(["./build.sh"])
+        self.assertEqual((2, "mine\nNO VERDICT"), (outcome.status, outcome.text()[:15]), outcome.text())
+        self.assertIn("HINT  " + cover.SCRIPT % make, outcome.text())
+
+    def test_make_that_is_a_script_as_the_command(self) -> None:
+        outcome, make = self.of_script(["make", "-k"])
+        self.assertEqual((3, "", "race-record: " + SCRIPT % make + "\n"), (outcome.status, outcome.text(), outcome.stderr.decode()))
 
 
 @unittest.skipUnless(os.geteuid() == 0 and shutil.which("setpriv"), "setpriv is missing (Debian: apt-get install util-linux), or not root runs this")
