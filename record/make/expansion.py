@@ -5,11 +5,13 @@ Where make may read a text a second time, and where a name is odd, nothing is sa
 """
 
 import re
+from dataclasses import dataclass, field
 from functools import cached_property
 from itertools import product
 from math import prod
-from typing import TYPE_CHECKING, AbstractSet, Callable, Dict, FrozenSet, Iterable, Iterator, List, NamedTuple, Optional, Set, Tuple
+from typing import TYPE_CHECKING, AbstractSet, Callable, Dict, FrozenSet, Iterable, Iterator, List, NamedTuple, Optional, Sequence, Set, Tuple
 
+from record.make.pieces import BLANKS, FUNCTION, KEPT, Reference, Unclear, pieces, words_of
 from record.make.references import ANY, ENDS, with_functions
 
 if TYPE_CHECKING:
@@ -18,9 +20,6 @@ if TYPE_CHECKING:
 OPEN = "\0"
 UNKNOWN = frozenset((OPEN,))
 NOTHING = frozenset(("",))
-CLOSES = {"(": ")", "{": "}"}
-FUNCTION = re.compile(r"([A-Za-z0-9_.-]+)[ \t\n\v\f\r]")  # a name, and what shows that it may be a function's
-BLANKS = " \t\n\v\f\r"
 WORDS = re.compile("[^%s]+" % BLANKS)
 PLAIN_NAME = re.compile(r"[\w./+@%~^-]+", re.A)
 TARGET = re.compile(r"[\w./+-]+", re.A)
@@ -39,76 +38,46 @@ COUNT = "#"  # in a scope: how many words the outermost `call` hands on; no name
 
 Values = FrozenSet[str]
 Scope = Dict[str, Values]
+Key = Tuple[str, FrozenSet[Tuple[str, Values]]]  # a macro, and where
 
 
-class Unclear(Exception):
-    """What a text asks for cannot be said."""
+@dataclass
+class Asked:
+    """What make asks for where it expands a text: macros, among them the name of the target or not, any that fit a name or not. `is_ring`: one of them
+    asks for itself."""
+
+    reads: Set[str] = field(default_factory=set)
+    own: bool = False
+    patterns: bool = False
+    is_ring: bool = False
+
+    def add(self, other: "Asked") -> None:
+        """What another text asks for, too."""
+        self.reads |= other.reads
+        self.own, self.patterns, self.is_ring = self.own or other.own, self.patterns or other.patterns, self.is_ring or other.is_ring
 
 
-class Reference(NamedTuple):
-    """What stands behind a sign of make: one letter, or the text in brackets, and which brackets."""
+class Held(NamedTuple):
+    """What a macro may hold, and what it asks for."""
 
-    body: str
-    opening: str
-
-
-def pieces(text: str) -> Iterator[Tuple[str, Optional[Reference]]]:
-    """A text in pieces: what stands in front of each reference, and that. The last piece has none."""
-    at = 0
-    while True:
-        sign = text.find("$", at)
-        behind = text[sign + 1:sign + 2]
-        if sign < 0:
-            yield text[at:], None
-            return
-        if behind in ("", "$"):  # one at the end is a sign, too
-            yield text[at:sign] + "$", None
-            at = sign + 2
-        elif behind in CLOSES:
-            end = end_of(text, sign + 1)
-            yield text[at:sign], Reference(text[sign + 2:end], behind)
-            at = end + 1
-        else:
-            yield text[at:sign], Reference(behind, "")
-            at = sign + 2
+    values: Values
+    asked: Asked
 
 
-def end_of(text: str, at: int) -> int:
-    """Where the bracket is that ends a reference. A plain name goes up to the first one; else brackets of that kind are in pairs."""
-    opening, first = text[at], text.find(CLOSES[text[at]], at)
-    if first >= 0 and "$" not in text[at:first] and FUNCTION.match(text, at + 1) is None:
-        return first
-    depth = 0
-    for place in re.compile("[%s%s]" % (opening, CLOSES[opening])).finditer(text, at):
-        depth += 1 if place.group() == opening else -1
-        if not depth:
-            return place.start()
-    raise Unclear
-
-
-def words_of(text: str, opening: str, most: int) -> List[str]:
-    """The words of a function, at each comma that stands in no other brackets of that kind; the last one of `most` has all others."""
-    found, depth = [""], 0
-    for sign in text.lstrip(BLANKS):
-        depth += (sign == opening) - (sign == CLOSES[opening])
-        if sign == "," and not depth and len(found) != most:
-            found.append("")
-        else:
-            found[-1] += sign
-    return found
+RING = Held(UNKNOWN, Asked(is_ring=True))  # of a macro that is being worked out
 
 
 class Expansion:
-    """One text that make expands, for a recipe whose target has one of some names, where these are known. `reads`: the macros that it asks for."""
+    """One text that make expands, for a recipe whose target has one of some names, where these are known. `common`: what was worked out of macros that ask
+    for no target."""
 
-    def __init__(self, known: "Macros", targets: Tuple[str, ...]) -> None:
-        self.known = known
+    def __init__(self, known: "Macros", targets: Tuple[str, ...], common: Dict[Key, Held]) -> None:
+        self.known, self.common = known, common
         target = targets[0] if len(targets) == 1 else ""
         is_known = target and target not in known.base.double and PRINTABLE.fullmatch(known.base.stems.get(target, OPEN))
         self.own = {"@": frozenset(targets) or UNKNOWN, "*": frozenset((known.base.stems[target],)) if is_known else UNKNOWN}  # what make itself gives macros of a recipe
-        self.asks_own = self.has_patterns = False
-        self.reads: Set[str] = set()
-        self.done: Dict[Tuple[str, FrozenSet[Tuple[str, Values]]], Values] = {}
+        self.asked = Asked()
+        self.done: Dict[Key, Held] = {}
         self.steps = self.depth = 0
 
     def text(self, text: str, scope: Scope) -> Values:
@@ -118,7 +87,7 @@ class Expansion:
             raise Unclear
         found: Values = NOTHING
         for plain, one in pieces(text):
-            found = joined(found, frozenset((plain,)))
+            found = joined(found, frozenset((plain,))) if plain else found
             found = joined(found, self.reference(one, scope)) if one is not None else found
         return found
 
@@ -144,7 +113,7 @@ class Expansion:
         """A macro whose name has a part that nobody can say: it may be each that fits, and what stands there is not followed with its words."""
         if any(sign in ENDS or sign == "*" for sign in name):
             raise Unclear
-        self.has_patterns = True
+        self.asked.patterns = True
         self.take(re.sub(OPEN + "+", "*", name))
         return UNKNOWN
 
@@ -153,7 +122,7 @@ class Expansion:
         found = self.known.reached_by((name,), False)
         if any(map(self.known.reads_twice, found)):
             raise Unclear
-        self.reads |= found
+        self.asked.reads |= found
 
     def macro(self, name: str, scope: Scope) -> Values:
         """What a macro may hold."""
@@ -161,9 +130,9 @@ class Expansion:
             return scope[name]
         if not name:
             return NOTHING
-        self.reads.update([name] if "*" not in name else [])  # (that would be any)
+        self.asked.reads.update([name] if "*" not in name else [])  # (that would be any)
         if AUTOMATIC.fullmatch(name):
-            self.asks_own = self.asks_own or name in self.own
+            self.asked.own = self.asked.own or name in self.own
             return self.own.get(name, UNKNOWN)
         if not (PLAIN_NAME.fullmatch(name) or PARTS.fullmatch(name)) or name == ".VARIABLES":
             raise Unclear
@@ -175,16 +144,30 @@ class Expansion:
     def held(self, name: str, scope: Scope) -> Values:
         """The same of one whose texts are known."""
         key = name, frozenset(scope.items())
-        if key not in self.done:
-            self.done[key] = UNKNOWN  # where it asks for itself
-            self.depth += 1
-            if self.depth > DEPTH:
-                raise Unclear
-            found = {text: self.text(text, scope) for text in self.known.steady.texts(name)}
-            values = self.known.steady.values(name)
-            self.done[key] = union(found[text] if text in found else self.text(text, scope) for text in values) if values is not None else UNKNOWN
-            self.depth -= 1
-        return self.done[key]
+        found = self.done.get(key) or self.common.get(key)
+        if found is None:
+            return self.work_out(key, scope)
+        self.asked.add(found.asked)
+        return found.values
+
+    def work_out(self, key: Key, scope: Scope) -> Values:
+        """The same, for the first time. What asks for no target is kept for other ones, unless it lacks what a ring of macros would add."""
+        self.depth += 1
+        if self.depth > DEPTH:
+            raise Unclear
+        outer, self.asked, self.done[key] = self.asked, Asked(), RING
+        try:
+            found = {text: self.text(text, scope) for text in self.known.steady.texts(key[0])}
+            values = self.known.steady.values(key[0])
+            held = Held(union(found[text] if text in found else self.text(text, scope) for text in values) if values is not None else UNKNOWN, self.asked)
+        finally:
+            outer.add(self.asked)
+            self.asked = outer
+        self.depth -= 1
+        self.done[key] = held
+        if not (held.asked.own or held.asked.is_ring) and len(self.common) < KEPT:
+            self.common[key] = held
+        return held.values
 
     # ---------------------------------------------------------------- functions
     def function(self, name: str, text: str, opening: str, scope: Scope) -> Values:
@@ -212,10 +195,10 @@ class Expansion:
             elif not PLAIN_NAME.fullmatch(name) or name == ".VARIABLES":
                 raise Unclear
             else:
-                self.reads.add(name)
+                self.asked.reads.add(name)
         return UNKNOWN
 
-    def call(self, words: List[str], scope: Scope) -> Values:
+    def call(self, words: Sequence[str], scope: Scope) -> Values:
         """A function that makefiles define: it sees the words that it is handed, and none of those that the one around it got."""
         values = [self.text(word, scope) for word in words]
         count = max(len(values), *map(int, scope.get(COUNT, frozenset("0"))))
@@ -228,7 +211,7 @@ class Expansion:
             found.append(self.macro(name, {**scope, **own, "0": frozenset((name,)) if name == text else UNKNOWN, COUNT: frozenset((str(count),))}))
         return union(found)
 
-    def loop(self, words: List[str], scope: Scope) -> Values:
+    def loop(self, words: Sequence[str], scope: Scope) -> Values:
         """A loop over words: its macro may be each of them."""
         names, lists = self.text(words[0], scope), self.text(words[1], scope) if len(words) == 3 else UNKNOWN
         name = next(iter(names)).strip(BLANKS)
@@ -241,6 +224,8 @@ class Expansion:
 
 def joined(first: Values, second: Values) -> Values:
     """Each text of one kind with each of another behind it."""
+    if first is NOTHING:
+        return second if all(len(one) <= LONGEST for one in second) else UNKNOWN
     found = frozenset(one + other for one in first for other in second) if len(first) * len(second) <= MOST else UNKNOWN
     return found if all(len(one) <= LONGEST for one in found) else UNKNOWN
 
@@ -293,16 +278,16 @@ class Answer(NamedTuple):
     may_be_less: bool
 
 
-def asked(known: "Macros", text: str, targets: Tuple[str, ...] = ()) -> Answer:
+def asked(known: "Macros", text: str, targets: Tuple[str, ...], common: Dict[Key, Held]) -> Answer:
     """What a text asks for."""
     if known.is_lost or ANY in known.changed:
         return Answer(None, False)
-    one = Expansion(known, targets)
+    one = Expansion(known, targets, common)
     try:
         one.text(text, {})
     except (Unclear, RecursionError):
-        return Answer(None, one.asks_own)
-    return Answer(frozenset(one.reads), one.asks_own and one.has_patterns)
+        return Answer(None, one.asked.own)
+    return Answer(frozenset(one.asked.reads), one.asked.own and one.asked.patterns)
 
 
 class Answers:
@@ -311,13 +296,14 @@ class Answers:
     def __init__(self, known: "Macros") -> None:
         self.known = known
         self.found: Dict[Tuple[str, Tuple[str, ...]], Answer] = {}
+        self.common: Dict[Key, Held] = {}
 
     def sure(self, text: str, target: str = "") -> Optional[FrozenSet[str]]:
         """The macros that a text asks for, if need be for one target; nothing where that cannot be said, and where it may set some."""
         found: Optional[FrozenSet[str]] = None
         for names in ((), self.names_of(target)):
             if (text, names) not in self.found:
-                self.found[text, names] = asked(self.known, with_functions(text), names)
+                self.found[text, names] = asked(self.known, with_functions(text), names, self.common)
             answer = self.found[text, names]
             found = answer.reads if answer.reads is not None else found
             if not answer.may_be_less:

@@ -5,6 +5,11 @@ from typing import List
 from guard_table import COARSE, FALSE_RACE, LOST_HOLE, SHOWN, YES, Guard
 
 
+def again(name: str) -> str:
+    """One of what was worked out for another recipe."""
+    return "test_calls.Again.test_" + name
+
+
 def values(name: str) -> str:
     """A test of what macros hold there."""
     return "test_calls.Values.test_" + name
@@ -27,13 +32,13 @@ EXPANSION_GUARDS: List[Guard] = [
     Guard("calls: functions of make", EXPANSION, "name in LOOKING or name in CHOOSING or name in OTHERS", "name in LOOKING or name in OTHERS", call("word_that_a_called_branch_reads"), YES),
     Guard("calls: eval", EXPANSION, "        if name not in SIMPLE:\n            raise Unclear\n", "        if name not in SIMPLE:\n            return UNKNOWN\n", call("function_that_sets_a_macro"), YES, SHOWN),
     Guard("calls: the list of all macros", EXPANSION, 'PARTS.fullmatch(name)) or name == ".VARIABLES":', "PARTS.fullmatch(name)):", call("list_of_all_macros"), YES),
-    Guard("calls: brackets", EXPANSION, 'if sign == "," and not depth and', 'if sign == "," and', call("word_behind_brackets_that_is_not"), FALSE_RACE),
+    Guard("calls: brackets", "make/pieces.py", 'if sign == "," and not depth and', 'if sign == "," and', call("word_behind_brackets_that_is_not"), FALSE_RACE),
     Guard("calls: loops that hide macros", EXPANSION, "{**scope, name: values if 0 < len(values) <= MOST else UNKNOWN}", "scope", call("loop_that_hides_a_macro_that_is_changed"), YES),
     Guard("calls: each word of a loop", EXPANSION, "(WORDS.findall(text) if OPEN", "(WORDS.findall(text)[:1] if OPEN", call("loop_over_several_that_is_changed"), YES),
     Guard("calls: branches", EXPANSION, 'union(found[1:] if name == "if" else found)', 'union(found[1:2] if name == "if" else found)', call("branch_that_is_changed"), YES),
     Guard("calls: conditions", EXPANSION, "for at, word in enumerate(words)]", "for at, word in enumerate(words) if at]", call("condition_that_is_changed"), YES),
     Guard("calls: blanks of another kind", EXPANSION, "word.strip(BLANKS) if", "word.strip() if", call("name_with_a_blank_of_another_kind_that_is_changed"), YES),
-    Guard("calls: macros that are looked at", EXPANSION, "            else:\n                self.reads.add(name)\n", "            else:\n                pass\n", call("origin_that_is_changed"), YES),
+    Guard("calls: macros that are looked at", EXPANSION, "            else:\n                self.asked.reads.add(name)\n", "            else:\n                pass\n", call("origin_that_is_changed"), YES),
     Guard("calls: names that nobody can say", EXPANSION, "        self.take(re.sub(OPEN + \"+\", \"*\", name))\n", "", call("name_that_is_sorted_that_is_changed"), YES),
     Guard("calls: macros that lead to eval", EXPANSION, "        if any(map(self.known.reads_twice, found)):\n            raise Unclear\n", "", call("function_of_a_macro_that_is_changed_back"), YES, SHOWN),
     Guard("calls: names in front of a colon", EXPANSION, "found = self.macro(name, scope)\n        return found if", "found = NOTHING if colon else self.macro(name, scope)\n        return found if", call("name_that_a_pattern_replaces_that_is_changed"), YES),
@@ -45,6 +50,10 @@ EXPANSION_GUARDS: List[Guard] = [
     Guard("calls: names of several targets", EXPANSION, "{target, *self.grouped.get(target, ())}", "{target}", call("name_of_another_target_of_the_recipe"), YES),
     Guard("calls: each of several targets", EXPANSION, "for one in group:", "for one in ():", values("names_of_targets_of_one_recipe")),
     Guard("calls: names of several targets are known", EXPANSION, "names = tuple(sorted({target, *self.grouped.get(target, ())}))", 'names = (target if target not in self.grouped else "",)', call("name_of_targets_of_one_pattern"), FALSE_RACE),
+    Guard("calls: what was worked out counts again", EXPANSION, "        self.asked.add(found.asked)\n", "", again("macro_of_two_recipes")),
+    Guard("calls: what was worked out for a target", EXPANSION, "if not (held.asked.own or held.asked.is_ring)", "if not held.asked.is_ring", again("macro_that_asks_for_the_target")),
+    Guard("calls: what lacks the rest of a ring", EXPANSION, "if not (held.asked.own or held.asked.is_ring)", "if not held.asked.own", again("functions_in_a_ring")),
+    Guard("calls: what was worked out with other words", EXPANSION, "        key = name, frozenset(scope.items())\n", "        key = name, frozenset()\n", again("macro_of_a_call")),
     Guard("calls: exported macros", MACROS, 'self.answers.of("\\n".join(self.exports.texts)))', 'self.reached("\\n".join(self.exports.texts)))', call("another_name_in_an_exported_macro"), FALSE_RACE),
     Guard("steady: what recipes change", STEADY, "name in self.known.changed or name in", "name in", call("macro_of_a_computed_name_that_leads_to_one_that_sets_it"), YES, (USED, "        use.writes |= unwritten\n", "")),
     Guard("steady: macros of targets", STEADY, "or name in self.defined or", "or", call("name_that_a_target_has_by_a_template"), YES),

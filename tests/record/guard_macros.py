@@ -38,7 +38,7 @@ MACRO_GUARDS: List[Guard] = [
     Guard("eval: assignments to computed names", ASSIGNED, "*((ANY, one.group(1)) for one in ASSIGNED_TO_ANY.finditer(lines)), ", "", macro("macro_of_a_makefile_for_a_while"), YES, LATE),
     Guard("eval: values of computed names", MACROS, "for one in self.late if name.endswith(one.end)", "for one in self.late if False", macro("macro_of_a_computed_name_that_sets_itself"), YES, SEEN),
     Guard("eval: names that are gone", MACROS, "names = {*found, *(name for text", "names = {*found, *(name for text in () for text", macro("macro_of_a_computed_name_that_removes_itself"), YES),
-    Guard("eval: lines of computed names", ASSIGNED, ", *((end.group(1) if end else \"\", body) for end, body in defined)]", "]", macro("macro_of_lines_and_a_computed_name_that_sets_itself"), YES, SEEN),
+    Guard("eval: lines of computed names", ASSIGNED, ", *(Late(end.group(1) if end else \"\", body) for end, body in defined)]", "]", macro("macro_of_lines_and_a_computed_name_that_sets_itself"), YES, SEEN),
     Guard("eval: the ends of computed names", MACROS, "if name.endswith(one.end)", "if True", macro("macro_beside_one_of_a_computed_name"), FALSE_RACE),
     Guard("eval: values that are worked out at once", ASSIGNED, "(?:[+?]|:::)?=\" + LINE", "(?:[+?]|:{1,3})?=\" + LINE", macro("macro_of_a_computed_name_that_is_worked_out_at_once"), FALSE_RACE),
     Guard("eval: what a yes says of it", UNFILED, "if builder.known.is_used:", "if False:", macro("macro_of_a_computed_name_that_is_worked_out_at_once"), UNSAID),

@@ -2,13 +2,14 @@
 
 import unittest
 from types import SimpleNamespace
-from typing import Dict, List, Tuple, cast
+from typing import Dict, List, Set, Tuple, cast
 from unittest import mock
 
 from record.make.database import read_base
-from record.make.expansion import OPEN, Unclear, pieces, put_in_place, replaced, words_of
+from record.make.expansion import OPEN, put_in_place, replaced
 from record.make.macros import Macros, Use
 from record.make.owners import Make
+from record.make.pieces import Unclear, pieces, words_of
 from record.make.steady import Steady
 from record.make.used import uses
 from record.make.words import Round
@@ -278,6 +279,28 @@ class Values(unittest.TestCase):
         self.assertEqual({"a.o": "a"}, read_base(["# Files", "a.o: a.c", "#  Implicit/static pattern stem: 'a'", ""]).stems)
 
 
+class Again(Values):
+    """What was worked out for one recipe counts for others."""
+
+    def reads(self, text: str, *asked: str) -> List[Set[str]]:
+        """What the recipes of targets read, one after the other; each target stands in front of its recipe."""
+        base = [line for number, one in enumerate(text.split("\n"), 1) for line in ("# makefile (from 'M', line %d)" % number, one)]
+        answers = self.steady(text, base).known.answers
+        return [set(answers.sure(recipe, target) or ()) for target, _, recipe in (one.partition(": ") for one in asked)]
+
+    def test_macro_of_two_recipes(self) -> None:
+        self.assertEqual([{"M", "X"}] * 2, self.reads("M = $(X)\nX = 1", "a: $(M)", "b: echo $(M)"))
+
+    def test_macro_that_asks_for_the_target(self) -> None:
+        self.assertEqual([{"M", "@", "V_a"}, {"M", "@", "V_b"}], self.reads("M = $(V_$@)\nV_a = 1\nV_b = 1", "a: $(M)", "b: $(M)"))
+
+    def test_functions_in_a_ring(self) -> None:
+        self.assertEqual([{"f", "g", "X", "y"}] * 2, self.reads("f = $(X)$(if $(y),$(call g))\ng = $(if $(y),$(call f))\nX = 1", "a: $(call f)", "b: $(call g)"))
+
+    def test_macro_of_a_call(self) -> None:
+        self.assertEqual([{"f", "M", "X"}, {"f", "M", "Y"}], self.reads("f = $(M)\nM = $($(1))\nX = 1\nY = 1", "a: $(call f,X)", "b: $(call f,Y)"))
+
+
 class Texts(unittest.TestCase):
     """Pieces of texts."""
 
@@ -285,11 +308,13 @@ class Texts(unittest.TestCase):
         for text, wanted in (("a$(b)c", ["b"]), ("$$(a)$b", ["b"]), ("$(a$(b))", ["a$(b)"]), ("$(a(b)c)", ["a(b"]), ("$(if (a),b)", ["if (a),b"]), ("${a)}$(b})", ["a)", "b}"]), ("x$", [])):
             self.assertEqual(wanted, [one.body for _, one in pieces(text) if one is not None], text)
         for text in ("$(a", "$(a$(b)", "$(if (a),b"):
-            self.assertRaises(Unclear, list, pieces(text))
+            self.assertRaises(Unclear, pieces, text)
 
     def test_words(self) -> None:
-        self.assertEqual(["a", "(b,c)", "{d", "e}"], words_of(" a,(b,c),{d,e}", "(", 0))
-        self.assertEqual(["a", "b,c"], words_of("a,b,c", "(", 2))
+        self.assertEqual(("a", "(b,c)", "{d", "e}"), words_of(" a,(b,c),{d,e}", "(", 0))
+        self.assertEqual(("a", "(b", "c)", "{d,e}", ""), words_of(" a,(b,c),{d,e},", "{", 0))
+        self.assertEqual(("a", "b,c"), words_of("a,b,c", "(", 2))
+        self.assertEqual(("",), words_of(" ", "(", 3))
 
     def test_replaced_words(self) -> None:
         for words, wanted in (("%.c %.o a.c  b.h c.c", "a.o b.h c.o"), ("% x a b", "x x"), ("a%b% % axb% ab", "x ab"), ("x% % x xy", None), ("a b a", None)):
