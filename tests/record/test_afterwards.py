@@ -15,7 +15,7 @@ NEXT = "all: y\ny: %s ; echo ran >> log; touch y\n"
 OUTER = "all:\n\t$(MAKE) -f 1.mk\n\t%s\n.PHONY: all\n"
 TWO = "all: r2\nr2: r1 ; %s && touch r2\nr1: ; $(MAKE) -f 1.mk && touch r1\n"
 NINJA = "rule g\n  command = echo ran >> log; touch $out\n  generator = 1\nbuild y: g x\n"
-SAYS = "/x is newer"
+SAYS = "which of y and x is newer"
 ASSUMED = "interpreters, programs that nobody knows"
 PYTHON = {"look.py": "import os\nprint(os.path.exists('x'), os.path.exists('y'))\n"}
 
