@@ -27,7 +27,7 @@ from record.make.cover import Cover
 from record.make.options import forget_coerced
 from record.make.outputs import note_output
 from record.make.unwrapped import name_real_makes
-from record.ninja.again import JOBS, TRIES, by_hand, by_name, hints, name_of_make, tops_of, undo, with_jobs
+from record.ninja.again import JOBS, TRIES, by_hand, by_name, hints, tops_of, undo, with_jobs
 from record.ninja.fresh import CannotClean, cold_copy, fresh_folder, saved_name
 from record.ninja.log import Kept
 from record.report import Judged, colours, read_json, report
@@ -270,10 +270,7 @@ def attempt(options: argparse.Namespace, words: List[str], tools: Dict[str, str]
         cover.prepare(names.tops)
         if options.missing:
             (spool / "again").touch()
-        command = by_name(words, real)
-        if command != words and command[0] == "make":
-            (spool / "called").write_text(name_of_make(words))
-        status, seconds = run_build(command, spool, names.tops, cover)
+        status, seconds = run_build(by_name(words, real), spool, names.tops, cover)
         record = Record(options.words, folder, status, round(seconds, 2), dict(tools))
         if status != 0:
             record.holes.append("the build ended with status %d" % status + (": signal %d stopped it" % -status if status < 0 else ""))

@@ -9,7 +9,6 @@ TYPE_CHECKING = False
 if TYPE_CHECKING:
     from collections.abc import MutableMapping
 
-ROOM = "race-make-"  # how the folder begins of the copy of make that runs where the recorder's lies over it, as in cover.py
 WORDS = ["--debug=v,j,m", "-p"]
 LONG_QUERIES = {"--version": "v", "--help": "h", "--just-print": "n", "--dry-run": "n", "--recon": "n", "--question": "q",
                 "--touch": "t", "--print-data-base": "p", "--debug": "d"}
@@ -163,24 +162,3 @@ def asks_jobs(args: "list[str]", flags: str) -> bool:
     first = flags.split(" ")[0]
     letters = "" if first.startswith("-") or "=" in first else "-" + first
     return bool(own_jobs(args)) or bool(own_jobs([letters])) or " -j" in " " + flags or "--jobserver" in flags
-
-
-def called_as(me: str, spool: str) -> str:
-    """The name by which make was called: where a link leads to the wrapper, that link's, as a whole path if PATH does not lead to it."""
-    name = os.path.basename(me)
-    places = (os.path.join(folder, name) for folder in os.environ.get("PATH", "").split(":"))
-    is_own = os.path.dirname(me) == spool + "/bin"
-    return name if is_own or next((place for place in places if os.access(place, os.X_OK)), "") == me else me
-
-
-def name_in_command(spool: str, real: str) -> str:
-    """The name by which the command itself calls make, for the first make, where the recorder's lies over the make: `$(MAKE)` is this name there."""
-    if not os.path.basename(os.path.dirname(real)).startswith(ROOM):
-        return ""
-    try:
-        with open(spool + "/called") as file:
-            name = file.read()
-        os.unlink(spool + "/called")
-    except OSError:
-        return ""
-    return name

@@ -21,7 +21,7 @@ from record.make.copied import Copies, now
 from record.make.given import take_input
 from record.make.limits import Kept, keep, note_cut
 from record.make.lines import TOKENS, VERSION, about_job, is_aside, is_folder, is_included, is_look, is_word, may_go_on, named, place_of_end, place_of_start, remade, started
-from record.make.options import WORDS, asked, asks_jobs, called_as, forget_coerced, jobs_of_call, name_in_command, plain_args, speak_english, without_words
+from record.make.options import WORDS, asked, asks_jobs, forget_coerced, jobs_of_call, plain_args, speak_english, without_words
 from record.make.outputs import file_of, goes_to, is_closed, is_one_file, note_output
 
 SIZE, SET_SIZE = 1 << 20, 1031  # bytes of the pipe, and what asks for them
@@ -352,6 +352,14 @@ def run_logged(spool: str, name: str, real: str, args: "list[str]", flags: str, 
     return raw
 
 
+def called_as(me: str, spool: str) -> str:
+    """The name by which make was called: where a link leads to the wrapper, that link's, as a whole path if PATH does not lead to it."""
+    name = os.path.basename(me)
+    places = (os.path.join(folder, name) for folder in os.environ.get("PATH", "").split(":"))
+    is_own = os.path.dirname(me) == spool + "/bin"
+    return name if is_own or next((place for place in places if os.access(place, os.X_OK)), "") == me else me
+
+
 def main(spool: str) -> None:
     """Runs the real make, as the caller asked."""
     USUAL.extend([signal.SIGINT] if signal.signal(signal.SIGINT, signal.SIG_IGN) != signal.SIG_IGN else [])
@@ -359,7 +367,6 @@ def main(spool: str) -> None:
     name, args = called_as(sys.argv[0], spool), sys.argv[1:]
     with open(spool + "/real") as file:
         real = file.read()
-    name = name_in_command(spool, real) or name
     if WORDS[0] in args and "MAKE_RESTARTS" in os.environ:  # make has remade a makefile and begins again
         as_usual()
         os.execv(real, [name] + args)

@@ -61,12 +61,6 @@ def by_name(words: List[str], real: str, folder: str = "") -> List[str]:
     return words
 
 
-def name_of_make(words: List[str], folder: str = "") -> str:
-    """The name by which a command that `by_name` changes calls make: the path itself, or the interpreter of a script of make."""
-    script = words[0] if "/" in words[0] else shutil.which(words[0]) or words[0]
-    return (first_words(os.path.join(folder, script)) or words)[0]
-
-
 def words_of_cmake(words: List[str]) -> Optional[List[str]]:
     """What make gets of the words behind `cmake --build DIR`, and CLEAN where it runs `make clean` first; None where they ask for more than that."""
     found: List[str] = []

@@ -83,14 +83,6 @@ class Covered(Recorded):
             found = project.record()
         self.assertEqual((1, ["mk"]), (found.status, races_of(found.text())), found.text())
 
-    def test_name_of_make_in_the_command(self) -> None:
-        """$(MAKE) is what it is without the recorder, where the command is a script of make, or its path."""
-        for words in (["./rules", "-s"], [MAKE, "-s", "-f", "rules"]):
-            with support.Project({"rules": RULES + "all: in ; @echo $(MAKE)\nin: ; @$(MAKE) -s -f in.mk\n", "in.mk": "all: ; @echo $(MAKE) in.mk\n"}) as project:
-                project.sh("chmod +x rules")
-                plain, found = project.plain(words), project.record(words)
-            self.assertEqual((0, plain.stdout), (found.status, found.stdout[:len(plain.stdout)]), found.text())
-
     def test_make_that_is_read(self) -> None:
         """It is another file than without the recorder, as for `ldd` in the makefile of keyutils. Who asks whether it is there sees the same."""
         for recipe, status in (("cat %s > x" % MAKE, 2), ("test -x %s && stat -c %%A %s > x" % (MAKE, MAKE), 0)):
