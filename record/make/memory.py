@@ -184,9 +184,9 @@ def with_target(text: str, target: str) -> str:
 
 
 def with_prerequisites(text: str, target: str, base: Base) -> str:
-    """A text of a target's recipe, with the prerequisites in the places of the macros that stand for all or some of them. In a search path they may have
-    other names."""
-    is_known = target in base.prerequisites and target not in base.double and not base.search and ".SECONDEXPANSION" not in base.prerequisites
+    """A text of a target's recipe, with the prerequisites in the places of the macros that stand for all or some of them. What make has found in a search
+    path and does not remake has the name from there, also in the data base."""
+    is_known = target in base.prerequisites and target not in base.double and ".SECONDEXPANSION" not in base.prerequisites
     return OF_PREREQUISITES.sub(lambda _: " ".join(base.prerequisites[target]), text) if is_known else text
 
 

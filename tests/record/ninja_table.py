@@ -203,7 +203,7 @@ CASES += [
     Case("ages-of-a-later-make", RACE, LATER % "", ["is newer"], words="sh ./all", files={"all": "ninja -j1; make -f next.mk\n", "next.mk": "x: a ; touch x\n"}),
     Case("ages-of-a-later-make-ordered", SAFE, LATER % " || a", words="sh ./all", files={"all": "ninja -j1; make -f next.mk\n", "next.mk": "x: a ; touch x\n"}),
     Case("ages-that-a-script-compares", RACE, LATER % "", ["is newer"], words="sh ./all", files={"all": "ninja -j1; if test x -nt a; then touch y; fi\n"}),
-    Case("ages-of-a-depfile", RACE, NAMED, ["/h is newer"], words="sh ./all",
+    Case("ages-of-a-depfile", RACE, NAMED, [" and h is newer"], words="sh ./all",
          files={"all": "ninja -j1; ninja -f next.ninja\n", "next.ninja": "rule g\n  command = touch x y\n  generator = 1\nbuild x: g\n  depfile = x.m\n"}),
     Case("folder-that-was-removed-first", RACE, sh("a", "", "mkdir -p d; touch a") + sh("b", "", "echo > d/b; touch b"), ["that the folder"], words="sh ./all", files={"all": "rm -r d; ninja -j1\n", "d/x": ""}),
     Case("folder-that-a-stage-removed", RACE, REMADE.replace("next.ninja\n", "next.ninja | r\n") + sh("r", "", "rm -r d; touch r"), ["that the folder"], setup="touch -d 2001-01-01 build.ninja",
@@ -220,7 +220,7 @@ CASES += [
     Case("log-that-is-listed-for-the-manifest", SAFE, GLOBS % "ls -A . > /dev/null" + "build d/a: sh\n  c = touch d/a\ndefault d/a\n", files={"v": "", "w": "", "s": "", "d/x": ""}, setup=OLD),
     Case("statement-for-the-manifest-that-runs-later", RACE, (GLOBS % "touch s").replace("touch $out", "touch $out z") + "build a: sh\n  c = test -f z && echo 1 > a; touch a\ndefault w a\n",
          ["RACE  z"], files={"v": "", "w": "", "s": ""}, setup=OLD, races=1),
-    Case("ages-of-a-log-of-headers", RACE, HEADS, ["/h is newer"], files={"next.ninja": RULES + HEADS}, setup="touch -d 2001-01-01 build.ninja"),
+    Case("ages-of-a-log-of-headers", RACE, HEADS, [" and h is newer"], files={"next.ninja": RULES + HEADS}, setup="touch -d 2001-01-01 build.ninja"),
     Case("ages-of-a-log-of-headers-ordered", SAFE, HEADS.replace("build x: r", "build x: r | h0"), files={"next.ninja": RULES + HEADS.replace("build x: r", "build x: r | h0")},
          setup="touch -d 2001-01-01 build.ninja"),
 ]

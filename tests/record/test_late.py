@@ -70,6 +70,8 @@ LATE: Dict[str, Small] = {
     "wildcard_with_a_blank": Small("race", LATER.replace("d2/n.x", "'d 2/n.x'") % "b.q: c ; echo $(wildcard d\\ 2/*.x) > b.q", setup=FOLDERS),
     "wildcard_of_its_own_target": Small("safe", FIRST % "$(if $(wildcard $@),echo yes,echo no)", {"d/k": ""}),
     "wildcard_of_its_prerequisites": Small("safe", WITH_K % "$(if $(filter-out $(wildcard $^),$^),echo yes,echo no)", {"d/k": ""}),
+    "wildcard_of_prerequisites_in_a_search_path": Small("safe", "VPATH = v\n" + WITH_K.replace("d/k", "d/q") % "echo $(wildcard $^)", {"d/k": "", "v/d/q": ""}),
+    "wildcard_of_prerequisites_in_a_search_path_that_is_a_pattern": Small("race", "VPATH = [d]\n" + WITH_K.replace("d/k", "z.q") % "echo $(wildcard $^)", {"[d]/z.q": "", "d/k": ""}),
     "wildcard_of_newer_prerequisites": Small("safe", WITH_K % "echo $(wildcard $? $(<))", {"d/k": ""}),
     "wildcard_of_folders_of_its_prerequisites": Small("race", WITH_K % "echo $(wildcard $(^D:%%=%%/*.q))", {"d/k": ""}),
     "wildcard_of_its_prerequisites_and_a_pattern": Small("race", WITH_K % "echo $(wildcard $^ d/*.q)", {"d/k": ""}),
