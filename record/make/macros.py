@@ -77,6 +77,7 @@ class Macros:
         self.with_lines: Dict[str, bool] = {}
         self.acts: Dict[str, Act] = {}
         self.answers = Answers(self)
+        self.is_used = self.is_used or bool(self.steady.set_by_recipes)  # by a text that the environment has
 
     @cached_property
     def idle(self) -> Set[str]:

@@ -106,14 +106,15 @@ class Steady:
     def observed(self) -> Set[str]:
         """Macros that a recipe has set by `eval`, by where they got their last value: all that `eval` reads counts as the line of the recipe. A template counts as
         the line that calls it, with its recipes and all that it sets: there only what may have had a text by which recipes set macros counts."""
-        plain, made = {*self.lines_of_recipes(True)}, {*self.lines_of_recipes(False)}
-        found, unclear = set(), set()
-        for name, places in self.places().items():
-            if any(place in plain and not self.is_set_at(name, *place) or self.is_taken_in(place[0]) for place in places):
-                found.add(name)
-            elif not made.isdisjoint(places):
-                unclear.add(name)
-        return found | {name for name in {*unclear, *self.gone()} if self.is_hidden(name)}
+        made = {*self.lines_of_recipes(False)}
+        unclear = {name for name, places in self.places().items() if not made.isdisjoint(places)}
+        return self.set_by_recipes | {name for name in {*unclear, *self.gone()} if self.is_hidden(name)}
+
+    @cached_property
+    def set_by_recipes(self) -> Set[str]:
+        """Those that got their last value where a recipe stands in a makefile as it is, or in one that a recipe has read."""
+        plain = {*self.lines_of_recipes(True)}
+        return {name for name, places in self.places().items() if any(place in plain and not self.is_set_at(name, *place) or self.is_taken_in(place[0]) for place in places)}
 
     def places(self) -> Dict[str, Set[Tuple[str, int]]]:
         """Where each macro got its last value, and where single targets and patterns got theirs."""

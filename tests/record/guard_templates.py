@@ -18,8 +18,8 @@ def texts(name: str) -> str:
 
 
 TEMPLATE_GUARDS: List[Guard] = [
-    Guard("templates: what their recipes set", STEADY, "            elif not made.isdisjoint(places):\n", "            elif False:\n", template("macro_of_a_computed_name"), YES),
-    Guard("templates: recipes of lines that call them one by one", STEADY, "            elif not made.isdisjoint(places):\n", "            elif False:\n", template("macro_of_a_computed_name_one_by_one"), YES),
+    Guard("templates: what their recipes set", STEADY, "for name, places in self.places().items() if not made.isdisjoint(places)}", "for name, places in self.places().items() if False}", template("macro_of_a_computed_name"), YES),
+    Guard("templates: recipes of lines that call them one by one", STEADY, "for name, places in self.places().items() if not made.isdisjoint(places)}", "for name, places in self.places().items() if False}", template("macro_of_a_computed_name_one_by_one"), YES),
     Guard("templates: what they set themselves", STEADY, "if self.is_hidden(name)}", "}", template("programs"), FALSE_RACE),
     Guard("templates: texts that lead to what sets others still", STEADY, 'return not wanted <= self.known.reached("$(%s)" % name)', "return bool(wanted)", template("programs_with_functions"), FALSE_RACE),
     Guard("templates: computed names", STEADY, "*((one.end, False, one.value) for one in late_in(known.text)),", "", template("macro_of_a_computed_name_by_call"), YES),
@@ -32,6 +32,10 @@ TEMPLATE_GUARDS: List[Guard] = [
     Guard("templates: macros of lines that set others", ASSIGNED, "        yield from all_defined(body)\n", "", template("macro_of_lines_in_a_template_that_sets_others"), YES),
     Guard("templates: macros that are gone", STEADY, "{*unclear, *self.gone()}", "unclear", template("macro_that_is_taken_away_in_plain_recipes"), YES),
     Guard("makefiles that recipes read", STEADY, " or self.is_taken_in(place[0]) for", " for", template("macro_that_a_makefile_of_a_recipe_sets"), YES),
+    Guard("macros that the environment sets", MACROS, "self.is_used or bool(self.steady.set_by_recipes)", "self.is_used or False", template("macro_that_the_environment_sets"), YES),
+    Guard("words of make: of an object that it cannot load", "make/wrapper.py", "elif self.next is None and is_unloaded(packet):", "elif False:", "test_wrapper.Splits.test_what_make_says_of_an_object_that_it_cannot_load"),
+    Guard("words of make: what a recipe says of an object", "make/wrapper.py", "elif self.next is None and is_unloaded(packet):", "elif is_unloaded(packet):", "test_wrapper.Splits.test_what_make_says_of_an_object_that_it_cannot_load"),
+    Guard("words of make: whole lines about objects", "make/lines.py", 'b"\\n" not in packet and any(packet.find(way) > 0', "any(packet.find(way) > 0", "test_wrapper.Splits.test_what_make_says_of_an_object_that_it_cannot_load"),
     Guard("macros of targets that recipes set", STEADY, "            found[name] = found.get(name, set()) | places\n", "            pass\n", template("macro_of_targets"), YES),
     Guard("data base: where targets got their macros", "make/database.py", 'own_value(self.base, match.group(3) or "", text, self.remarked)', 'own_value(self.base, match.group(3) or "", text, "")',
           texts("where_macros_of_targets_got_their_values")),

@@ -8,7 +8,7 @@ from typing import Dict, List
 
 from record.make.assigned import late_in
 from record.make.database import read_base
-from test_small import Small, test_of
+from test_small import COMMANDS, Small, test_of
 
 HEAD = "all: s a b\ns: ; touch s\n"
 ORDER = "b: a\n"
@@ -40,6 +40,9 @@ COMMON = -O2
 V = $(eval V := $$(shell echo 1))$(V)
 """
 
+ENVIRONMENT = ["env", "V=$(eval W := $@)$(eval V := 1)x", "make"]
+COMMANDS.update({"macro_that_the_environment_sets": ENVIRONMENT, "macro_of_the_environment_in_order": ENVIRONMENT})
+
 TEMPLATES: Dict[str, Small] = {
     "macro_of_a_computed_name": Small("race", HEAD + LEADS + SETS + EACH),
     "macro_of_a_computed_name_one_by_one": Small("race", HEAD + LEADS + SETS + ONE_BY_ONE),
@@ -60,6 +63,8 @@ TEMPLATES: Dict[str, Small] = {
     "macro_of_targets": Small("race", HEAD + N + "a b: $(n) = $(Z)\nZ = $(eval a: V := $@)$(eval b: V := $@)$@\n" + PLAIN),
     "macro_of_targets_in_order": Small("safe", HEAD + ORDER + N + "a b: $(n) = $(Z)\nZ = $(eval a: V := $@)$(eval b: V := $@)$@\n" + PLAIN),
     "macro_of_targets_of_a_template": Small("race", HEAD + N + "a b: $(n) = $(Z)\nZ = $(eval a: V := $@)$(eval b: V := $@)$@\n" + EACH),
+    "macro_that_the_environment_sets": Small("race", HEAD + "a: s ; echo '$(V)' > a\nb: s ; echo '$(W)' > b\n"),
+    "macro_of_the_environment_in_order": Small("safe", HEAD + ORDER + "a: s ; echo '$(V)' > a\nb: s ; echo '$(W)' > b\n"),
     # what is worked out once
     "macro_that_keeps_what_it_read": Small("race", KEEPS % "" + ONCE, OLD),
     "macro_that_keeps_what_it_read_in_order": Small("safe", KEEPS % "b: c\n" + ONCE, OLD),
