@@ -7,7 +7,7 @@ from typing import TYPE_CHECKING, Dict, Iterator, List, Optional, Set, Tuple
 from record.make.assigned import BEHIND_TWO, all_defined, late_in, once, signed_in
 from record.make.database import LINES_TEXT
 from record.make.expansion import OPEN
-from record.make.references import CONTINUED, read_again, with_functions
+from record.make.references import CONTINUED, EVAL, read_again, with_functions
 
 if TYPE_CHECKING:
     from record.make.macros import Macros
@@ -19,6 +19,7 @@ IMPLIED = frozenset(("SHELL", ".SHELLFLAGS", "MAKEFLAGS", "MFLAGS", "GNUMAKEFLAG
                      "MAKE_TERMOUT", "MAKE_TERMERR", "IFS", "HOME"))
 UNDEFINES = re.compile(r"(?<![\w-])undefine(?![\w-])")
 HANDED = re.compile(r"\$[({]call[ \t]+[^,()\n]*,([^\n]*\$\$[^\n]*)")  # what a function gets that stands in a text once more
+GIVEN = re.compile(r"([\w.-]+)[ \t]*(?:[+?!]|:{1,3})?=")  # a macro that the words of make set
 SETS = r" *(?:(?:override|export|private)[ \t]+)*%s[ \t]*(?:[+?]|::?)?="  # a line that gives a macro its value
 
 
@@ -147,7 +148,14 @@ class Steady:
                  *((name, True, value) for name, values in self.signed.items() for sign, value in values if sign not in AT_ONCE and "$$" in value),
                  *((name, True, value) for name, value in all_defined(known.text) if "$$" in value)]
         found = [(name, is_whole, self.setters(value)) for name, is_whole, value in given]
-        return [one for one in found if one[2]]
+        return [one for one in (*found, *self.given_by_words()) if one[2]]
+
+    def given_by_words(self) -> Iterator[Tuple[str, bool, Set[str]]]:
+        """The same that the words of make give, such as `--eval='V = $(Z)'`."""
+        text = " ".join(self.known.exports.words_of_make)
+        acts = (self.setters(text) | ({""} if EVAL.search(text) else set())) if "$" in text else set()
+        yield from ((one.end, False, acts) for one in late_in(text))
+        yield from ((name, True, acts) for name in GIVEN.findall(text))
 
     def setters(self, value: str) -> Set[str]:
         """The macros by which a text sets others. It may have parts that a template is handed."""

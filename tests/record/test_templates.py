@@ -42,6 +42,8 @@ V = $(eval V := $$(shell echo 1))$(V)
 
 ENVIRONMENT = ["env", "V=$(eval W := $@)$(eval V := 1)x", "make"]
 COMMANDS.update({"macro_that_the_environment_sets": ENVIRONMENT, "macro_of_the_environment_in_order": ENVIRONMENT})
+BY_WORDS = ["make", "--eval=n := V", "--eval=$(n) = $(Z)"]
+COMMANDS.update({"macro_that_the_words_of_make_set": BY_WORDS, "macro_of_the_words_of_make_in_order": BY_WORDS, "macro_that_sets_others_by_the_words_of_make": ["make", "--eval=V = $(eval W := $@)$(eval V := 1)x"]})
 
 TEMPLATES: Dict[str, Small] = {
     "macro_of_a_computed_name": Small("race", HEAD + LEADS + SETS + EACH),
@@ -65,6 +67,9 @@ TEMPLATES: Dict[str, Small] = {
     "macro_of_targets_of_a_template": Small("race", HEAD + N + "a b: $(n) = $(Z)\nZ = $(eval a: V := $@)$(eval b: V := $@)$@\n" + EACH),
     "macro_that_the_environment_sets": Small("race", HEAD + "a: s ; echo '$(V)' > a\nb: s ; echo '$(W)' > b\n"),
     "macro_of_the_environment_in_order": Small("safe", HEAD + ORDER + "a: s ; echo '$(V)' > a\nb: s ; echo '$(W)' > b\n"),
+    "macro_that_the_words_of_make_set": Small("race", HEAD + SETS + EACH),
+    "macro_that_sets_others_by_the_words_of_make": Small("race", HEAD + BOTH),
+    "macro_of_the_words_of_make_in_order": Small("safe", HEAD + ORDER + SETS + EACH),
     # what is worked out once
     "macro_that_keeps_what_it_read": Small("race", KEEPS % "" + ONCE, OLD),
     "macro_that_keeps_what_it_read_in_order": Small("safe", KEEPS % "b: c\n" + ONCE, OLD),
