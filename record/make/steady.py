@@ -19,6 +19,7 @@ IMPLIED = frozenset(("SHELL", ".SHELLFLAGS", "MAKEFLAGS", "MFLAGS", "GNUMAKEFLAG
                      "MAKE_TERMOUT", "MAKE_TERMERR", "IFS", "HOME"))
 UNDEFINES = re.compile(r"(?<![\w-])undefine(?![\w-])")
 HANDED = re.compile(r"\$[({]call[ \t]+[^,()\n]*,([^\n]*\$\$[^\n]*)")  # what a function gets that stands in a text once more
+OF_MAKE = ("MAKEFILE_LIST", ".DEFAULT_GOAL")  # make sets these as it reads a line
 GIVEN = re.compile(r"([\w.-]+)[ \t]*(?:[+?!]|:{1,3})?=")  # a macro that the words of make set
 SETS = r" *(?:(?:override|export|private)[ \t]+)*%s[ \t]*(?:[+?]|::?)?="  # a line that gives a macro its value
 
@@ -120,7 +121,7 @@ class Steady:
     def places(self) -> Dict[str, Set[Tuple[str, int]]]:
         """Where each macro got its last value, and where single targets and patterns got theirs."""
         base = self.known.base
-        found = {name: {(file, line)} for name, (_, file, line) in base.origins.items()}
+        found = {name: {(file, line)} for name, (_, file, line) in base.origins.items() if name not in OF_MAKE}
         for name, places in base.own_places.items():
             found[name] = found.get(name, set()) | places
         return found

@@ -74,10 +74,13 @@ TEMPLATES: Dict[str, Small] = {
     "macro_that_keeps_what_it_read": Small("race", KEEPS % "" + ONCE, OLD),
     "macro_that_keeps_what_it_read_in_order": Small("safe", KEEPS % "b: c\n" + ONCE, OLD),
     "macro_that_keeps_what_it_read_by_its_name": Small("race", KEEPS % "" + ONCE.replace("$(1)", "x"), OLD),
+    "macro_that_keeps_what_it_read_behind_a_word": Small("safe", (KEEPS % "b: c\n" + ONCE).replace("$(1)_V", "V_$(1)").replace("x_V", "V_x"), OLD),
+    "macro_that_keeps_what_it_read_in_a_loop": Small("safe", KEEPS % "b: c\n" + "$(foreach v,x,$(eval $(v)_V = $$(eval $(v)_V := $$(shell cat f))$$($(v)_V)))\n", OLD),
     "macro_that_keeps_its_value": Small("safe", HEAD + ONCE.replace("cat f", "echo 1").replace("x)", "V)").replace("_V", "") + EACH),
     "macro_that_keeps_its_value_by_its_name": Small("safe", HEAD + ONCE.replace("cat f", "echo 1").replace("$(1)_V", "V") + EACH),
     "macro_that_keeps_its_value_behind_a_word": Small("safe", HEAD + ONCE.replace("cat f", "echo 1").replace("$(1)_V", "f_$(1)_V") + EACH.replace("$$(V)", "$$(f_x_V)")),
     # what is not set by recipes
+    "macros_of_make_on_the_line_of_a_recipe": Small("safe", "a: s ; touch s a\nall: a b\ns:\n.DEFAULT_GOAL := all\nb: s ; touch b\n", lacks="functions of make put together"),
     "programs": Small("safe", PROGRAMS + "$(foreach p,x y z,$(eval $(call T,$(p))))\n"),
     "programs_one_by_one": Small("safe", PROGRAMS + "$(eval $(call T,x))\n$(eval $(call T,y))\n$(eval $(call T,z))\n"),
     "programs_with_functions": Small("safe", "all: s x y\ns: ; touch s\ndefine T\n$(1)_FLAGS = $$(call flags,$(1))\n$(1): s\n\techo $$($(1)_FLAGS) > $$@\nendef\nflags = $(if $(filter x,$(1)),-x,$(F))\n"
@@ -98,13 +101,14 @@ class Texts(unittest.TestCase):
 
     def values(self, text: str, name: str) -> List[str]:
         """The values that a macro may have by templates."""
-        return [one.value_of(name) for one in late_in(text) if name.endswith(one.end)]
+        return [one.value_of(name) for one in late_in(text) if one.fits(name)]
 
     def test_values_of_names_that_are_put_together(self) -> None:
         for text, name, wanted in (("$(1)_V = $$(eval $(1)_V := 1)\n", "x_V", [" $(eval x_V := 1)"]), ("f_$(1) = $$(eval f_$(1) := 1)\n", "f_x", [" $(eval f_x := 1)"]),
                                    ("$(1)$(2) = $$(eval $(1) := 1)\n", "xy", [" $(eval $(1) := 1)"]), ("$(1) = $$(Z) $(1)\n", "x", [" $$(Z) x"]),
-                                   ("f_$(1) = $$(eval f_$(1) := 1)\n", "abc", [" $(eval f_$(1) := 1)"]), ("$(n) = $(eval $(n) := $$x)\n", "V", [" $(eval V := $$x)"]),
-                                   ("$1_V = $(eval $1_V := 1)\n", "x_V", [" $(eval x_V := 1)"]), ("a,$(1) = $(1)\n", "x", [" x"])):
+                                   ("f_$(1) = $$(eval f_$(1) := 1)\n", "abc", []), ("$(n) = $(eval $(n) := $$x)\n", "V", [" $(eval V := $$x)"]),
+                                   ("$1_V = $(eval $1_V := 1)\n", "x_V", [" $(eval x_V := 1)"]), ("a,$(1) = $(1)\n", "x", [" x"]),
+                                   ("$(eval $(1) = $$(eval $(1) := 1)$$($(1))))\n", "x", [" $(eval x := 1)$(x)"]), ("x_$(1)_x = 1", "x_x", [])):
             self.assertEqual(wanted, self.values(text, name), text)
 
     def test_where_macros_of_targets_got_their_values(self) -> None:
