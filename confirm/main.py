@@ -17,6 +17,7 @@ from confirm.search import Finding, search
 from confirm.text import body, heading, summary
 from confirm.tree import copy, remove, take_back
 from confirm.trial import Trial
+from record import RELEASE
 from record.entry import printable, reason
 from record.folder import NotWhole, reading
 from record.judge import find_race, no_race
@@ -56,6 +57,7 @@ def parse(words: Sequence[str] | None) -> argparse.Namespace:
                         "record says that the build wrote is removed from the copy")
     parser.add_argument("--keep", type=Path, metavar="FOLDER", help="keep what the serial and the last parallel build left")
     parser.add_argument("--race", metavar="PROGRAM", help="the program race (else $RACE, the checkout's, or the one on PATH)")
+    parser.add_argument("-V", "--version", action="version", version=f"%(prog)s {RELEASE}", help="print the version")
     args = parser.parse_intermixed_args(words)
     args.record, args.names = (Path(args.words[0]), args.words[1:]) if names_record(args.words) else (Path(".race"), args.words)
     return args

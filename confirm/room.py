@@ -260,6 +260,9 @@ def new_room(folder: str, note: Callable[[str], object]) -> Path:
     for place in dict.fromkeys(filter(None, (*named, *PLACES))):
         if (os.path.realpath(place) + "/").startswith(folder.rstrip("/") + "/"):
             continue
+        if os.path.isdir(place) and os.statvfs(place).f_flag & os.ST_NOEXEC:
+            refused.append(f"{place}: no program may run there (noexec)")
+            continue
         try:
             made = Path(tempfile.mkdtemp(prefix="race-confirm-", dir=os.path.realpath(place)))
         except OSError as error:

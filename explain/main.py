@@ -9,6 +9,7 @@ from pathlib import Path
 
 from explain.plain import plain
 from explain.topics import Topic, topics
+from record import RELEASE
 
 ABOUT = "Prints what a fault, a refusal of a log, a kind of race or a missing input means, and what to do about it."
 PAGE = Path(__file__).resolve().parents[1] / "docs" / "FAULTS.md"
@@ -30,6 +31,7 @@ def parse(words: list[str] | None) -> argparse.Namespace:
     parser = argparse.ArgumentParser(prog="race-explain", description=ABOUT, epilog=EXAMPLE,
                                      formatter_class=argparse.RawDescriptionHelpFormatter)
     parser.add_argument("names", nargs="*", metavar="NAME", help="F16, V3, a word such as NoRule, race, or a kind such as shared-log (all are listed)")
+    parser.add_argument("-V", "--version", action="version", version=f"%(prog)s {RELEASE}", help="print the version")
     return parser.parse_args(words)
 
 

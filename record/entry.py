@@ -13,10 +13,13 @@ import sys
 import time
 import traceback
 from importlib import import_module
+from pathlib import Path
 from typing import Iterator, List
 
-STOPPING = (signal.SIGINT, signal.SIGTERM, signal.SIGHUP)
+STOPPING = (signal.SIGINT, signal.SIGTERM, signal.SIGHUP, signal.SIGQUIT)
+UNHEARD: List[signal.Signals] = []  # what this program hears, and its caller ignores, as a build would
 FAILED = 3
+SHORT = 100  # bytes of a path that may stand in the first line of a script
 HELPS = {errno.ENOSPC: " (make room there, and run it again)", errno.EFBIG: " (raise the limit on the size of files, ulimit -f, and run it again)"}
 PATIENCE = 10  # so many seconds a build has to end
 # Signs that a terminal obeys, or that a page must not have; and the colours that race-record prints itself.
@@ -36,7 +39,10 @@ def stop(number: int, _: object) -> None:
 
 
 def hear() -> None:
-    """Lets signals end the program in order, except those that are ignored for it (`nohup`)."""
+    """Lets signals end the program in order, except those that are ignored for it (`nohup`). Where the end of a child is ignored, its status is
+    lost."""
+    if signal.signal(signal.SIGCHLD, signal.SIG_DFL) is signal.SIG_IGN:
+        UNHEARD.append(signal.SIGCHLD)
     for one in STOPPING:
         if signal.getsignal(one) is not signal.SIG_IGN:
             signal.signal(one, stop)
@@ -80,12 +86,28 @@ def end_traced(strace: "subprocess.Popen[bytes]") -> None:
     strace.wait()
 
 
+def paths_of_python() -> List[str]:
+    """The program that runs this, and its real path; it does not know the first where it was started without a `PATH`."""
+    return [path for path in (sys.executable, os.path.realpath("/proc/self/exe")) if path]
+
+
+def interpreter(room: Path) -> str:
+    """What runs this, as the first line of a script can name it: a short path without blanks; else by a link in a folder."""
+    found = paths_of_python()
+    for path in found:
+        if len(os.fsencode(path)) < SHORT and not set(path) & set(" \t\n"):
+            return path
+    (room / "python").symlink_to(found[-1])
+    return str(room / "python")
+
+
 def speak_utf8() -> None:
     """Begins again where the locale has another encoding: names in a record are read as UTF-8, and those on the disk must be too. What is
     printed is UTF-8, with escapes for what is none."""
     if sys.getfilesystemencoding().lower().replace("-", "") != "utf8":
         options = ["-B"] if sys.dont_write_bytecode else []
-        os.execv(sys.executable, [sys.executable, *options, "-X", "utf8", *sys.argv])
+        python = paths_of_python()[0]
+        os.execv(python, [python, *options, "-X", "utf8", *sys.argv])
     for stream in (sys.stdout, sys.stderr):
         if isinstance(stream, io.TextIOWrapper):
             stream.reconfigure(encoding="utf-8", errors="backslashreplace")

@@ -50,10 +50,11 @@ def of_makes(makes: Sequence[Make], failed: Set[int], folder: str) -> Iterator[F
 
 
 def no_rule(make: Make) -> str:
-    """What a make could not go on without, where no recipe of it failed: a target that it had to make last, and that has no recipe."""
+    """What a make could not go on without, where no recipe of it failed: a target that it had to make last, and that has no recipe. One that a
+    signal ended has not said which have one."""
     for one in make.words.rounds[-1:]:
         for target in list(one.must)[-1:]:
-            if target not in (one.base or Base()).recipes:
+            if one.base is not None and target not in one.base.recipes:
                 return "no rule makes " + target
     return ""
 

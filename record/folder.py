@@ -22,6 +22,7 @@ if TYPE_CHECKING:
 ROOMS = "/tmp" if os.path.isdir("/tmp") else None  # where temporary folders are made
 NAMES = 12  # so many of the targets that were there before are named
 FOUND = 3  # so many names of a folder that is no record
+PLACES = ("/tmp", "$TMPDIR", "/var/tmp", "/dev/shm", "~/.cache")  # for programs that a build runs
 
 
 class Taken(Exception):
@@ -30,6 +31,23 @@ class Taken(Exception):
 
 class NotWhole(Exception):
     """A record of which a file is cut, changed or of another kind."""
+
+
+class NoRoom(Exception):
+    """There is no folder for programs that a build runs."""
+
+
+def may_run(place: str) -> bool:
+    """Whether a folder can be written, and programs in it may run."""
+    return os.access(place, os.W_OK | os.X_OK) and not os.statvfs(place).f_flag & os.ST_NOEXEC
+
+
+def room_of_programs() -> str:
+    """The first folder in which a temporary one can hold programs."""
+    places = [place for place in (os.path.expanduser(os.path.expandvars(name)) for name in PLACES) if os.path.isdir(place)]
+    for place in filter(may_run, places):
+        return place
+    raise NoRoom("no program may run in %s (they are mounted noexec, or cannot be written): name another folder by TMPDIR" % ", ".join(places))
 
 
 @contextmanager
@@ -57,7 +75,7 @@ class Record:
     configured: List[str] = field(default_factory=list)  # others that were there: what `./configure` made
     stands_alone: bool = False  # their recipes did not run, and can run beside no other
     notes: List[str] = field(default_factory=list)
-    hints: List[str] = field(default_factory=list)  # of a build that failed: who looks for what others make
+    hints: List[str] = field(default_factory=list)  # what to try: of a build that failed, who looks for what others make
     missingdeps: int = 0  # what `ninja -t missingdeps` finds
     missing: Optional[Dict[str, Any]] = None  # with --missing: what its answer takes for granted, and why there may be none
 
@@ -98,7 +116,7 @@ def write_build(folder: Path, build: "Build", within: Optional[Dict[str, str]]) 
             file.write(line + "\n")
             about.setdefault(label, {"target": "", "kind": "group", "file": "", "line": 0, "recipe": ""})
             edges += len(json.loads(line)["after"])
-    meanings = {relative(root, p): shown(m) for p, m in build.meanings.items()}
+    meanings = {relative(root, p): shown(m.replace(" %s/" % root.rstrip("/"), " ")) for p, m in build.meanings.items()}  # with names as the paths have them
     askers = {relative(root, path): labels[at] for path, at in build.askers.items() if at >= 0}
     counts = {
         "considered": build.considered, "tasks": len(about), "edges": edges,

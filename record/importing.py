@@ -21,7 +21,7 @@ from record.folder import Record, write_record
 from record.footprints import write_footprints
 from record.granted import add_granted, idle_targets, named_by_ninja
 from record.make.build import Builder
-from record.make.cover import copy_of
+from record.make.cover import copy_of, way_to_cover
 from record.make.elsewhere import Elsewhere
 from record.make.graph import Build
 from record.make.owners import Owners
@@ -45,6 +45,7 @@ from record.trace.lives import Life
 from record.trace.names import Names, mount_points
 from record.trace.past import Past, beginning
 from record.trace.skips import SYSTEM, unseen_changes
+from record.trace.spelling import twice
 from record.trace.strace import read_trace
 from record.warm import did_nothing, made_unseen, stand_alone, warm_names
 
@@ -67,7 +68,7 @@ def replay_trace(spool: Path, names: Names, real: str, folder: str, tops: List[s
     return replay
 
 
-PRINTED = "a make that ran past the recorder prints the recorder's words, where a make started it: a file that keeps what it printed is not as without race-record, so clean the tree before you build again"
+PRINTED = "a make that ran past the recorder prints the recorder's words, where a make started it (its version, what it considers, its data base): a file that keeps what it printed is not as without race-record, so clean the tree before you build again"
 
 
 @dataclass
@@ -110,11 +111,12 @@ def cut_words(spool: Path, lives: List[Life]) -> List[str]:
 def note_holes(spool: Path, replay: Calls, owners: Owners, names: Names, record: Record) -> None:
     """The holes of the trace itself, and of makes that ran past the recorder."""
     record.holes += ["a limit on the size of files (ulimit -f) cuts what a make says: " + one for one in cut_words(spool, replay.all)]
-    record.holes += replay.holes + owners.holes + names.mounted(mount_points()) + names.too_long()
+    record.holes += replay.holes + owners.holes + names.mounted(mount_points()) + names.too_long() + twice(names, replay.all, owners.makes)
     record.holes += ["--fresh copied %s, which has a name outside of the folder too, and the build writes it" % path for path in replay.hard_links if path in names.shared]
     record.holes += ["nobody knows who started a process: " + one for one in replay.strays()]
     record.holes += ["a make ran past the recorder: " + p for p in replay.past + replay.without_program()]
     record.notes += [PRINTED] if (replay.past or replay.unread) and owners.makes else []
+    record.hints += way_to_cover(record.words, replay.real) if replay.past and not replay.covered else []
     for path in sorted(spool.glob("*.past")):
         record.holes += ["a make that prints its own words (-d, -p, --debug), or has nowhere to print them, ran past the recorder: " + t for t in path.read_text(errors="replace").splitlines()]
 

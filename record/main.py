@@ -19,9 +19,9 @@ from itertools import islice
 from pathlib import Path
 from typing import Dict, List, Optional, Set, Tuple, cast
 
-from record import VERSION
-from record.entry import STOPPING, Stopped, end_traced, printable
-from record.folder import ROOMS, NotWhole, Record, Taken, accept_warm, alone, aside, is_record, reading, rewrite, what_stands
+from record import RELEASE, VERSION
+from record.entry import STOPPING, UNHEARD, Stopped, end_traced, interpreter, printable
+from record.folder import NoRoom, NotWhole, Record, Taken, accept_warm, alone, aside, is_record, reading, rewrite, room_of_programs, what_stands
 from record.judge import find_race, judge, no_race
 from record.make.cover import Cover
 from record.make.options import forget_coerced
@@ -37,7 +37,7 @@ from record.trace.names import Names
 from record.trace.newer import Older
 from record.trace.pipe import Pipe
 from record.trace.skips import sift
-from record.users import other_user
+from record.users import unseen
 
 STRACE = ["strace", "-f", "-q", "-y", "--seccomp-bpf", "-s", str(32 * os.sysconf("SC_PAGE_SIZE")), "-e", "signal=hup,int,quit,abrt,kill,segv,pipe,term,xfsz", "-e", "trace=" + traced()]
 EXAMPLE = """examples:
@@ -119,7 +119,7 @@ def prepare_spool(spool: Path, real: str, past: Path) -> None:
     for stream in (1, 2):
         note_output(str(spool), stream, "")
     (spool / "wrapper").write_bytes(wrapper())
-    text = PROGRAM % (sys.executable, str(spool / "wrapper"), str(past), str(spool))
+    text = PROGRAM % (interpreter(spool), str(spool / "wrapper"), str(past), str(spool))
     for name in ("make", "gmake"):
         if shutil.which(name):
             path = spool / "bin" / name
@@ -140,6 +140,8 @@ def enter(cover: Cover, older: Older, heard: object, held: Set[signal.Signals]) 
     for one in STOPPING[1:]:
         if signal.getsignal(one) is not signal.SIG_IGN:
             signal.signal(one, signal.SIG_DFL)
+    for one in UNHEARD:
+        signal.signal(one, signal.SIG_IGN)
     signal.pthread_sigmask(signal.SIG_SETMASK, held)
 
 
@@ -170,7 +172,8 @@ def run_build(words: List[str], spool: Path, tops: List[str], cover: Cover) -> T
         ended, filled = threading.Event(), threading.Event()
         filling = pool.submit(pipe.fill, ended.wait, Standstill(process.pid).see)
         filling.add_done_callback(lambda _: filled.set())
-        sifting, loading = pool.submit(sift, pipe.file, tops, spool / "sifted", filled.wait), pool.submit(import_module, "record.importing")
+        covered = [cover.real] if cover.is_ready else []
+        sifting, loading = pool.submit(sift, pipe.file, tops, spool / "sifted", filled.wait, covered), pool.submit(import_module, "record.importing")
         try:
             signal.pthread_sigmask(signal.SIG_SETMASK, held)
             status, seconds = process.wait(), time.monotonic() - began
@@ -202,6 +205,7 @@ def parser_of_words() -> argparse.ArgumentParser:
     parser.add_argument("--keep-trace", action="store_true", help="keep the trace in the record")
     parser.add_argument("--footprints", action="store_true", help="keep a listing and footprints of each build, for race check --makefile")
     parser.add_argument("--missing", action="store_true", help="report missing inputs too: files whose edit does not make a target again")
+    parser.add_argument("-V", "--version", action="version", version="%(prog)s " + RELEASE, help="print the version")
     parser.add_argument("words", nargs=argparse.REMAINDER, metavar="-- COMMAND ..", help="what builds the project")
     parser.set_defaults(linked=[])  # files of a copy that have names outside of it, in the folder itself
     return parser
@@ -261,15 +265,16 @@ def attempt(options: argparse.Namespace, words: List[str], tools: Dict[str, str]
     for path in options.linked:
         names.share(path)
     kept = Kept.of(names)
-    room = Path(tempfile.mkdtemp(prefix="race-record-", dir=ROOMS))
+    rooms = room_of_programs()
+    room = Path(tempfile.mkdtemp(prefix="race-record-", dir=rooms))
     spool = Path(os.path.realpath(room))
-    cover = Cover(spool, real, ROOMS)
+    cover = Cover(spool, real, rooms)
     try:
         prepare_spool(spool, real, cover.past)
         cover.prepare(names.tops)
         if options.missing:
             (spool / "again").touch()
-        status, seconds = run_build(by_name(words, real), spool, names.tops, cover)
+        status, seconds = run_build(by_name(words, real, is_covered=cover.can_be_laid), spool, names.tops, cover)
         record = Record(options.words, folder, status, round(seconds, 2), dict(tools))
         if status != 0:
             record.holes.append("the build ended with status %d" % status + (": signal %d stopped it" % -status if status < 0 else ""))
@@ -332,13 +337,13 @@ def run(options: argparse.Namespace) -> int:
         return judge_warm(out, race) if out.exists() else stop("there is no record in %s: which command builds the project? (race-record --warm -- make)" % out)
     if shutil.which(options.words[0]) is None:
         return stop(no_command(options.words[0]))
-    other = other_user(options.words)
-    if other is not None:
-        return stop(other)
+    why = unseen(options.words)
+    if why is not None:
+        return stop(why)
     try:
         with alone(out):
             return record_and_judge(options, tools, out, race)
-    except (CannotClean, Missing, Taken) as fault:
+    except (CannotClean, Missing, NoRoom, Taken) as fault:
         return stop(str(fault))
 
 

@@ -16,6 +16,7 @@ from record.tasks import OWN_NAME, file_of, shown
 
 SHOWN_RACES, SHOWN_HOLES = 30, 20
 SHOWN_SIGNS = 80  # of an example
+WORDS = 100  # signs of a call
 LISTS, AGES = "\0lists", "\0ages"  # what several paths have in common
 ONE_WRITER = "let one recipe alone write it; make asks whether it is there before that recipe has run"
 
@@ -117,6 +118,11 @@ def race_text(about: Dict[str, Any], race: Race, fixes: List[str], is_fixed: boo
     return lines
 
 
+def short(words: str) -> str:
+    """The first words of a call: a make may hand on a hundred macros. record.json has them all."""
+    return words if len(words) <= WORDS else words[:WORDS].rpartition(" ")[0] + " .."
+
+
 def plural(count: int, word: str) -> str:
     """`1 race`, `2 races`."""
     return "%d %s%s" % (count, word, "" if count == 1 else "s")
@@ -204,7 +210,7 @@ def report(record: Dict[str, Any], judged: List[Judged], out: Path) -> List[str]
     for one in judged:
         if one.verdict.races:
             if len(judged) > 1:
-                lines.append("%s  in %s" % (("%s %s" % (one.about.get("tool", "make"), one.about["words"])).strip(), one.about["folder"]))
+                lines.append("%s  in %s" % (short(("%s %s" % (one.about.get("tool", "make"), one.about["words"])).strip()), one.about["folder"]))
             text, count, paths = races_text(one, colour)
             lines += text
             races, files = races + count, files + paths

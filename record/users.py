@@ -1,10 +1,29 @@
-"""Commands that start the build as another user, or with another PATH: such a make does not find the recorder, or may not write what it keeps."""
+"""Commands whose makes the recorder would not see: they start the build as another user, or with another PATH, or are a script in the place of make."""
 
 import os
+import shutil
 from typing import List, Optional
+
+from record.tools.shelltext import first_words
 
 SWITCHES = ("su", "runuser", "sudo", "doas", "gosu", "su-exec", "setuidgid", "s6-setuidgid")
 OF_SHELL = ("su", "runuser")  # these hand a text to a shell
+MAKES = ("make", "gmake")
+SCRIPT = ("%s is a script, and the recorder does not see what it runs. Nothing was built. "
+          "Put the folder of the make that it runs in front of its own on PATH, and record again")
+
+
+def unseen(words: List[str]) -> Optional[str]:
+    """What to say of such a command; nothing of others."""
+    return other_user(words) or script_of_make(words)
+
+
+def script_of_make(words: List[str]) -> Optional[str]:
+    """The same of a make that is a script: it may call the make itself by its whole path."""
+    path = shutil.which(words[0]) or ""
+    if os.path.basename(words[0]) not in MAKES or not first_words(path):
+        return None
+    return SCRIPT % path
 
 
 def other_user(words: List[str]) -> Optional[str]:

@@ -8,6 +8,7 @@ import shutil
 import sys
 from pathlib import Path
 
+from record import RELEASE
 from record.entry import printable, reason
 from record.folder import NotWhole, reading
 from record.judge import find_race, no_race
@@ -45,6 +46,7 @@ def parse(words: list[str] | None) -> argparse.Namespace:
     parser.add_argument("-o", "--output", type=Path, metavar="FILE", help="write to FILE instead of standard output")
     parser.add_argument("--baseline", type=Path, metavar="FILE", help="a report in JSON: its races are known, and do not fail")
     parser.add_argument("--race", metavar="PROGRAM", help="the program race (else $RACE, the checkout's, or the one on PATH)")
+    parser.add_argument("-V", "--version", action="version", version=f"%(prog)s {RELEASE}", help="print the version")
     direct = parser.add_argument_group("a makefile without a record", "What `race check` takes; docs/FORMATS.md says what the files hold.")
     direct.add_argument("--makefile", type=Path, metavar="FILE", help="the makefile")
     direct.add_argument("--listing", type=Path, metavar="FILE", help="the files that are there, one a line (find . > FILE)")

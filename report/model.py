@@ -132,7 +132,7 @@ class Report:
     is_fixed: bool = False
     assumptions: list[Assumption] = field(default_factory=list)
     holes: list[str] = field(default_factory=list)
-    hints: list[str] = field(default_factory=list)  # what to try where the build failed
+    hints: list[str] = field(default_factory=list)  # what to try
     builds: int = 0
     recipes: int = 0
     pairs: int = 0

@@ -99,12 +99,13 @@ def words_of(text: str, opening: str, most: int) -> List[str]:
 
 
 class Expansion:
-    """One text that make expands, for one target where its name is known. `reads`: the macros that it asks for."""
+    """One text that make expands, for a recipe whose target has one of some names, where these are known. `reads`: the macros that it asks for."""
 
-    def __init__(self, known: "Macros", target: str) -> None:
+    def __init__(self, known: "Macros", targets: Tuple[str, ...]) -> None:
         self.known = known
+        target = targets[0] if len(targets) == 1 else ""
         is_known = target and target not in known.base.double and PRINTABLE.fullmatch(known.base.stems.get(target, OPEN))
-        self.own = {"@": target or OPEN, "*": known.base.stems[target] if is_known else OPEN}  # what make itself gives macros of a recipe
+        self.own = {"@": frozenset(targets) or UNKNOWN, "*": frozenset((known.base.stems[target],)) if is_known else UNKNOWN}  # what make itself gives macros of a recipe
         self.asks_own = self.has_patterns = False
         self.reads: Set[str] = set()
         self.done: Dict[Tuple[str, FrozenSet[Tuple[str, Values]]], Values] = {}
@@ -163,7 +164,7 @@ class Expansion:
         self.reads.update([name] if "*" not in name else [])  # (that would be any)
         if AUTOMATIC.fullmatch(name):
             self.asks_own = self.asks_own or name in self.own
-            return frozenset((self.own.get(name, OPEN),))
+            return self.own.get(name, UNKNOWN)
         if not (PLAIN_NAME.fullmatch(name) or PARTS.fullmatch(name)) or name == ".VARIABLES":
             raise Unclear
         if self.known.steady.is_odd(name):
@@ -179,10 +180,9 @@ class Expansion:
             self.depth += 1
             if self.depth > DEPTH:
                 raise Unclear
-            for text in self.known.steady.texts(name):
-                self.text(text, scope)
+            found = {text: self.text(text, scope) for text in self.known.steady.texts(name)}
             values = self.known.steady.values(name)
-            self.done[key] = union(self.text(text, scope) for text in values) if values is not None else UNKNOWN
+            self.done[key] = union(found[text] if text in found else self.text(text, scope) for text in values) if values is not None else UNKNOWN
             self.depth -= 1
         return self.done[key]
 
@@ -293,11 +293,11 @@ class Answer(NamedTuple):
     may_be_less: bool
 
 
-def asked(known: "Macros", text: str, target: str = "") -> Answer:
+def asked(known: "Macros", text: str, targets: Tuple[str, ...] = ()) -> Answer:
     """What a text asks for."""
     if known.is_lost or ANY in known.changed:
         return Answer(None, False)
-    one = Expansion(known, target)
+    one = Expansion(known, targets)
     try:
         one.text(text, {})
     except (Unclear, RecursionError):
@@ -310,29 +310,40 @@ class Answers:
 
     def __init__(self, known: "Macros") -> None:
         self.known = known
-        self.found: Dict[Tuple[str, str], Answer] = {}
+        self.found: Dict[Tuple[str, Tuple[str, ...]], Answer] = {}
 
     def sure(self, text: str, target: str = "") -> Optional[FrozenSet[str]]:
         """The macros that a text asks for, if need be for one target; nothing where that cannot be said, and where it may set some."""
         found: Optional[FrozenSet[str]] = None
-        for name in ("", self.surely_named(target)):
-            if (text, name) not in self.found:
-                self.found[text, name] = asked(self.known, with_functions(text), name)
-            answer = self.found[text, name]
+        for names in ((), self.names_of(target)):
+            if (text, names) not in self.found:
+                self.found[text, names] = asked(self.known, with_functions(text), names)
+            answer = self.found[text, names]
             found = answer.reads if answer.reads is not None else found
             if not answer.may_be_less:
                 break
         return found
 
-    def surely_named(self, target: str) -> str:
-        """The name of a target if it surely is `$@` in its recipe: no search path gives it another one, and no other target has the same recipe run."""
-        return target if not self.known.base.search and target not in self.grouped and TARGET.fullmatch(target) else ""
+    def names_of(self, target: str) -> Tuple[str, ...]:
+        """The names of which one surely is `$@` in the recipe of a target: its own, and those of targets that the same recipe makes. No search path gives
+        it another one, as make has run that by this name. None where nobody can say that."""
+        names = tuple(sorted({target, *self.grouped.get(target, ())}))
+        is_own = not self.known.base.search or names == (target,) and target in self.ran
+        return names if is_own and all(map(TARGET.fullmatch, names)) else ()
 
     @cached_property
-    def grouped(self) -> Set[str]:
-        """Targets of which one recipe makes several."""
-        also = self.known.base.also
-        return {*also, *(other for others in also.values() for other in others)}
+    def ran(self) -> Set[str]:
+        """The names by which make has said that it remakes targets: what it found in a search path, it has renamed before that, or not at all."""
+        return {job.target for one in self.known.make.words.rounds for job in one.jobs}
+
+    @cached_property
+    def grouped(self) -> Dict[str, Set[str]]:
+        """By target: all that one recipe makes with it."""
+        found: Dict[str, Set[str]] = {}
+        for group in ({name, *others} for name, others in self.known.base.also.items()):
+            for one in group:
+                found.setdefault(one, set()).update(group)
+        return found
 
     def of(self, text: str, target: str = "") -> AbstractSet[str]:
         """All macros that a text asks for, or may ask for."""

@@ -17,7 +17,8 @@ NAMED = (
 PREREQUISITE = b"Prerequisite '"
 OF_TARGET = (b"' is newer than target '", b"' is older than target '", b"' is order-only for target '", b"' of target '")
 TARGET_ENDS = (b"'.", b"' does not exist.")
-WHOLE = {b"Reading makefiles...", b"Updating makefiles....", b"Updating goal targets....", b"Removing intermediate files...", b"Skipping UTF-8 BOM in makefile buffer"}
+REMOVING = b"Removing intermediate files...\n"
+WHOLE = {b"Reading makefiles...", b"Updating makefiles....", b"Updating goal targets....", REMOVING[:-1], b"Skipping UTF-8 BOM in makefile buffer"}
 READ, SYMBOL = b"Reading makefile '", b"Loading symbol "
 # What GNU make says since 4.4 of its start, and of what it loads.
 SINCE = (b"Using jobserver controller ", b"Using output-sync mutex ", b"Enabled shuffle mode: ", b"Loaded shared object ", b"Unloading shared object ")

@@ -7,6 +7,7 @@ from functools import lru_cache
 from typing import TYPE_CHECKING, Dict, Iterable, Iterator, List, Optional, Set
 
 from record.make.asked import MAGIC
+from record.make.database import Base
 from record.make.globs import BOUND, WORD_EVAL, arguments, composes, with_values
 from record.make.graph import Node
 from record.make.macros import Macros
@@ -21,6 +22,7 @@ if TYPE_CHECKING:
 
 LIBRARIES = "lib%.so lib%.a"
 UNCLEAR = re.compile(r"[$\\~]")  # a macro without a value, a word that goes on behind a blank, somebody's home folder
+OF_PREREQUISITES = re.compile(r"\$(?:[<^+?]|[({][<^+?][)}])")
 LOOP = re.compile(r"\$[({](?:foreach|let)\s+([^,$]+),")
 
 
@@ -131,7 +133,7 @@ def words_asked(known: Macros, node: Node) -> Optional[List[str]]:
     calls = [call for one in texts for call in arguments(one)]
     if ANY in reached or composes("\n".join(texts), "wildcard") or sum(one.count("wildcard") for one in texts) > len(calls) or None in calls or BOUND.search("\n".join(texts)):
         return None
-    own = [with_target(call or "", node.name) for call in calls]
+    own = [with_prerequisites(with_target(call or "", node.name), node.name, base) for call in calls]
     if "@D" in base.bodies or not known.reached("\n".join(own)).isdisjoint({*base.bodies, *(name for one in texts for name in looped(one))}):
         return None  # a macro has another value for some targets, or in a loop
     values = {name: value for name, value in base.values.items() if not name.isdigit()}  # such a name may stand for a word of a call
@@ -179,6 +181,13 @@ def with_target(text: str, target: str) -> str:
     """A text of a target's recipe, with the target and its folder in their places."""
     text = re.sub(r"\$[({]@D[)}]", lambda _: os.path.dirname(target) or ".", text)
     return re.sub(r"\$(?:@|[({]@[)}])", lambda _: target, text)
+
+
+def with_prerequisites(text: str, target: str, base: Base) -> str:
+    """A text of a target's recipe, with the prerequisites in the places of the macros that stand for all or some of them. In a search path they may have
+    other names."""
+    is_known = target in base.prerequisites and target not in base.double and not base.search and ".SECONDEXPANSION" not in base.prerequisites
+    return OF_PREREQUISITES.sub(lambda _: " ".join(base.prerequisites[target]), text) if is_known else text
 
 
 def filled(text: str, target: str, values: Dict[str, str]) -> str:

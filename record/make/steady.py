@@ -21,7 +21,19 @@ UNDEFINES = re.compile(r"(?<![\w-])undefine(?![\w-])")
 HANDED = re.compile(r"\$[({]call[ \t]+[^,()\n]*,([^\n]*\$\$[^\n]*)")  # what a function gets that stands in a text once more
 OF_MAKE = ("MAKEFILE_LIST", ".DEFAULT_GOAL")  # make sets these as it reads a line
 GIVEN = re.compile(r"([\w.-]+)[ \t]*(?:[+?!]|:{1,3})?=")  # a macro that the words of make set
-SETS = r" *(?:(?:override|export|private)[ \t]+)*%s[ \t]*(?:[+?]|::?)?="  # a line that gives a macro its value
+SETS = re.compile(r"[ \t]*(?:[+?]|::?)?=")  # what stands behind a name in a line that gives it its value
+MODIFIER = re.compile(r"(?:override|export|private)[ \t]+")
+
+
+def sets(line: str, name: str) -> bool:
+    """Whether a line of a makefile gives a macro its value. (One pattern for each name would have to be compiled for each.)"""
+    rest = line.lstrip(" ")
+    while not (rest.startswith(name) and SETS.match(rest, len(name))):
+        modifier = MODIFIER.match(rest)
+        if modifier is None:
+            return False
+        rest = rest[modifier.end():]
+    return True
 
 
 class Steady:
@@ -30,6 +42,7 @@ class Steady:
     def __init__(self, known: "Macros") -> None:
         self.known = known
         self.by_name: Dict[str, List[str]] = {}
+        self.at_end: Dict[str, Optional[List[str]]] = {}  # by name: its values while recipes run
 
     def is_odd(self, name: str) -> bool:
         """Whether a macro may hold other texts than its own: a recipe changes it, or its name may go on."""
@@ -64,6 +77,12 @@ class Steady:
     def values(self, name: str) -> Optional[List[str]]:
         """Texts of which one is the value that a macro has while recipes run: that at the end, if a line of a makefile surely gave it, and what other
         lines give. None where nobody can say that."""
+        if name not in self.at_end:
+            self.at_end[name] = self.values_of(name)
+        return self.at_end[name]
+
+    def values_of(self, name: str) -> Optional[List[str]]:
+        """The same, worked out."""
         base = self.known.base
         if name.startswith(".") or name in IMPLIED or name in self.defined or self.is_taken_away:
             return None
@@ -91,13 +110,15 @@ class Steady:
     def is_set_at(self, name: str, file: str, line: int) -> bool:
         """Whether a line of a makefile gives a macro its value, and does no more."""
         lines = self.lines(file)
-        return 0 < line <= len(lines) and re.match(SETS % re.escape(name), lines[line - 1]) is not None
+        return 0 < line <= len(lines) and sets(lines[line - 1], name)
 
     def lines(self, file: str) -> List[str]:
         """Those of a makefile. None where it said one thing and then another."""
-        make = self.known.make
-        is_one = file != "" and len(make.words.copies_of(file)) < 2
-        return self.files.setdefault(file, (make.known_text(file) or "").split("\n") if is_one else [])
+        if file not in self.files:
+            make = self.known.make
+            is_one = file != "" and len(make.words.copies_of(file)) < 2
+            self.files[file] = (make.known_text(file) or "").split("\n") if is_one else []
+        return self.files[file]
 
     @cached_property
     def files(self) -> Dict[str, List[str]]:

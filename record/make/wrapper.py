@@ -19,8 +19,8 @@ except ImportError:
 
 from record.make.copied import Copies, now
 from record.make.given import take_input
-from record.make.limits import Kept, keep, note_cut
-from record.make.lines import TOKENS, VERSION, about_job, is_aside, is_folder, is_included, is_look, is_unloaded, is_word, may_go_on, named, place_of_end, place_of_start, remade, started
+from record.make.limits import Kept, keep, note_cut, note_past
+from record.make.lines import REMOVING, TOKENS, VERSION, about_job, is_aside, is_folder, is_included, is_look, is_unloaded, is_word, may_go_on, named, place_of_end, place_of_start, remade, started
 from record.make.options import WORDS, asked, asks_jobs, forget_coerced, jobs_of_call, plain_args, speak_english, without_words
 from record.make.outputs import file_of, goes_to, is_closed, is_one_file, note_output
 
@@ -40,7 +40,7 @@ class Splitter:
 
     def __init__(self, log: Kept, out: int, says: bool = False) -> None:
         self.log, self.out = log, out
-        self.start = True  # nothing but make's version was written yet
+        self.start = True  # make has said nothing but its version
         self.base = False  # inside of the data base
         self.blank = False  # an empty line that may belong to the data base is held back
         self.tail = False  # the empty line behind the data base is due
@@ -171,6 +171,8 @@ class Splitter:
         """One write of make or of a recipe."""
         if self.unclear:
             self.take_unclear(packet)
+        elif self.next is not None and packet == REMOVING:  # make may stop here, as where it has no rule for that target
+            self.blank, self.unclear = False, [b"\n"] * self.blank + [packet]
         elif not self.base and self.is_of_recipe(packet):
             self.release()
             self.pass_on(packet)
@@ -184,7 +186,8 @@ class Splitter:
                 self.note_said()
 
     def take_unclear(self, packet: bytes) -> None:
-        """The data base is the last that make says: what looked like it was a recipe's where make starts that recipe now."""
+        """The data base, and make's line before it about files that it removes, are the last that make says: what looked like them was a recipe's
+        where make starts that recipe now, or is done with its target."""
         begun = started(packet)
         if begun is not None and begun[1] == self.next:
             held, self.unclear = self.unclear, []
@@ -192,6 +195,10 @@ class Splitter:
             self.begin(begun[0])
             self.log.write(packet)
             self.note_said()
+        elif remade(packet) == self.next and not any(held.startswith(BASE) for held in self.unclear):
+            self.pass_on(b"".join(self.unclear))
+            self.unclear, self.next = [], None
+            self.log.write(packet)
         else:
             self.unclear.append(packet)
 
@@ -219,7 +226,6 @@ class Splitter:
             if self.copies is not None:
                 self.copies.add(packet, self.log)
         else:
-            self.start = False
             self.note_said()
             self.pass_on(packet[2:] if is_folder(packet) else packet)
 
@@ -257,11 +263,6 @@ def note_start(log: str, real: str, name: str, args: "list[str]") -> None:
     if os.path.exists(os.path.dirname(log) + "/again"):
         words = [real, name, os.getcwd(), "%d" % len(args), *args, *("%s=%s" % pair for pair in os.environ.items())]
         keep(log[:-len("make")] + "start", b"\0".join(os.fsencode(word) for word in words))
-
-
-def note_past(spool: str, args: "list[str]") -> None:
-    """A make that prints its own words, and yet runs recipes: nobody can say what they do."""
-    keep("%s/%d.past" % (spool, os.getpid()), os.fsencode("make " + " ".join(args).replace("\n", " ") + "\n"), "ab")
 
 
 def relay(splitter: Splitter, reading: int) -> None:
@@ -364,6 +365,7 @@ def called_as(me: str, spool: str) -> str:
 
 def main(spool: str) -> None:
     """Runs the real make, as the caller asked."""
+    signal.signal(signal.SIGCHLD, signal.SIG_DFL)  # as make does, too: who ignores the end of a child does not learn its status
     USUAL.extend([signal.SIGINT] if signal.signal(signal.SIGINT, signal.SIG_IGN) != signal.SIG_IGN else [])
     forget_coerced(os.environ)
     name, args = called_as(sys.argv[0], spool), sys.argv[1:]

@@ -186,6 +186,7 @@ class Calls(Started):
         life.handle = (call.result, found.path) if "O_PATH" in flags else (-1, "")
         if "O_TRUNC" not in flags and life.traits().is_shell and path != shelltext.script_of(life.argv):
             life.opened.add(found.path)
+        self.note_stand_in(life, found.path)
         if changes or call.name == "creat":
             self.open_to_write(life, found, flags, call.name == "creat")
         else:

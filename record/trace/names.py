@@ -12,6 +12,8 @@ from dataclasses import dataclass, field
 from pathlib import Path
 from typing import Dict, Iterable, Iterator, List, Optional, Sequence, Set, Tuple
 
+from record.trace.spelling import folds, has_two_names
+
 LINK_LIMIT = 40
 SHOWN = 200  # so much of a path that is too long is shown
 MOUNT_ESCAPE = re.compile(r"\\([0-7]{3})")
@@ -105,6 +107,7 @@ class Names:
         self.long: List[str] = []  # folders in which a path is longer than the kernel takes
         self.files: Dict[Tuple[int, int], Inode] = {}  # files with several names, by device and number
         self.shared: Set[str] = set()  # copies of files that have names elsewhere too
+        self.folds = False  # whether the file system takes `a` and `A` for one name
 
     def walk(self, top: str) -> None:
         """Takes in the tree below a real path, as it is now. A folder that is not there yet is empty, and made by the build."""
@@ -115,6 +118,7 @@ class Names:
             self.absent.add(next(path for path in [*above, top] if not os.path.isdir(path)))
             return
         node = self.folder(top)
+        self.folds = self.folds or has_two_names(top)
         todo = [(node, top)]
         self.before[top] = "d"
         while todo:
@@ -128,6 +132,7 @@ class Names:
                 if child.kind == "d":
                     self.note_number(join(path, name), found)
                     todo.append((child, join(path, name)))
+            self.folds = self.folds or folds(path, node.entries)
 
     def entries_of(self, path: str) -> Iterator[Tuple[str, os.stat_result]]:
         """The names in a folder of the disk, and what stands there. What is too long to be asked for is noted; what the user may not see is left out."""

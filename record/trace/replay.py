@@ -89,7 +89,8 @@ class Replay:
             script = shelltext.script_of(life.argv)
             if not self.aged[key] and script:
                 self.scripts.setdefault(self.names.find(life.folder, script, True).path, self.place)
-            traits.ages = self.aged[key]
+            above = life.parent
+            traits.ages = self.aged[key] and (above is None or not shellages.asks_where_it_leads(life.argv, above.argv, above.folder))
         return traits.ages
 
     def rewritten(self) -> List[str]:

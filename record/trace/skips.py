@@ -6,7 +6,7 @@ import os
 import re
 from functools import lru_cache
 from pathlib import Path
-from typing import Callable, Iterable, Iterator, List, Optional, Set, Tuple
+from typing import Callable, Iterable, Iterator, List, Optional, Sequence, Set, Tuple
 
 from record.trace.arguments import read_ahead
 from record.trace.strace import KEPT, unescape
@@ -85,14 +85,14 @@ class Skip:
         return self.looks.sub(lambda found: found.group() if found.group(1) in self.counting else b"", lines)
 
 
-def skipping(tops: List[str]) -> Optional[Skip]:
-    """What need not be read where nobody changes a name of the system's folders; nothing of those in which a top is."""
+def skipping(tops: List[str], counting: Sequence[str] = ()) -> Optional[Skip]:
+    """What need not be read where nobody changes a name of the system's folders; nothing of those in which a top is, and not what is `counting`."""
     safe = [p for p in SYSTEM if not any((t + "/").startswith("/%s/" % p) for t in tops)]
     if not safe:
         return None
     folders_of_system = "/(?:%s)(?=[/\">])" % "|".join(safe)
     looks, changes = (re.compile(text.replace("FOLDERS", folders_of_system).encode()) for text in (LOOKING, CHANGING))
-    return Skip(looks, changes, tops, tuple("/%s/" % name for name in safe))
+    return Skip(looks, changes, [*tops, *counting], tuple("/%s/" % name for name in safe))
 
 
 def unseen_changes(changed: Iterable[str]) -> List[str]:
@@ -117,10 +117,11 @@ def pieces(trace: Path, has_ended: Callable[[float], object]) -> Iterator[bytes]
         yield rest
 
 
-def sift(trace: Path, tops: List[str], to: Path, has_ended: Callable[[float], object] = lambda seconds: True) -> None:
+def sift(trace: Path, tops: List[str], to: Path, has_ended: Callable[[float], object] = lambda seconds: True, counting: Sequence[str] = ()) -> None:
     """Writes what has to be read of a trace, also while that is written, and then reads ahead in it. No file is there where somebody
-    changes a name of the system's folders: then all of the trace has to be read. A small one is read at once when the build has ended."""
-    skip, part = skipping(tops), to.with_suffix(".part")
+    changes a name of the system's folders: then all of the trace has to be read. A small one is read at once when the build has ended.
+    `counting`: files of these folders at which looks are kept."""
+    skip, part = skipping(tops, counting), to.with_suffix(".part")
     if skip is None:
         return
     size = 0

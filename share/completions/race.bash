@@ -115,10 +115,10 @@ _race() {
       --keep) mapfile -t COMPREPLY < <(compgen -d -- "$word"); return ;;
       --race) mapfile -t COMPREPLY < <(compgen -f -- "$word"); return ;;
     esac
-    case $word in -*) mapfile -t COMPREPLY < <(compgen -W "-h --help --runs --schedule --prepare --keep --race" -- "$word"); return ;; esac
+    case $word in -*) mapfile -t COMPREPLY < <(compgen -W "-h --help --runs --schedule --prepare --keep --race -V --version" -- "$word"); return ;; esac
     mapfile -t COMPREPLY < <(compgen -d -- "$word") ;;
   'race-explain')
-    case $word in -*) mapfile -t COMPREPLY < <(compgen -W "-h --help" -- "$word"); return ;; esac
+    case $word in -*) mapfile -t COMPREPLY < <(compgen -W "-h --help -V --version" -- "$word"); return ;; esac
     mapfile -t COMPREPLY < <(compgen -W "$(race-explain 2>/dev/null | sed 's/  .*//')" -- "$word") ;;
   'race-record')
     case $before in
@@ -126,7 +126,7 @@ _race() {
       --race) mapfile -t COMPREPLY < <(compgen -f -- "$word"); return ;;
       --top) mapfile -t COMPREPLY < <(compgen -d -- "$word"); return ;;
     esac
-    case $word in -*) mapfile -t COMPREPLY < <(compgen -W "-h --help -o --output --race --top --warm --fresh --keep-trace --footprints --missing" -- "$word"); return ;; esac
+    case $word in -*) mapfile -t COMPREPLY < <(compgen -W "-h --help -o --output --race --top --warm --fresh --keep-trace --footprints --missing -V --version" -- "$word"); return ;; esac
     mapfile -t COMPREPLY < <(compgen -c -- "$word") ;;
   'race-report')
     case $before in
@@ -135,7 +135,7 @@ _race() {
       --baseline) mapfile -t COMPREPLY < <(compgen -f -- "$word"); return ;;
       --race) mapfile -t COMPREPLY < <(compgen -f -- "$word"); return ;;
     esac
-    case $word in -*) mapfile -t COMPREPLY < <(compgen -W "-h --help --format -o --output --baseline --race" -- "$word"); return ;; esac
+    case $word in -*) mapfile -t COMPREPLY < <(compgen -W "-h --help --format -o --output --baseline --race -V --version" -- "$word"); return ;; esac
     mapfile -t COMPREPLY < <(compgen -d -- "$word") ;;
   esac
 }

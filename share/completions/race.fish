@@ -107,9 +107,11 @@ complete -c race-confirm -l schedule -x -d 'try the schedule N alone'
 complete -c race-confirm -l prepare -x -d 'make the copy ready by this, such as \'make clean\'; without it, what the record says that the build wrote is removed from the copy'
 complete -c race-confirm -l keep -x -a '(__fish_complete_directories)' -d 'keep what the serial and the last parallel build left'
 complete -c race-confirm -l race -r -F -d 'the program race (else $RACE, the checkout\'s, or the one on PATH)'
+complete -c race-confirm -s V -l version -d 'print the version'
 complete -c race-confirm -x -a '(__fish_complete_directories)'
 
 complete -c race-explain -s h -l help -d 'show this help message and exit'
+complete -c race-explain -s V -l version -d 'print the version'
 complete -c race-explain -x -a "(race-explain 2>/dev/null | sed 's/  .*//' | tr ' ' \n)"
 
 complete -c race-record -s h -l help -d 'show this help message and exit'
@@ -121,6 +123,7 @@ complete -c race-record -l fresh -d 'record a clean copy in the place of the fol
 complete -c race-record -l keep-trace -d 'keep the trace in the record'
 complete -c race-record -l footprints -d 'keep a listing and footprints of each build, for race check --makefile'
 complete -c race-record -l missing -d 'report missing inputs too: files whose edit does not make a target again'
+complete -c race-record -s V -l version -d 'print the version'
 complete -c race-record -x -a '(__fish_complete_subcommand)'
 
 complete -c race-report -s h -l help -d 'show this help message and exit'
@@ -128,4 +131,5 @@ complete -c race-report -l format -x -a 'github html json sarif text' -d 'the fo
 complete -c race-report -s o -l output -r -F -d 'write to FILE instead of standard output'
 complete -c race-report -l baseline -r -F -d 'a report in JSON: its races are known, and do not fail'
 complete -c race-report -l race -r -F -d 'the program race (else $RACE, the checkout\'s, or the one on PATH)'
+complete -c race-report -s V -l version -d 'print the version'
 complete -c race-report -x -a '(__fish_complete_directories)'

@@ -42,6 +42,7 @@ JOBS = 16  # enough for all recipes at once
 OWN = (".ninja_log", ".ninja_deps", ".ninja_lock")
 USUAL = Place(outputs="joined")
 AHEAD = re.compile(rb"[0-9.e+]+ s in the future")  # what passes meanwhile
+KNOWN = ("asks for several jobs", "prints the recorder's words")
 VERDICT = re.compile(rb"(\x1b\[[0-9;]*m)?(WARM|SAFE|RACE|NO VERDICT|make )")
 Tree = Dict[str, str]
 
@@ -233,7 +234,7 @@ def judge(project: Project, room: Path, runs: int, recorder: Path = RECORDER, sh
     result = Result(project.seed, "", VERDICTS[recorded.status], assumed=assumptions(recorded.output))
     holds = list(schedules(builder.folder / ".race")) if result.verdict == "race" else []
     changed = differences(serial[0], Outcome(serial[0].status, recorded.tree)) or plain and said_otherwise(plain, recorded)
-    if changed and "asks for several jobs" not in recorded.output and not is_spoken(result):  # then no serial build was recorded
+    if changed and not is_known(project, recorded.output) and not is_spoken(result):
         result.kind, result.about = "changed", changed
     elif serial[0].status:
         result.kind, result.about = "serial fails", serial[0].output[-300:]
@@ -243,6 +244,11 @@ def judge(project: Project, room: Path, runs: int, recorder: Path = RECORDER, sh
         shuffled = shuffles and result.verdict != "safe"
         shake(builder, serial[0], result, chain((builder.parallel(shuffled) for _ in range(runs)), builder.directed(holds)))
     return result
+
+
+def is_known(project: Project, output: str) -> bool:
+    """Whether no serial build was recorded, or a make ran past the recorder, and it says so."""
+    return any(one in output for one in KNOWN) or "nowhere to print them" in output and "-j" in project.head
 
 
 def is_spoken(result: Result) -> bool:

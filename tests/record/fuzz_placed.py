@@ -11,7 +11,7 @@ from fuzz_gadgets import GadgetDraw
 from fuzz_places import ENDLESS, FOLDERS, Place, can_switch, draw_place
 from fuzz_projects import Block, Project
 
-PLACED = 0.25
+PLACED = [0.25]  # the part of the seeds that have a place
 # What a recipe may ask of its place.
 ASKS = (
     'echo "$$V" > $@', "echo '$(CFLAGS)' > $@", "umask > $@", "ulimit -n > $@", "nice > $@", "pwd > $@; pwd -P >> $@", "echo '$(CURDIR)' > $@", "id -u > $@", 'echo "$$HOME" > $@', "cd p && pwd > ../$@",
@@ -20,6 +20,9 @@ ASKS = (
     'echo "$${LC_ALL-none} $${LANG-none}" > $@', "env | grep '^LC_CTYPE' > $@ || true", "printf '\\303\\274' | wc -m > $@", "echo '$(MAKELEVEL) $(MAKECMDGOALS)' > $@", "$(MAKE) -s -f /dev/null none 2> $@.e; test -s $@.e && echo said > $@; rm $@.e", "$(MAKE) -C p -f sub.mk > $@",
     "echo said; echo error >&2; touch $@", "$(info said)touch $@", "$(warning said)touch $@", "false || echo '$(V)' > $@", "echo '$(call V)' > $@", "sh -c 'cd p' > $@", "readlink /proc/self/fd/3 > $@ || echo none > $@",
     "(echo a > /dev/stderr) 2> /dev/null; touch $@", "echo a > /dev/tty 2> /dev/null; touch $@", "ls /proc/self/fd > $@", "grep SigIgn /proc/self/status > $@", "echo $$PPID > /dev/null; touch $@", "tool > $@ 2> /dev/null || echo none > $@", "make -s -C p -f sub.mk > $@",
+    "env | grep -v -e '^MAKEFLAGS=' -e '^MFLAGS=' -e '^PATH=' -e '^MAKE_TERM' > $@", "date +%Z > $@", "ulimit -a > $@", "cat /proc/self/limits > $@", "(set -- `cat /proc/self/stat`; test $$7 = 0 && echo none; true) > $@",
+    "grep SigBlk /proc/self/status > $@", "umask -S > $@", "sh -c 'ulimit -f 1; head -c 3000 /dev/zero > T.big; rm -f T.big' 2> /dev/null; touch $@", "(sleep 0.05; echo late >&2) & touch $@; wait", "kill -INT $$$$; touch $@", "-kill -TERM $$$$; touch $@", "-exit 3", "kill -PIPE $$$$; touch $@",
+    "echo $$_ > $@", "yes | head -1 > $@", "(exec 3>&- 4>&- 9>&-; $(MAKE) -C p -f sub.mk) > $@", "$(MAKE) -C p -f sub.mk >&2; touch $@", "$(MAKE) -C p -f sub.mk 2>&1 | cat > $@", "env -i $(MAKE) -C p -f sub.mk > $@ || touch $@", "cc -E -x c /dev/null > $@ || touch $@", "$(shell echo said >&2)touch $@", "printf said; printf more >&2; touch $@",
 )
 READS = ("cat > $@", "read line; echo \"$$line\" > $@", "head -c 3 > $@; cat >> $@", "$(MAKE) -s -C p -f cat.mk > $@", "cat /dev/stdin > $@ 2> /dev/null || echo none > $@", "wc -c < /proc/self/fd/0 > $@ 2> /dev/null || echo none > $@")
 # Names of targets: as make reads them, and as a shell does.
@@ -62,7 +65,7 @@ class PlacedDraw(GadgetDraw):
 
     def is_placed(self) -> bool:
         """Whether this seed has a place; the shapes of the others stay what they were."""
-        return self.seed * 2654435761 % 1000 < 1000 * PLACED
+        return self.seed * 2654435761 % 1000 < 1000 * PLACED[0]
 
     # ---------------------------------------------------------------- shapes
     def asks(self, name: str) -> Block:

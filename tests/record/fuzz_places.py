@@ -14,6 +14,7 @@ import subprocess
 import termios
 import threading
 import time
+import tty
 from contextlib import ExitStack, suppress
 from dataclasses import dataclass, field
 from pathlib import Path
@@ -21,7 +22,12 @@ from typing import IO, Dict, List, Mapping, Optional, Tuple, Union
 
 INPUTS = ("nothing", "file", "text", "open", "socket", "closed", "terminal")
 ENDLESS = ("open", "terminal")  # who reads there waits
-OUTPUTS = ("apart", "apart", "joined", "files", "no errors", "no output")
+OUTPUTS = ("apart", "apart", "joined", "files", "no errors", "no output", "terminal")
+LIMITS = ("-s 256", "-s unlimited", "-f 200000", "-v 8000000", "-c 0", "-c unlimited", "-t 600", "-p 600", "-l 64", "-d 4000000", "-r 0")
+# How the command is called: words before it, and what a caller such as cron sets.
+CALLS = ("sh -c '\"$@\"' sh", "env", "timeout 100", "bash -c '\"$@\"; exit $?' bash", "sh -c '\"$@\" | cat' sh", "sh -c '\"$@\" & wait $!' sh", "xargs -a /dev/null", "nohup", "stdbuf -oL", "setsid -w", "unshare -m")
+OURS = ("N", "J", "RACE", "ASAN_OPTIONS")  # of the fuzzer
+CRON = {"PATH": "/usr/bin:/bin", "SHELL": "/bin/sh", "LOGNAME": "x"}
 USER = 1000
 TEXT = b"one\ntwo\n"
 FLAGS = (
@@ -34,7 +40,7 @@ VALUES = ("env", "", " ", "a\nb", "\udcff\udcfe", "a\n\n# Finished Make data bas
 VARIABLES: Dict[str, Tuple[Optional[str], ...]] = {
     "MAKEFLAGS": FLAGS, "GNUMAKEFLAGS": FLAGS, "MFLAGS": ("-k", "-j3"), "MAKEFILES": ("extra.mk", "none.mk p/extra.mk", "p"), "MAKE_RESTARTS": ("1",), "MAKE_TERMOUT": ("/dev/pts/9",),
     "MAKELEVEL": ("0", "3", "x"), "CDPATH": ("p", ".:p", "/"), "SHELL": ("/bin/bash", "/none"), "MAKESHELL": ("/none",), "LC_ALL": ("C", "POSIX", "C.UTF-8", "de_DE.UTF-8", "xx"),
-    "LANG": (None, "fr_FR.UTF-8", "C"), "LANGUAGE": ("de",), "LC_CTYPE": ("C.UTF-8", "C", "xx"), "LC_MESSAGES": ("de_DE.UTF-8",), "TMPDIR": (None, "", "tmp", "p", "/none"), "HOME": (None, "", "p"), "PATH": (".:@", "@:", ":@", "@:p", "p:@", "@:@"),
+    "LANG": (None, "fr_FR.UTF-8", "C"), "LANGUAGE": ("de",), "LC_CTYPE": ("C.UTF-8", "C", "xx"), "LC_MESSAGES": ("de_DE.UTF-8",), "TMPDIR": (None, "", "tmp", "p", "/none", ".", "/dev/null", "/proc", "a b"), "HOME": (None, "", "p"), "PATH": (".:@", "@:", ":@", "@:p", "p:@", "@:@", ":/none" * 3000 + ":@", "./p/..:@:", "@:/none/make"), "TZ": ("", "Asia/Tokyo", ":x"),
     "CFLAGS": VALUES, "V": VALUES, "BASH_FUNC_f%%": ("() { echo f; }", "() { echo f\n echo g; }"), "odd.name": VALUES, "a b": ("c",), "VPATH": ("p", "v:p"), "MAKE": ("gmake", "none"), "MAKECMDGOALS": ("t1",),
     "MAKEOVERRIDES": ("V=over",), "CURDIR": ("/",), "PWD": ("/none", "p", None), "POSIXLY_CORRECT": ("1",), "LD_LIBRARY_PATH": ("p",), "BASH_ENV": ("p/extra.mk",), "ENV": ("p/extra.mk",), "IFS": ("x",), "TERM": (None, "dumb"),
     "PYTHONPATH": (".", "p"), "PYTHONIOENCODING": ("ascii", "utf-16"), "PYTHONUTF8": ("0",), "PYTHONWARNINGS": ("error", "always"), "PYTHONUNBUFFERED": ("1",), "COLUMNS": ("9",), "SUFFIXES": (".x",), "NO_COLOR": ("1",),
@@ -58,9 +64,13 @@ class Place:
     user: int = 0  # who builds; 0: who runs the fuzzer
     ignored: List[str] = field(default_factory=list)  # signals that are ignored when it begins
     above: bool = False  # nobody may write to `s`, a folder of sources
+    limits: List[str] = field(default_factory=list)  # words of ulimit
+    call: str = ""  # who calls the build
+    bare: bool = False  # the environment is what cron sets, and what is drawn
 
     def environment(self, usual: Mapping[str, str]) -> Dict[str, str]:
         """The usual environment with what is drawn."""
+        usual = {**CRON, **{name: text for name, text in usual.items() if name in OURS}} if self.bare else usual
         found = {name: text for name, text in usual.items() if self.env.get(name, "") is not None}
         found.update({name: text.replace("@", usual.get(name, "")) if name == "PATH" else text for name, text in self.env.items() if text is not None})
         return found
@@ -71,15 +81,18 @@ class Place:
 
     def script(self, log: str) -> str:
         """What a shell does before it becomes the build."""
-        steps = ["umask %03o" % (self.mask or 0)] * (self.mask is not None) + ["ulimit -n %d" % self.files] * bool(self.files)
-        steps += ["trap '' %s" % " ".join(self.ignored)] * bool(self.ignored)
-        words = ["nice", "-n", str(self.nice)] * bool(self.nice) + ["setpriv", "--reuid=%d" % self.user, "--regid=%d" % self.user, "--clear-groups"] * bool(self.user)
+        steps = ["umask %03o" % (self.mask or 0)] * (self.mask is not None) + ["ulimit -n %d" % self.files] * bool(self.files) + ["ulimit " + one for one in self.limits]
+        trapped = [one for one in self.ignored if one != "CHLD"]
+        steps += ["trap '' %s" % " ".join(trapped)] * bool(trapped)
+        words = ["env", "--ignore-signal=CHLD"] * ("CHLD" in self.ignored)  # a shell hears it
+        words += ["nice", "-n", str(self.nice)] * bool(self.nice) + ["setpriv", "--reuid=%d" % self.user, "--regid=%d" % self.user, "--clear-groups"] * bool(self.user)
         ends = ["%d>>%s" % (number, shlex.quote(log)) for number in self.open]
         ends += ["<&-"] * (self.stdin == "closed") + ["2>&-"] * (self.outputs == "no errors")
         return "; ".join([*steps, " ".join(["exec", *words, '"$@"', *ends])])
 
     def command(self, words: List[str]) -> List[str]:
         """The command that is built, and recorded: one whose output is closed needs a shell, as the recorder prints its answer there."""
+        words = [*shlex.split(self.call), *words]
         return ["sh", "-c", 'exec "$@" >&-', "sh", *words] if self.outputs == "no output" else words
 
     def own(self, room: Path, folder: Path) -> None:
@@ -108,21 +121,31 @@ class Ran:
         self.place, self.stack, self.texts = place, ExitStack(), {1: b"", 2: b""}
         self.readers: List[threading.Thread] = []
         self.files: Dict[int, Path] = {}
+        self.lent: List[int] = []  # descriptors that the build alone keeps
         script = place.script(str(room / "log"))
         enters = place.stdin == "terminal"
         self.process = subprocess.Popen(
             ["sh", "-c", script, "sh", *words], cwd=place.path(room), env=place.environment(env), stdin=self.input(room), stdout=self.output(room, 1), start_new_session=True,
-            stderr=subprocess.STDOUT if place.outputs == "joined" else self.output(room, 2), preexec_fn=take_terminal if enters else None)
+            stderr=subprocess.STDOUT if place.outputs in ("joined", "terminal") else self.output(room, 2), preexec_fn=take_terminal if enters else None)
         self.pid = self.process.pid
+        for number in self.lent:
+            os.close(number)
         for number, stream in ((1, self.process.stdout), (2, self.process.stderr)):
             if stream is not None:
-                self.readers.append(threading.Thread(target=self.read, args=(number, stream)))
-                self.readers[-1].start()
+                self.start(number, stream)
+
+    def start(self, number: int, stream: IO[bytes]) -> None:
+        """Reads a stream from now on."""
+        self.readers.append(threading.Thread(target=self.read, args=(number, stream)))
+        self.readers[-1].start()
 
     def read(self, number: int, stream: IO[bytes]) -> None:
-        """All that is written to a stream."""
-        with stream:
-            self.texts[number] = stream.read()
+        """All that is written to a stream; a terminal that nobody has open any more fails."""
+        with stream, suppress(OSError):
+            data = os.read(stream.fileno(), 65536)
+            while data:
+                self.texts[number] += data
+                data = os.read(stream.fileno(), 65536)
 
     def input(self, room: Path) -> int:
         """What stands on standard input."""
@@ -157,6 +180,12 @@ class Ran:
 
     def output(self, room: Path, number: int) -> Union[int, IO[bytes]]:
         """Where an output goes."""
+        if self.place.outputs == "terminal":
+            above, below = os.openpty()
+            tty.setraw(below)
+            self.lent.append(below)
+            self.start(number, open(above, "rb", buffering=0))
+            return below
         if self.place.outputs != "files":
             return subprocess.PIPE
         self.files[number] = room / ("output%d" % number)
@@ -219,6 +248,7 @@ def draw_place(seed: int, is_later: bool, switches: bool) -> Place:
     place.stdin = chance.choice(INPUTS) if seldom(0.6) else "nothing"
     place.stdin = "open" if place.stdin == "terminal" and not has_terminals() else place.stdin
     place.outputs = chance.choice(OUTPUTS) if seldom(0.5) else "apart"
+    place.outputs = "joined" if place.outputs == "terminal" and not has_terminals() else place.outputs
     place.open = chance.choice(([3], [9], [3, 9], [3, 4, 5])) if seldom(0.3) else []
     for name in chance.sample(sorted(VARIABLES), chance.choice((0, 1, 1, 2, 3, 4))):
         later = LATER_FLAGS if is_later and name.endswith("MAKEFLAGS") else ()
@@ -228,6 +258,9 @@ def draw_place(seed: int, is_later: bool, switches: bool) -> Place:
     place.mask = chance.choice((0o77, 0o02, 0o27, 0)) if seldom(0.3) else None
     place.nice, place.files = (3 if seldom(0.1) else 0), (64 if seldom(0.15) else 0)
     place.user = USER if switches and seldom(0.2) else 0
-    place.ignored = chance.choice((["INT"], ["INT", "QUIT"], ["HUP"], ["TERM", "USR1"])) if seldom(0.2) else []
+    place.ignored = chance.choice((["INT"], ["INT", "QUIT"], ["HUP"], ["TERM", "USR1"], ["CHLD"])) if seldom(0.2) else []
     place.above = seldom(0.2)
+    place.limits = chance.sample(LIMITS, chance.choice((1, 2))) if seldom(0.2) else []
+    place.call = chance.choice(CALLS if not place.user else CALLS[:-1]) if seldom(0.3) else ""
+    place.bare = seldom(0.15)
     return place

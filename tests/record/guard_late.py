@@ -35,6 +35,7 @@ LATE_GUARDS: List[Guard] = [
     Guard("makes inside: a line that says something and is a rule", "make/globs.py", ' and text[call.end() + len(words) + 1:].strip()[:1] in ("", "#")', "", late("line_that_says_something_before_a_rule"), YES),
     Guard("makes inside: a rule with a semicolon", "make/globs.py", "if any(text.count(one) > text.count(other) for", "if any(False for", late("rule_with_a_semicolon"), YES),
     Guard("wildcard: a macro in a loop", "make/memory.py", "*(name for one in texts for name in looped(one))", "", late("wildcard_of_a_macro_in_a_loop"), YES),
+    Guard("wildcard: names of prerequisites", "make/memory.py", "with_prerequisites(with_target(call or \"\", node.name), node.name, base)", "with_target(call or \"\", node.name)", late("wildcard_of_its_prerequisites"), FALSE_RACE),
     Guard("wildcard: names without a pattern", "make/memory.py", "(word for word in words if MAGIC.search(word) or not is_asked(known.make, names, word))", "words", late("wildcard_of_its_own_target"), FALSE_RACE),
     Guard("wildcard: names beside a pattern", "make/memory.py", "MAGIC.search(word) or not is_asked(known.make, names, word)", "False", late("wildcard_of_a_name_and_a_pattern"), YES),
     Guard("wildcard: names that the disk is not asked for", "make/memory.py", "act.kind in ASKS and not act.word}", "act.kind in ASKS}", "test_late.Texts.test_names_that_a_make_asks_for"),

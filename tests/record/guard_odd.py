@@ -6,6 +6,7 @@ from guard_table import LOST_HOLE, Guard
 from support import named
 
 ENDS = "test_ends.Moves.test_"
+SPELLINGS = "test_odd.Spellings.test_"
 
 
 def odd(way: str, name: str) -> str:
@@ -36,6 +37,16 @@ ODD_GUARDS: List[Guard] = [
           "test_odd.Lines.test_words_of_the_data_base"),
     Guard("names: marks behind descriptors", "trace/strace.py", "TEXT = re.compile(r'(?<!\\\\)\"", "TEXT = re.compile(r'\"", "test_odd.Lines.test_marks_in_the_name_of_a_descriptor"),
     Guard("names: a folder that is not UTF-8", "judge.py", '"--tasks", tasks.name,', '"--tasks", str(tasks.absolute()),', "test_odd.Names.test_folder_that_is_not_utf_8"),
+    Guard("spellings: said", "importing.py", " + twice(names, replay.all, owners.makes)", "", SPELLINGS + "file_that_a_recipe_makes", LOST_HOLE),
+    Guard("spellings: of what was there", "trace/spelling.py", "    for path in names.before:\n", "    for path in ():\n", SPELLINGS + "file_that_was_there", LOST_HOLE),
+    Guard("spellings: targets", "trace/spelling.py", "    for path in made(makes, names):\n", "    for path in ():\n", SPELLINGS + "target_that_was_there", LOST_HOLE),
+    Guard("spellings: folders on the way", "trace/spelling.py", "return unicodedata.normalize(\"NFC\", path).casefold()", "return os.path.join(os.path.dirname(path), os.path.basename(path).casefold())",
+          SPELLINGS + "folder_on_the_way"),
+    Guard("spellings: what changes alone", "trace/spelling.py", " if kind in TREE_CHANGES else set()", "", SPELLINGS + "what_does_not_change", "0 != 2"),
+    Guard("spellings: both names are there", "trace/spelling.py", " and other_case(name) not in held and", " and", SPELLINGS + "file_systems"),
+    Guard("spellings: a link of the folder's name", "trace/spelling.py", " and not os.path.islink(other)", "", SPELLINGS + "file_systems"),
+    Guard("spellings: the folder's own", "trace/names.py", "self.folds or has_two_names(top)", "self.folds", SPELLINGS + "each_folder_is_asked"),
+    Guard("spellings: of its files", "trace/names.py", "self.folds or folds(path, node.entries)", "self.folds", SPELLINGS + "each_folder_is_asked"),
     Guard("an older record: where nothing can be removed", "folder.py", "            here.rename(gone)  #", "            pass  #", ENDS + "to_another_device"),
     Guard("an older record: where it is", "folder.py", "    try:\n        move(older, folder)\n    except OSError as fault:", "    try:\n        move(older, folder)\n    except ValueError as fault:",
           ENDS + "a_record_that_cannot_come_back"),

@@ -15,7 +15,7 @@ NEXT = "all: y\ny: %s ; echo ran >> log; touch y\n"
 OUTER = "all:\n\t$(MAKE) -f 1.mk\n\t%s\n.PHONY: all\n"
 TWO = "all: r2\nr2: r1 ; %s && touch r2\nr1: ; $(MAKE) -f 1.mk && touch r1\n"
 NINJA = "rule g\n  command = echo ran >> log; touch $out\n  generator = 1\nbuild y: g x\n"
-SAYS = "/x is newer"
+SAYS = "which of y and x is newer"
 ASSUMED = "interpreters, programs that nobody knows"
 PYTHON = {"look.py": "import os\nprint(os.path.exists('x'), os.path.exists('y'))\n"}
 
@@ -30,7 +30,7 @@ AFTERWARDS: Dict[str, Small] = {
     "make_of_a_script": Small("race", FIRST, {"2.mk": NEXT % "x"}, says=SAYS),
     "make_that_came_first": Small("safe", FIRST, {"1.mk": "all: w\nw: ; touch w\n"}),
     "makefile_that_is_remade": Small("race", "all: y\ninclude inc\ninc: | x y ; echo 'y: x' > inc\nx: ; touch x\ny: ; sleep 1; touch y\n", says=SAYS),
-    "age_of_a_folder": Small("race", TWO % "$(MAKE) -f 2.mk", {"1.mk": "all: x y\nx: ; touch d/x\ny: ; sleep 1; touch y\n", "2.mk": NEXT % "d", "d/k": ""}, says="/d is newer"),
+    "age_of_a_folder": Small("race", TWO % "$(MAKE) -f 2.mk", {"1.mk": "all: x y\nx: ; touch d/x\ny: ; sleep 1; touch y\n", "2.mk": NEXT % "d", "d/k": ""}, says="which of y and d is newer"),
     # programs
     "test_in_the_same_recipe": Small("race", OUTER % "if test y -nt x; then touch log; fi", {"1.mk": FIRST}, says=" is newer"),
     "test_in_the_same_recipe_ordered": Small("safe", OUTER % "if test y -nt x; then touch log; fi", {"1.mk": ROW}),

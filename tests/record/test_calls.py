@@ -111,6 +111,7 @@ def form(key: str, name: str) -> str:
 ROW = "all: s a b%s\ns: ; touch s\nc: s ; %s\na: %s ; %s\nb: %s ; %s\n"
 DO = "cmd_touch = touch $@\ncmd_set = $(eval X := set)touch $@\ndo = $(cmd_$(1))\n"
 SHOW = "echo '$(X)' > b"
+SEARCHED = "cmd_g = touch $@\ncmd_d/g = $(eval X := set)touch d/g\nall: s g b\ns: ; touch s\ng: s ; $(cmd_$@)\nb: s ; %s\n" % SHOW
 BACK = "d: b ; $(eval V := Y)touch d\n"
 KBUILD = """PHONY := all
 quiet = quiet_
@@ -172,8 +173,12 @@ CALLS: Dict[str, Small] = {
     "macro_that_was_worked_out_at_once": Small("safe", "set = $(eval $(1) = $(2))\n$(call set,X,1)\noverride V := $($(shell echo Y))\n" + PAIR % ("echo '$(V)' > a", "echo '$(V)' > b")),
     # names of targets
     "name_of_another_target_of_the_recipe": Small("race", "cmd_a = touch a c\ncmd_c = $(eval X := set)touch a c\nall: s a c b\ns: ; touch s\na c &: s ; $(cmd_$@)\nb: s ; %s\n" % SHOW),
-    "name_of_a_target_in_a_search_path": Small("race", "VPATH = d\nGPATH = d\ncmd_g = touch g\ncmd_d/g = $(eval X := set)touch d/g\nall: s g b\ns: ; touch s\ng: s ; $(cmd_$@)\nb: s ; %s\n" % SHOW,
+    "name_of_targets_of_one_recipe": Small("safe", "cmd_a = touch a c\ncmd_c = touch a c\ncmd_x = $(eval X := set)touch x\nall: s a c b\ns: ; touch s\na c &: s ; $(cmd_$@)\nb: s ; %s\n" % SHOW),
+    "name_of_targets_of_one_pattern": Small("safe", DO + "why = $(cmd_$@)\nwrap = $(why)touch $@\nall: s p/a b\ns: ; touch s\np/%% q/%%: s ; $(wrap)\nb: s ; %s\n" % SHOW, {"p/k": "", "q/k": ""}),
+    "name_of_a_target_in_a_search_path": Small("race", "VPATH = d\nGPATH = d\n" + SEARCHED,
                                                {"d/g": ""}, "touch -d 2001-01-01 d/g"),
+    "name_of_a_target_that_is_not_taken_from_a_search_path": Small("safe", "VPATH = d\n" + SEARCHED, {"d/g": ""}, "touch -d 2001-01-01 d/g"),
+    "name_of_a_target_that_is_in_no_search_path": Small("safe", "VPATH = .\n" + SEARCHED),
     "stem_of_a_target": Small("race", "cmd_x = $(eval X := set)touch $@\nall: s x.a b\ns: ; touch s\nx.a: %%.a: s ; $(cmd_$*)\nb: s ; %s\n" % SHOW),
     "stem_of_two_rules": Small("race", "cmd_x = $(eval X := set)touch $@\nall: s x.a b\ns: ; touch s\nx.a:: %%.a: s ; $(cmd_$*)\nx.a:: x.%%: s ; $(cmd_$*)\nb: s ; %s\n" % SHOW),
     # what each recipe is handed
@@ -262,6 +267,12 @@ class Values(unittest.TestCase):
     def test_who_gave_a_value(self) -> None:
         base = read_base(["# makefile (from 'M', line 1)", "V := 1", "# 'override' directive (from 'N', line 2)", "W = 2", "# makefile private (from 'M', line 3)", "define L", "x", "endef", "%.o :", "# makefile (from 'M', line 9)", "# V := 3"])
         self.assertEqual({"V": ("makefile", "M", 1), "W": ("'override' directive", "N", 2), "L": ("makefile", "M", 3)}, base.origins)
+
+    def test_names_of_targets_of_one_recipe(self) -> None:
+        for also, wanted in (({"a": ["b", "c"]}, ("a", "b", "c")), ({"b": ["a"], "c": ["a"]}, ("a", "b", "c")), ({"b": ["a", "x y"]}, ()), ({"b": ["c"]}, ("a",))):
+            answers = self.steady("", []).known.answers
+            answers.known.base.also.update(also)
+            self.assertEqual(wanted, answers.names_of("a"), also)
 
     def test_stems(self) -> None:
         self.assertEqual({"a.o": "a"}, read_base(["# Files", "a.o: a.c", "#  Implicit/static pattern stem: 'a'", ""]).stems)

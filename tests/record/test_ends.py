@@ -28,7 +28,7 @@ SAFE = {"Makefile": "all: ; @touch all\n"}
 def alone() -> None:
     """A session of its own, in which signals do what they usually do."""
     os.setsid()
-    for number in (signal.SIGINT, signal.SIGTERM, signal.SIGHUP):
+    for number in (signal.SIGINT, signal.SIGTERM, signal.SIGHUP, signal.SIGQUIT):
         signal.signal(number, signal.SIG_DFL)
 
 
@@ -61,7 +61,8 @@ class Signals(unittest.TestCase):
             self.assertFalse((project.folder / ".race").exists())  # the build does not see it
             os.killpg(process.pid, number) if to_all else process.send_signal(number)
             _, said = process.communicate(timeout=60)
-            self.assertEqual((3, "race-record: stopped by %s; there is no verdict" % signal.Signals(number).name), (process.returncode, said.decode().splitlines()[-1]))
+            self.assertEqual(3, process.returncode, said)
+            self.assertEqual("race-record: stopped by %s; there is no verdict" % signal.Signals(number).name, said.decode().splitlines()[-1])
             self.assertEqual("older\n", (project.folder / ".race" / "record.json").read_text())
             self.assertFalse([pid for pid in (project.folder / "pids").read_text().split() if is_alive(pid)])
             self.assertFalse(os.path.exists((project.folder / "path").read_text().split(":")[0]))
@@ -71,6 +72,10 @@ class Signals(unittest.TestCase):
 
     def test_hung_up(self) -> None:
         self.stopped(signal.SIGHUP)
+
+    def test_quit(self) -> None:
+        self.stopped(signal.SIGQUIT, True)
+        self.stopped(signal.SIGQUIT)
 
     def test_interrupted_at_a_terminal(self) -> None:
         self.stopped(signal.SIGINT, True)

@@ -85,6 +85,10 @@ class Failed(unittest.TestCase):
         self.assertEqual([END + "; no rule makes nothing (make -f my.mk)"], self.failed("", {"my.mk": "all: a nothing\na: ; touch a\n"}, ("make", "-f", "my.mk"))[0])
         self.assertEqual([END + "; make failed first"], self.failed("$(error no)\n")[0])
 
+    def test_make_that_was_killed(self) -> None:
+        """Its data base does not say which targets have a recipe."""
+        self.assertEqual(["the build ended with status -9: signal 9 stopped it; make failed first"], self.failed("all: a\na: ; @kill -9 $$PPID; sleep 0.1\n")[0][:1])
+
     def test_no_make(self) -> None:
         self.assertEqual(["the build ended with status 3", "no make and no ninja ran"], self.failed("", words=("sh", "-c", "exit 3"))[0])
 

@@ -30,6 +30,7 @@ TAKES = "a: ; echo '$^$(V)' > a\n"
 LATER = "D = d1\nall: a c b.q\na: ; touch d2/n.x a\nc: ; touch c\n%s\n"
 # c lists d first; d/a looks for names there, and d/b, which nothing orders with d/a, makes one.
 FIRST = "all: c d/a d/b\ns: ; touch s\nc: s ; echo $(wildcard d/*.q) > c\nd/a: s ; %s > $@\nd/b: c ; touch d/z.q $@\n"
+WITH_K = FIRST.replace("d/a: s", "d/a: s d/k")
 FOLDERS = "mkdir d1 d2 'd 2'"
 SEES = "who lists the processes that run"
 READ = "who asks when a file was read last"
@@ -68,6 +69,10 @@ LATE: Dict[str, Small] = {
     "wildcard_at_home": Small("race", "HOME := $(CURDIR)/d2\n" + LATER % "b.q: c ; echo $(wildcard ~/*.x) > b.q", setup=FOLDERS),
     "wildcard_with_a_blank": Small("race", LATER.replace("d2/n.x", "'d 2/n.x'") % "b.q: c ; echo $(wildcard d\\ 2/*.x) > b.q", setup=FOLDERS),
     "wildcard_of_its_own_target": Small("safe", FIRST % "$(if $(wildcard $@),echo yes,echo no)", {"d/k": ""}),
+    "wildcard_of_its_prerequisites": Small("safe", WITH_K % "$(if $(filter-out $(wildcard $^),$^),echo yes,echo no)", {"d/k": ""}),
+    "wildcard_of_newer_prerequisites": Small("safe", WITH_K % "echo $(wildcard $? $(<))", {"d/k": ""}),
+    "wildcard_of_folders_of_its_prerequisites": Small("race", WITH_K % "echo $(wildcard $(^D:%%=%%/*.q))", {"d/k": ""}),
+    "wildcard_of_its_prerequisites_and_a_pattern": Small("race", WITH_K % "echo $(wildcard $^ d/*.q)", {"d/k": ""}),
     "wildcard_of_a_name": Small("safe", "N = d/k\n" + FIRST % "echo $(wildcard $(N))", {"d/k": ""}),
     "wildcard_of_a_name_that_another_makes": Small("race", FIRST % "echo $(wildcard d/z.q)", {"d/k": ""}),
     "wildcard_of_a_name_and_a_pattern": Small("race", FIRST % "echo $(wildcard d/k d/*.q)", {"d/k": ""}),

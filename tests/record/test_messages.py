@@ -76,6 +76,14 @@ class NoVerdict(unittest.TestCase):
         self.assertIn("  advice: name g in a rule, and a library not as -lNAME; where a recipe asks for it by $(wildcard ..), let the shell list it (ls): "
                       "make looks for it when it first considers the target, and keeps what it found", lines)
 
+    def test_calls_with_many_words(self) -> None:
+        """Each build is named by its call, which may hand on many macros."""
+        about = {**ABOUT, "labels": {"a": {"target": "a"}, "b": {"target": "b"}}, "meanings": {}, "folder": "/p"}
+        races = [Race("f", "a", "writes", "b", "reads")]
+        judged = [Judged("00%d" % number, {**about, "words": words}, Verdict(1, races, 1)) for number, words in ((1, "-f x.mk"), (2, "A=1 " * 100))]
+        lines = [line for line in report(written([]), judged, Path("/r")) if line.endswith("  in /p")]
+        self.assertEqual(["make -f x.mk  in /p", "make" + " A=1" * 23 + " ..  in /p"], lines)
+
     def test_ends_without_an_answer(self) -> None:
         self.assertEqual(("ended with status 3", "was stopped by signal 9: race-report asks it again"), (ended(3), ended(-9)))
         self.assertEqual("race: F22 is no fault here", explained("race: F22 is no fault here"))
@@ -105,7 +113,7 @@ class NoRace(unittest.TestCase):
     def scripts(self, scripts: str, pages: str) -> Path:
         """Puts the scripts and the pages there; the folder of the scripts."""
         for name in COMPANIONS:
-            shutil.copytree(TOP / name, self.room / scripts / name, ignore=shutil.ignore_patterns("__pycache__"))
+            shutil.copytree(TOP / name, self.room / scripts / name)  # with what Python compiled
         (self.room / pages).mkdir(parents=True)
         for name in ("INSTALL.md", "RECORD.md"):
             (self.room / pages / name).touch()

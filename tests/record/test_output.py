@@ -128,6 +128,13 @@ class Output(unittest.TestCase):
         inner = "all: x.t\n%.t: %.i ; cp $< $@\n%.i: %.s ; cp $< $@\n"
         self.assertEqual(0, self.both("all: ; $(MAKE) -f in.mk > log\n", in_mk=inner, x_s="s"))
 
+    def test_intermediate_files_of_a_build_that_fails(self) -> None:
+        """Make stops before a recipe, and prints no line about the target then."""
+        rules = "all: x.t a\n%.t: %.i ; cp $< $@\n%.i: %.s ; cp $< $@\n"
+        for more in ("a: none\n", "a: ; $(error no)\n", "a: ; $(info Removing intermediate files...)false\n"):
+            with self.subTest(more):
+                self.assertEqual(2, self.both(rules + more, x_s="s"))
+
     def test_makefile_that_is_remade_in_an_inner_make(self) -> None:
         self.assertEqual(0, self.both("all: ; @$(MAKE) -s -f in.mk $(MFLAGS)\n", in_mk="include x.d\nall: ; @echo '$(MAKE_RESTARTS)'\nx.d: ; touch x.d\n".replace("all:", "all: x.d", 1)))
 

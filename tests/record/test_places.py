@@ -1,12 +1,16 @@
 """Where and how a build is called: what its caller has opened, set and ignored is for the recorded build as it is for a plain one."""
 
 import os
+import shutil
+import tempfile
 import unittest
 from dataclasses import dataclass
-from typing import Dict, Mapping, Tuple
+from typing import Callable, Dict, Mapping, Tuple
+from unittest import mock
 
 import support
 from fuzz_places import Place, Ran
+from record.folder import PLACES, may_run
 from test_small import Small, test_of
 
 BARE = {name: os.environ[name] for name in ("PATH", "HOME") if name in os.environ}  # no locale, so that is C
@@ -32,7 +36,8 @@ class Places(unittest.TestCase):
     def left(self, makefile: str, place: Place, is_recorded: bool) -> Left:
         with support.Project({"Makefile": makefile}) as project:
             room = project.folder.parent
-            words = [str(support.RECORDER), "--race", support.race_program(), "--", "make"] if is_recorded else ["make"]
+            command = place.command(["make"])
+            words = [str(support.RECORDER), "--race", support.race_program(), "--", *command] if is_recorded else command
             status, out, err = Ran(place, words, room, BARE).wait(support.SECONDS)
             here = os.fsencode(room)
             files = {path.name: path.read_bytes() for path in sorted(project.folder.iterdir()) if path.is_file()}
@@ -65,6 +70,17 @@ class Places(unittest.TestCase):
         for makefile in ("all: ; @" + SIGNALS + "\n", AGAIN % SIGNALS):
             self.both(makefile, Place(ignored=["INT", "HUP"]))
 
+    def test_end_of_a_child_that_the_caller_ignores(self) -> None:
+        """Who ignores it learns no status of a child: a race would be lost."""
+        self.both(RULES, Place(ignored=["CHLD"]), 1)
+        says = "python3 -c 'import os, signal, sys; print(signal.getsignal(signal.SIGCHLD) is signal.SIG_IGN, flush=True); os.execvp(sys.argv[1], sys.argv[1:])'"
+        self.assertEqual(b"True\n", self.both("all: ; @touch all\n", Place(ignored=["CHLD"], call=says)).out)
+
+    @unittest.skipUnless(shutil.which("python3", path=os.defpath), "no Python is where it is sought without a PATH")
+    def test_no_variables_at_all(self) -> None:
+        """Python does not know its own path then. Make runs nothing without a shell: the recorder sets a PATH."""
+        self.both(RULES.replace("cp a b", "cat a > b"), Place(env=dict.fromkeys(BARE)), 1)
+
     def test_flags_that_only_ask(self) -> None:
         """What they print is the build's, and there is no verdict."""
         for name in ("MAKEFLAGS", "GNUMAKEFLAGS"):
@@ -80,6 +96,33 @@ class Places(unittest.TestCase):
         given = {"MAKELEVEL": "1", "MAKEFLAGS": "s -j2 --jobserver-auth=3,4 -- V=1", "MFLAGS": "-s -j2 --jobserver-auth=3,4"}
         recorded = self.left("all: ; @echo '$(V)' $(filter -j% --jobs%,$(MAKEFLAGS) $(MFLAGS)) > all\n", Place(env=dict(given)), True)
         self.assertEqual((0, b"", b"1\n"), (recorded.status, recorded.err, recorded.files["all"]))
+
+
+class Rooms(unittest.TestCase):
+    """Where the recorder keeps its make while a build runs."""
+
+    def outcome(self, may_run: Callable[[str], bool]) -> support.Outcome:
+        with mock.patch("record.folder.may_run", side_effect=may_run), support.Project({"Makefile": "all: ; @echo $$PATH; touch all\n"}) as project:
+            return project.record()
+
+    def test_first_folder_in_which_programs_may_run(self) -> None:
+        for wanted in ("/tmp", "/var/tmp"):
+            outcome = self.outcome(lambda place: place == wanted)
+            self.assertEqual((0, wanted + "/race-record-"), (outcome.status, outcome.text()[:len(wanted) + 13]))
+
+    def test_no_folder(self) -> None:
+        outcome = self.outcome(lambda place: False)
+        said = "race-record: no program may run in /tmp, %s (they are mounted noexec, or cannot be written): name another folder by TMPDIR\n"
+        places = ", ".join(place for place in map(os.path.expanduser, map(os.path.expandvars, PLACES[1:])) if os.path.isdir(place))
+        self.assertEqual((3, "", said % places), (outcome.status, outcome.text(), outcome.stderr.decode()))
+
+    def test_folder(self) -> None:
+        with tempfile.TemporaryDirectory() as room:
+            self.assertTrue(may_run(room))
+            with mock.patch("os.statvfs", return_value=mock.Mock(f_flag=os.ST_NOEXEC)):
+                self.assertFalse(may_run(room))
+            with mock.patch("os.access", return_value=False):
+                self.assertFalse(may_run(room))
 
 
 RULES = "all: a b\na: ; echo a > a\nb: ; cp a b\n"

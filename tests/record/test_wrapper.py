@@ -83,6 +83,13 @@ class Splits(unittest.TestCase):
         out, log = split(MUST, b"\n", *base, b"\n", b"# make: Leaving directory '/x'\n")
         self.assertEqual((b"make: Leaving directory '/x'\n", MUST + b"".join(base)), (out, log))
 
+    def test_files_that_a_make_removes_which_stops_before_a_recipe(self) -> None:
+        text, made = b"Removing intermediate files...\n", b" Successfully remade target file 'a'.\n"
+        base = (b"\n", b"# Make data base, printed on Monday\n", b"# Finished Make data base on Monday\n", b"\n")
+        self.assertEqual((b"rm b\n", MUST + text + b"".join(base[1:3])), split(MUST, text, b"rm b", b"\n", *base))
+        self.assertEqual((b"\n" + text + b"x\n", MUST + BEGIN + END), split(MUST, b"\n", text, b"x\n", BEGIN, END))
+        self.assertEqual((text + b"x\n", MUST + made + MUST), split(MUST, text, b"x\n", made, MUST))
+
     def test_target_without_a_recipe(self) -> None:
         words = (MUST, b" Successfully remade target file 'a'.\n", b"Must remake target 'b'.\n", b"Failed to remake target file 'b'.\n", MUST)
         self.assertEqual((b"", b"".join(words)), split(*words))
