@@ -42,11 +42,14 @@ class Late(NamedTuple):
     begin: str = ""
     macro: str = ""
 
+    def fits(self, name: str) -> bool:
+        """Whether a macro may have such a name."""
+        return name.startswith(self.begin) and name.endswith(self.end) and len(name) >= len(self.begin + self.end)
+
     def value_of(self, name: str) -> str:
         """The value that a macro has, as far as the text of a template says it."""
         head = name[len(self.begin):len(name) - len(self.end)]
-        is_known = self.macro and name.startswith(self.begin) and head
-        return once(self.value.replace(self.macro, head) if is_known else self.value)
+        return once(self.value.replace(self.macro, head) if self.macro and head else self.value)
 
 
 def once(text: str) -> str:
@@ -64,9 +67,11 @@ def late_in(text: str) -> List[Late]:
 
 def late_at(lines: str, one: "re.Match[str]") -> Late:
     """What is assigned at a place of a makefile."""
-    end = one.start(1)
+    end, value = one.start(1), one.group(2)
     word = WORD.fullmatch(lines[max(lines.rfind(sign, 0, end) for sign in "\n\t ,") + 1:end])
-    return Late(one.group(1), one.group(2), *(word.groups() if word is not None else ()))
+    while value.endswith(")") and value.count(")") > value.count("("):  # those of what reads it
+        value = value[:-1]
+    return Late(one.group(1), value, *(word.groups() if word is not None else ()))
 
 
 def defined_in(text: str) -> Iterator[Tuple[str, str]]:

@@ -26,6 +26,8 @@ SINCE = (b"Using jobserver controller ", b"Using output-sync mutex ", b"Enabled 
 # on and ends.
 ASIDES = ((b"Directory ", b" cache invalidated (count ", b")\n"), (b"file: Failed to open '", b"': ", b"\n"), (b"", b": not recursively expanding ", b" to export to shell function\n"),
           (b"Acquired all ", b" jobserver token", b"s.\n"))
+# What it says of an object that `-load` does not find, or cannot load: no newline ends it.
+UNLOADED = (b": cannot open shared object file: ", b": cannot read file data: ", b": file too short", b": invalid ELF header", b": undefined symbol: ", b": wrong ELF class: ")
 HOW_READ = (b" (no default goal)", b" (search path)", b" (don't care)", b" (no ~ expansion)")
 VERSION = (b"# Built for ", b"# Copyright (C)", b"# License ", b"# This is free software", b"# There is NO WARR", *(b"# GNU Make %d" % digit for digit in range(10)))
 # Lines about jobs.
@@ -136,6 +138,11 @@ def is_about_names(line: bytes) -> bool:
 def is_aside(packet: bytes) -> bool:
     """Whether a write is what make says while it expands text, or looks for a file."""
     return any(packet.startswith(begin) and packet.find(middle, len(begin)) > len(begin) and packet.endswith(end) for begin, middle, end in ASIDES)
+
+
+def is_unloaded(packet: bytes) -> bool:
+    """Whether a write says that an object cannot be loaded which need not be there."""
+    return b"\n" not in packet and any(packet.find(way) > 0 for way in UNLOADED)
 
 
 def is_word(packet: bytes) -> bool:

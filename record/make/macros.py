@@ -77,6 +77,7 @@ class Macros:
         self.with_lines: Dict[str, bool] = {}
         self.acts: Dict[str, Act] = {}
         self.answers = Answers(self)
+        self.is_used = self.is_used or bool(self.steady.set_by_recipes)  # by a text that the environment has
 
     @cached_property
     def idle(self) -> Set[str]:
@@ -104,7 +105,7 @@ class Macros:
 
     def late_of(self, name: str) -> List[str]:
         """Such texts that a macro may have."""
-        return [one.value_of(name) for one in self.late if name.endswith(one.end) and not NO_MACRO.fullmatch(name)]
+        return [one.value_of(name) for one in self.late if one.fits(name) and not NO_MACRO.fullmatch(name)]
 
     @property
     def names(self) -> Set[str]:

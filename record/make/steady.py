@@ -7,7 +7,7 @@ from typing import TYPE_CHECKING, Dict, Iterator, List, Optional, Set, Tuple
 from record.make.assigned import BEHIND_TWO, all_defined, late_in, once, signed_in
 from record.make.database import LINES_TEXT
 from record.make.expansion import OPEN
-from record.make.references import CONTINUED, read_again, with_functions
+from record.make.references import CONTINUED, EVAL, read_again, with_functions
 
 if TYPE_CHECKING:
     from record.make.macros import Macros
@@ -19,6 +19,8 @@ IMPLIED = frozenset(("SHELL", ".SHELLFLAGS", "MAKEFLAGS", "MFLAGS", "GNUMAKEFLAG
                      "MAKE_TERMOUT", "MAKE_TERMERR", "IFS", "HOME"))
 UNDEFINES = re.compile(r"(?<![\w-])undefine(?![\w-])")
 HANDED = re.compile(r"\$[({]call[ \t]+[^,()\n]*,([^\n]*\$\$[^\n]*)")  # what a function gets that stands in a text once more
+OF_MAKE = ("MAKEFILE_LIST", ".DEFAULT_GOAL")  # make sets these as it reads a line
+GIVEN = re.compile(r"([\w.-]+)[ \t]*(?:[+?!]|:{1,3})?=")  # a macro that the words of make set
 SETS = re.compile(r"[ \t]*(?:[+?]|::?)?=")  # what stands behind a name in a line that gives it its value
 MODIFIER = re.compile(r"(?:override|export|private)[ \t]+")
 
@@ -127,19 +129,20 @@ class Steady:
     def observed(self) -> Set[str]:
         """Macros that a recipe has set by `eval`, by where they got their last value: all that `eval` reads counts as the line of the recipe. A template counts as
         the line that calls it, with its recipes and all that it sets: there only what may have had a text by which recipes set macros counts."""
-        plain, made = {*self.lines_of_recipes(True)}, {*self.lines_of_recipes(False)}
-        found, unclear = set(), set()
-        for name, places in self.places().items():
-            if any(place in plain and not self.is_set_at(name, *place) or self.is_taken_in(place[0]) for place in places):
-                found.add(name)
-            elif not made.isdisjoint(places):
-                unclear.add(name)
-        return found | {name for name in {*unclear, *self.gone()} if self.is_hidden(name)}
+        made = {*self.lines_of_recipes(False)}
+        unclear = {name for name, places in self.places().items() if not made.isdisjoint(places)}
+        return self.set_by_recipes | {name for name in {*unclear, *self.gone()} if self.is_hidden(name)}
+
+    @cached_property
+    def set_by_recipes(self) -> Set[str]:
+        """Those that got their last value where a recipe stands in a makefile as it is, or in one that a recipe has read."""
+        plain = {*self.lines_of_recipes(True)}
+        return {name for name, places in self.places().items() if any(place in plain and not self.is_set_at(name, *place) or self.is_taken_in(place[0]) for place in places)}
 
     def places(self) -> Dict[str, Set[Tuple[str, int]]]:
         """Where each macro got its last value, and where single targets and patterns got theirs."""
         base = self.known.base
-        found = {name: {(file, line)} for name, (_, file, line) in base.origins.items()}
+        found = {name: {(file, line)} for name, (_, file, line) in base.origins.items() if name not in OF_MAKE}
         for name, places in base.own_places.items():
             found[name] = found.get(name, set()) | places
         return found
@@ -167,7 +170,14 @@ class Steady:
                  *((name, True, value) for name, values in self.signed.items() for sign, value in values if sign not in AT_ONCE and "$$" in value),
                  *((name, True, value) for name, value in all_defined(known.text) if "$$" in value)]
         found = [(name, is_whole, self.setters(value)) for name, is_whole, value in given]
-        return [one for one in found if one[2]]
+        return [one for one in (*found, *self.given_by_words()) if one[2]]
+
+    def given_by_words(self) -> Iterator[Tuple[str, bool, Set[str]]]:
+        """The same that the words of make give, such as `--eval='V = $(Z)'`."""
+        text = " ".join(self.known.exports.words_of_make)
+        acts = (self.setters(text) | ({""} if EVAL.search(text) else set())) if "$" in text else set()
+        yield from ((one.end, False, acts) for one in late_in(text))
+        yield from ((name, True, acts) for name in GIVEN.findall(text))
 
     def setters(self, value: str) -> Set[str]:
         """The macros by which a text sets others. It may have parts that a template is handed."""

@@ -20,7 +20,7 @@ except ImportError:
 from record.make.copied import Copies, now
 from record.make.given import take_input
 from record.make.limits import Kept, keep, note_cut, note_past
-from record.make.lines import REMOVING, TOKENS, VERSION, about_job, is_aside, is_folder, is_included, is_look, is_word, may_go_on, named, place_of_end, place_of_start, remade, started
+from record.make.lines import REMOVING, TOKENS, VERSION, about_job, is_aside, is_folder, is_included, is_look, is_unloaded, is_word, may_go_on, named, place_of_end, place_of_start, remade, started
 from record.make.options import WORDS, asked, asks_jobs, forget_coerced, jobs_of_call, plain_args, speak_english, without_words
 from record.make.outputs import file_of, goes_to, is_closed, is_one_file, note_output
 
@@ -218,6 +218,8 @@ class Splitter:
             self.blank = not tail
         elif self.start and packet.startswith(VERSION):
             self.log.write(packet)
+        elif self.next is None and is_unloaded(packet):
+            self.log.write(packet + b"\n")
         elif is_word(packet):
             self.start = packet.startswith(b"Re-executing[")
             self.log.write(packet)

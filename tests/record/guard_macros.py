@@ -18,7 +18,7 @@ def text(name: str) -> str:
 REFERENCES, MACROS, BASE, ASSIGNED = "make/references.py", "make/macros.py", "make/database.py", "make/assigned.py"
 EXPORTS, KEPT, UNFILED, USED = "make/exports.py", "make/kept.py", "make/unfiled.py", "make/used.py"
 # What turns off what is known of macros whose names are put together: they may be what they were when make has ended.
-LATE = (MACROS, "if name.endswith(one.end) and", "if False and")
+LATE = (MACROS, "if one.fits(name) and", "if False and")
 SEEN = (USED, "    if seen:\n", "    if False:\n")  # where the data base shows that a recipe has changed one
 
 MACRO_GUARDS: List[Guard] = [
@@ -36,10 +36,10 @@ MACRO_GUARDS: List[Guard] = [
     Guard("eval: what macros are that nobody can name", MACROS, "if self.given.get(ANY) else ())]", "if False else ())]", macro("macro_of_a_computed_name_for_a_while"), YES, LATE),
     Guard("eval: what macros are while nobody changes them", MACROS, "is_changed = ANY in self.changed or name in self.changed", "is_changed = ANY in self.changed", macro("macro_that_asks_for_another_for_a_while"), YES),
     Guard("eval: assignments to computed names", ASSIGNED, "*((ANY, one.group(1)) for one in ASSIGNED_TO_ANY.finditer(lines)), ", "", macro("macro_of_a_makefile_for_a_while"), YES, LATE),
-    Guard("eval: values of computed names", MACROS, "for one in self.late if name.endswith(one.end)", "for one in self.late if False", macro("macro_of_a_computed_name_that_sets_itself"), YES, SEEN),
+    Guard("eval: values of computed names", MACROS, "for one in self.late if one.fits(name)", "for one in self.late if False", macro("macro_of_a_computed_name_that_sets_itself"), YES, SEEN),
     Guard("eval: names that are gone", MACROS, "names = {*found, *(name for text", "names = {*found, *(name for text in () for text", macro("macro_of_a_computed_name_that_removes_itself"), YES),
     Guard("eval: lines of computed names", ASSIGNED, ", *(Late(end.group(1) if end else \"\", body) for end, body in defined)]", "]", macro("macro_of_lines_and_a_computed_name_that_sets_itself"), YES, SEEN),
-    Guard("eval: the ends of computed names", MACROS, "if name.endswith(one.end)", "if True", macro("macro_beside_one_of_a_computed_name"), FALSE_RACE),
+    Guard("eval: the ends of computed names", ASSIGNED, "name.startswith(self.begin) and name.endswith(self.end) and", "name.startswith(self.begin) and", macro("macro_beside_one_of_a_computed_name"), FALSE_RACE),
     Guard("eval: values that are worked out at once", ASSIGNED, "(?:[+?]|:::)?=\" + LINE", "(?:[+?]|:{1,3})?=\" + LINE", macro("macro_of_a_computed_name_that_is_worked_out_at_once"), FALSE_RACE),
     Guard("eval: what a yes says of it", UNFILED, "if builder.known.is_used:", "if False:", macro("macro_of_a_computed_name_that_is_worked_out_at_once"), UNSAID),
     Guard("eval: lines of a computed name", ASSIGNED, 'ANY if "$" in name else name, body', "name, body", macro("macro_of_lines_for_a_while"), YES, LATE),

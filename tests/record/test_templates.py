@@ -8,7 +8,7 @@ from typing import Dict, List
 
 from record.make.assigned import late_in
 from record.make.database import read_base
-from test_small import Small, test_of
+from test_small import COMMANDS, Small, test_of
 
 HEAD = "all: s a b\ns: ; touch s\n"
 ORDER = "b: a\n"
@@ -40,6 +40,11 @@ COMMON = -O2
 V = $(eval V := $$(shell echo 1))$(V)
 """
 
+ENVIRONMENT = ["env", "V=$(eval W := $@)$(eval V := 1)x", "make"]
+COMMANDS.update({"macro_that_the_environment_sets": ENVIRONMENT, "macro_of_the_environment_in_order": ENVIRONMENT})
+BY_WORDS = ["make", "--eval=n := V", "--eval=$(n) = $(Z)"]
+COMMANDS.update({"macro_that_the_words_of_make_set": BY_WORDS, "macro_of_the_words_of_make_in_order": BY_WORDS, "macro_that_sets_others_by_the_words_of_make": ["make", "--eval=V = $(eval W := $@)$(eval V := 1)x"]})
+
 TEMPLATES: Dict[str, Small] = {
     "macro_of_a_computed_name": Small("race", HEAD + LEADS + SETS + EACH),
     "macro_of_a_computed_name_one_by_one": Small("race", HEAD + LEADS + SETS + ONE_BY_ONE),
@@ -60,14 +65,22 @@ TEMPLATES: Dict[str, Small] = {
     "macro_of_targets": Small("race", HEAD + N + "a b: $(n) = $(Z)\nZ = $(eval a: V := $@)$(eval b: V := $@)$@\n" + PLAIN),
     "macro_of_targets_in_order": Small("safe", HEAD + ORDER + N + "a b: $(n) = $(Z)\nZ = $(eval a: V := $@)$(eval b: V := $@)$@\n" + PLAIN),
     "macro_of_targets_of_a_template": Small("race", HEAD + N + "a b: $(n) = $(Z)\nZ = $(eval a: V := $@)$(eval b: V := $@)$@\n" + EACH),
+    "macro_that_the_environment_sets": Small("race", HEAD + "a: s ; echo '$(V)' > a\nb: s ; echo '$(W)' > b\n"),
+    "macro_of_the_environment_in_order": Small("safe", HEAD + ORDER + "a: s ; echo '$(V)' > a\nb: s ; echo '$(W)' > b\n"),
+    "macro_that_the_words_of_make_set": Small("race", HEAD + SETS + EACH),
+    "macro_that_sets_others_by_the_words_of_make": Small("race", HEAD + BOTH),
+    "macro_of_the_words_of_make_in_order": Small("safe", HEAD + ORDER + SETS + EACH),
     # what is worked out once
     "macro_that_keeps_what_it_read": Small("race", KEEPS % "" + ONCE, OLD),
     "macro_that_keeps_what_it_read_in_order": Small("safe", KEEPS % "b: c\n" + ONCE, OLD),
     "macro_that_keeps_what_it_read_by_its_name": Small("race", KEEPS % "" + ONCE.replace("$(1)", "x"), OLD),
+    "macro_that_keeps_what_it_read_behind_a_word": Small("safe", (KEEPS % "b: c\n" + ONCE).replace("$(1)_V", "V_$(1)").replace("x_V", "V_x"), OLD),
+    "macro_that_keeps_what_it_read_in_a_loop": Small("safe", KEEPS % "b: c\n" + "$(foreach v,x,$(eval $(v)_V = $$(eval $(v)_V := $$(shell cat f))$$($(v)_V)))\n", OLD),
     "macro_that_keeps_its_value": Small("safe", HEAD + ONCE.replace("cat f", "echo 1").replace("x)", "V)").replace("_V", "") + EACH),
     "macro_that_keeps_its_value_by_its_name": Small("safe", HEAD + ONCE.replace("cat f", "echo 1").replace("$(1)_V", "V") + EACH),
     "macro_that_keeps_its_value_behind_a_word": Small("safe", HEAD + ONCE.replace("cat f", "echo 1").replace("$(1)_V", "f_$(1)_V") + EACH.replace("$$(V)", "$$(f_x_V)")),
     # what is not set by recipes
+    "macros_of_make_on_the_line_of_a_recipe": Small("safe", "a: s ; touch s a\nall: a b\ns:\n.DEFAULT_GOAL := all\nb: s ; touch b\n", lacks="functions of make put together"),
     "programs": Small("safe", PROGRAMS + "$(foreach p,x y z,$(eval $(call T,$(p))))\n"),
     "programs_one_by_one": Small("safe", PROGRAMS + "$(eval $(call T,x))\n$(eval $(call T,y))\n$(eval $(call T,z))\n"),
     "programs_with_functions": Small("safe", "all: s x y\ns: ; touch s\ndefine T\n$(1)_FLAGS = $$(call flags,$(1))\n$(1): s\n\techo $$($(1)_FLAGS) > $$@\nendef\nflags = $(if $(filter x,$(1)),-x,$(F))\n"
@@ -88,13 +101,14 @@ class Texts(unittest.TestCase):
 
     def values(self, text: str, name: str) -> List[str]:
         """The values that a macro may have by templates."""
-        return [one.value_of(name) for one in late_in(text) if name.endswith(one.end)]
+        return [one.value_of(name) for one in late_in(text) if one.fits(name)]
 
     def test_values_of_names_that_are_put_together(self) -> None:
         for text, name, wanted in (("$(1)_V = $$(eval $(1)_V := 1)\n", "x_V", [" $(eval x_V := 1)"]), ("f_$(1) = $$(eval f_$(1) := 1)\n", "f_x", [" $(eval f_x := 1)"]),
                                    ("$(1)$(2) = $$(eval $(1) := 1)\n", "xy", [" $(eval $(1) := 1)"]), ("$(1) = $$(Z) $(1)\n", "x", [" $$(Z) x"]),
-                                   ("f_$(1) = $$(eval f_$(1) := 1)\n", "abc", [" $(eval f_$(1) := 1)"]), ("$(n) = $(eval $(n) := $$x)\n", "V", [" $(eval V := $$x)"]),
-                                   ("$1_V = $(eval $1_V := 1)\n", "x_V", [" $(eval x_V := 1)"]), ("a,$(1) = $(1)\n", "x", [" x"])):
+                                   ("f_$(1) = $$(eval f_$(1) := 1)\n", "abc", []), ("$(n) = $(eval $(n) := $$x)\n", "V", [" $(eval V := $$x)"]),
+                                   ("$1_V = $(eval $1_V := 1)\n", "x_V", [" $(eval x_V := 1)"]), ("a,$(1) = $(1)\n", "x", [" x"]),
+                                   ("$(eval $(1) = $$(eval $(1) := 1)$$($(1))))\n", "x", [" $(eval x := 1)$(x)"]), ("x_$(1)_x = 1", "x_x", [])):
             self.assertEqual(wanted, self.values(text, name), text)
 
     def test_where_macros_of_targets_got_their_values(self) -> None:

@@ -128,6 +128,14 @@ class Splits(unittest.TestCase):
         for line in (b"Directory cache invalidated (count 1)\n", b"file: no\n", b"x to export to shell function\n", b"Using a\n"):
             self.assertEqual((line, b""), split(line), line)
 
+    def test_what_make_says_of_an_object_that_it_cannot_load(self) -> None:
+        for line in (b"m.so: cannot open shared object file: No such file or directory", b"./m.so: file too short", b"d/m.so: undefined symbol: f"):
+            self.assertEqual((b"", line + b"\n" + MUST + BEGIN + END), split(line, MUST, BEGIN, END), line)
+            self.assertEqual((line, MUST + BEGIN + END), split(MUST, BEGIN, line, END), line)
+            self.assertEqual((line, MUST + BEGIN + END), split(MUST, line, BEGIN, END), line)
+            self.assertEqual((line + b"\n", b""), split(line + b"\n"), line)
+        self.assertEqual((b": file too short", b""), split(b": file too short"))
+
     def test_folder_that_make_enters_is_shown_as_without_data_base(self) -> None:
         self.assertEqual((b"make: Entering directory '/x'\n", b""), split(b"# make: Entering directory '/x'\n"))
 
