@@ -22,7 +22,6 @@ if TYPE_CHECKING:
 ROOMS = "/tmp" if os.path.isdir("/tmp") else None  # where temporary folders are made
 NAMES = 12  # so many of the targets that were there before are named
 FOUND = 3  # so many names of a folder that is no record
-PLACES = ("/tmp", "$TMPDIR", "/var/tmp", "/dev/shm", "~/.cache")  # for programs that a build runs
 
 
 class Taken(Exception):
@@ -31,23 +30,6 @@ class Taken(Exception):
 
 class NotWhole(Exception):
     """A record of which a file is cut, changed or of another kind."""
-
-
-class NoRoom(Exception):
-    """There is no folder for programs that a build runs."""
-
-
-def may_run(place: str) -> bool:
-    """Whether a folder can be written, and programs in it may run."""
-    return os.access(place, os.W_OK | os.X_OK) and not os.statvfs(place).f_flag & os.ST_NOEXEC
-
-
-def room_of_programs() -> str:
-    """The first folder in which a temporary one can hold programs."""
-    places = [place for place in (os.path.expanduser(os.path.expandvars(name)) for name in PLACES) if os.path.isdir(place)]
-    for place in filter(may_run, places):
-        return place
-    raise NoRoom("no program may run in %s (they are mounted noexec, or cannot be written): name another folder by TMPDIR" % ", ".join(places))
 
 
 @contextmanager

@@ -21,7 +21,7 @@ from typing import Dict, List, Optional, Set, Tuple, cast
 
 from record import RELEASE, VERSION
 from record.entry import STOPPING, UNHEARD, Stopped, end_traced, interpreter, printable
-from record.folder import NoRoom, NotWhole, Record, Taken, accept_warm, alone, aside, is_record, reading, rewrite, room_of_programs, what_stands
+from record.folder import ROOMS, NotWhole, Record, Taken, accept_warm, alone, aside, is_record, reading, rewrite, what_stands
 from record.judge import find_race, judge, no_race
 from record.make.cover import Cover
 from record.make.options import forget_coerced
@@ -265,10 +265,9 @@ def attempt(options: argparse.Namespace, words: List[str], tools: Dict[str, str]
     for path in options.linked:
         names.share(path)
     kept = Kept.of(names)
-    rooms = room_of_programs()
-    room = Path(tempfile.mkdtemp(prefix="race-record-", dir=rooms))
+    room = Path(tempfile.mkdtemp(prefix="race-record-", dir=ROOMS))
     spool = Path(os.path.realpath(room))
-    cover = Cover(spool, real, rooms)
+    cover = Cover(spool, real, ROOMS)
     try:
         prepare_spool(spool, real, cover.past)
         cover.prepare(names.tops)
@@ -343,7 +342,7 @@ def run(options: argparse.Namespace) -> int:
     try:
         with alone(out):
             return record_and_judge(options, tools, out, race)
-    except (CannotClean, Missing, NoRoom, Taken) as fault:
+    except (CannotClean, Missing, Taken) as fault:
         return stop(str(fault))
 
 

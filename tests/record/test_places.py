@@ -2,15 +2,12 @@
 
 import os
 import shutil
-import tempfile
 import unittest
 from dataclasses import dataclass
-from typing import Callable, Dict, Mapping, Tuple
-from unittest import mock
+from typing import Dict, Mapping, Tuple
 
 import support
 from fuzz_places import Place, Ran
-from record.folder import PLACES, may_run
 from test_small import Small, test_of
 
 BARE = {name: os.environ[name] for name in ("PATH", "HOME") if name in os.environ}  # no locale, so that is C
@@ -96,33 +93,6 @@ class Places(unittest.TestCase):
         given = {"MAKELEVEL": "1", "MAKEFLAGS": "s -j2 --jobserver-auth=3,4 -- V=1", "MFLAGS": "-s -j2 --jobserver-auth=3,4"}
         recorded = self.left("all: ; @echo '$(V)' $(filter -j% --jobs%,$(MAKEFLAGS) $(MFLAGS)) > all\n", Place(env=dict(given)), True)
         self.assertEqual((0, b"", b"1\n"), (recorded.status, recorded.err, recorded.files["all"]))
-
-
-class Rooms(unittest.TestCase):
-    """Where the recorder keeps its make while a build runs."""
-
-    def outcome(self, may_run: Callable[[str], bool]) -> support.Outcome:
-        with mock.patch("record.folder.may_run", side_effect=may_run), support.Project({"Makefile": "all: ; @echo $$PATH; touch all\n"}) as project:
-            return project.record()
-
-    def test_first_folder_in_which_programs_may_run(self) -> None:
-        for wanted in ("/tmp", "/var/tmp"):
-            outcome = self.outcome(lambda place: place == wanted)
-            self.assertEqual((0, wanted + "/race-record-"), (outcome.status, outcome.text()[:len(wanted) + 13]))
-
-    def test_no_folder(self) -> None:
-        outcome = self.outcome(lambda place: False)
-        said = "race-record: no program may run in /tmp, %s (they are mounted noexec, or cannot be written): name another folder by TMPDIR\n"
-        places = ", ".join(place for place in map(os.path.expanduser, map(os.path.expandvars, PLACES[1:])) if os.path.isdir(place))
-        self.assertEqual((3, "", said % places), (outcome.status, outcome.text(), outcome.stderr.decode()))
-
-    def test_folder(self) -> None:
-        with tempfile.TemporaryDirectory() as room:
-            self.assertTrue(may_run(room))
-            with mock.patch("os.statvfs", return_value=mock.Mock(f_flag=os.ST_NOEXEC)):
-                self.assertFalse(may_run(room))
-            with mock.patch("os.access", return_value=False):
-                self.assertFalse(may_run(room))
 
 
 RULES = "all: a b\na: ; echo a > a\nb: ; cp a b\n"
