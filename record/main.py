@@ -49,7 +49,7 @@ statuses: 0 safe, with --missing also nothing missing, 1 races or missing inputs
           2 no verdict on one of the two, 3 usage or a tool that is missing"""
 NOT_TRACED = ("strace may not follow processes here, so nothing was built (see its lines above). In a container allow it, such as docker run --cap-add=SYS_PTRACE; "
               "on a machine /proc/sys/kernel/yama/ptrace_scope must be less than 3")
-WRAPPER = ("record.make.limits", "record.make.lines", "record.make.options", "record.make.given", "record.make.copied", "record.make.outputs", "record.make.wrapper")
+WRAPPER = ("record.make.limits", "record.make.lines", "record.make.options", "record.make.given", "record.make.copied", "record.make.heard", "record.make.outputs", "record.make.wrapper")
 PROGRAM = """#!%s -ISBXutf8
 import marshal, os, sys
 try:

@@ -37,6 +37,8 @@ PLACE_GUARDS: List[Guard] = [
     Guard("places: the end of a child, as the caller has it", "entry.py", "        UNHEARD.append(signal.SIGCHLD)", "        pass", placed("end_of_a_child_that_the_caller_ignores")),
     Guard("places: no variables", "entry.py", "(sys.executable, os.path.realpath(\"/proc/self/exe\"))", "[sys.executable]", placed("no_variables_at_all")),
     Guard("places: a path of Python that no script can name", "entry.py", "if len(os.fsencode(path)) < SHORT and not set(path) & set(\" \\t\\n\"):", "if True:", "test_entry.Python.test_paths_that_no_script_can_name"),
+    Guard("signals: those that come for make", WRAPPER, "    hand_on(child)\n", "", "test_output.Output.test_signals_that_a_recipe_sends_to_a_make"),
+    Guard("signals: an interrupt of make alone", "make/heard.py", " or one in USUAL:", ":", "test_output.Output.test_signals_that_a_recipe_sends_to_a_make"),
     Guard("ends: the key that quits", "entry.py", ", signal.SIGQUIT)", ")", "test_ends.Signals.test_quit"),
     Guard("ends: a make that was killed", "failed.py", "if one.base is not None and target not in one.base.recipes:", "if target not in (one.base or Base()).recipes:", "test_failed.Failed.test_make_that_was_killed"),
     Guard("output: files that a make removes which stops", WRAPPER, "elif self.next is not None and packet == REMOVING:", "elif False:", "test_output.Output.test_intermediate_files_of_a_build_that_fails"),
