@@ -17,7 +17,7 @@ from unittest import mock
 import forked
 import support
 from record import folder as places
-from record.entry import printable, reason
+from record.entry import STOPPING, printable, reason
 from record.folder import Taken, alone as alone_at, aside, come_back, move
 from record.trace.pipe import Pipe
 
@@ -28,7 +28,7 @@ SAFE = {"Makefile": "all: ; @touch all\n"}
 def alone() -> None:
     """A session of its own, in which signals do what they usually do."""
     os.setsid()
-    for number in (signal.SIGINT, signal.SIGTERM, signal.SIGHUP, signal.SIGQUIT):
+    for number in STOPPING:
         signal.signal(number, signal.SIG_DFL)
 
 
@@ -76,6 +76,11 @@ class Signals(unittest.TestCase):
     def test_quit(self) -> None:
         self.stopped(signal.SIGQUIT, True)
         self.stopped(signal.SIGQUIT)
+
+    def test_signals_of_batch_systems(self) -> None:
+        for number in (signal.SIGUSR1, signal.SIGXCPU):
+            with self.subTest(number):
+                self.stopped(number, True)
 
     def test_interrupted_at_a_terminal(self) -> None:
         self.stopped(signal.SIGINT, True)
