@@ -21,7 +21,7 @@ from typing import Dict, List, Optional, Set, Tuple, cast
 
 from record import VERSION
 from record.entry import STOPPING, UNHEARD, Stopped, end_traced, interpreter, printable
-from record.folder import ROOMS, NotWhole, Record, Taken, accept_warm, alone, aside, is_record, reading, rewrite, what_stands
+from record.folder import NO_ROOM, NotWhole, Record, Taken, accept_warm, alone, aside, is_record, reading, rewrite, room_of_programs, rooms_of_programs, what_stands
 from record.judge import find_race, judge, no_race
 from record.make.cover import Cover
 from record.make.options import forget_coerced
@@ -263,9 +263,12 @@ def attempt(options: argparse.Namespace, words: List[str], tools: Dict[str, str]
     for path in options.linked:
         names.share(path)
     kept = Kept.of(names)
-    room = Path(tempfile.mkdtemp(prefix="race-record-", dir=ROOMS))
+    rooms = room_of_programs(names.tops)
+    if rooms is None:
+        raise Missing(NO_ROOM % ", ".join(rooms_of_programs()))
+    room = Path(tempfile.mkdtemp(prefix="race-record-", dir=rooms))
     spool = Path(os.path.realpath(room))
-    cover = Cover(spool, real, ROOMS)
+    cover = Cover(spool, real, rooms)
     try:
         prepare_spool(spool, real, cover.past)
         cover.prepare(names.tops)

@@ -41,6 +41,8 @@ PLACE_GUARDS: List[Guard] = [
     Guard("signals: an interrupt of make alone", "make/heard.py", " or one in USUAL:", ":", "test_output.Output.test_signals_that_a_recipe_sends_to_a_make"),
     Guard("ends: the key that quits", "entry.py", ", signal.SIGQUIT, signal.SIGALRM", ", signal.SIGALRM", "test_ends.Signals.test_quit"),
     Guard("ends: signals of batch systems", "entry.py", ", signal.SIGUSR1, signal.SIGUSR2, signal.SIGXCPU)", ")", "test_ends.Signals.test_signals_of_batch_systems"),
+    Guard("places: temporary folders in which no program runs", "folder.py", "if runs_programs(path) and", "if", "test_ends.Places.test_temporary_folders_in_which_no_program_runs"),
+    Guard("places: a temporary folder in the project", "folder.py", "(path == ROOMS or not (os.path.realpath(path) + \"/\").startswith(tuple(inside)))", "True", "test_ends.Places.test_temporary_folders_in_which_no_program_runs"),
     Guard("ends: a make that was killed", "failed.py", "if one.base is not None and target not in one.base.recipes:", "if target not in (one.base or Base()).recipes:", "test_failed.Failed.test_make_that_was_killed"),
     Guard("output: files that a make removes which stops", WRAPPER, "elif self.next is not None and packet == REMOVING:", "elif False:", "test_output.Output.test_intermediate_files_of_a_build_that_fails"),
     Guard("output: that line of a recipe that prints it", WRAPPER, "remade(packet) == self.next and not any(", "False and not any(", "test_wrapper.Splits.test_files_that_a_make_removes_which_stops_before_a_recipe"),

@@ -134,6 +134,16 @@ class Places(unittest.TestCase):
             self.ends(project, "file is there and is no record", ("-o", "file", "--", "make"))
             self.assertFalse((project.folder / "all").exists())
 
+    def test_temporary_folders_in_which_no_program_runs(self) -> None:
+        """/tmp is often mounted so: the recorder's make runs from another one, which is no part of the project."""
+        files = {"Makefile": 'all: ; @echo "$${PATH%%/bin:*}" > all\n'}
+        with support.Project(files) as project, mock.patch("record.folder.runs_programs", lambda path: path != "/tmp"):
+            with mock.patch.dict(os.environ, TMPDIR=os.fspath(project.folder)):
+                self.assertEqual(0, project.record().status)
+            self.assertEqual("/var/tmp", os.path.dirname((project.folder / "all").read_text()))
+        with support.Project(SAFE) as project, mock.patch("record.folder.runs_programs", lambda path: False):
+            self.ends(project, "no folder for temporary files lets programs run (/tmp, ", ("--", "make"))
+
     def test_records_that_cannot_be_judged_again(self) -> None:
         for text, says in (("", "is no whole record"), ("[]", "is no whole record"), ("{}", "is of another version"), ('{"version": "0"}', "is of another version"),
                            ('{"version": "1"}', "is no whole record"), ('{"version": "1", "warm": 3}', "is no whole record"), ("\0\xff", "is no whole record"),
