@@ -149,7 +149,7 @@ class Output(unittest.TestCase):
 
     def test_signals_that_a_recipe_sends_to_a_make(self) -> None:
         """Who started it knows one number, and make ends as it does without the recorder."""
-        send = ("import os, signal, subprocess, sys, time\nmake = subprocess.Popen(['make', '-s', '-f', 'in.mk'])\nwhile not os.path.exists('begun'):\n    time.sleep(0.01)\n"
+        send = ("import os, signal, subprocess, sys, time\nsignal.signal(getattr(signal, sys.argv[1]), signal.SIG_DFL)\nmake = subprocess.Popen(['make', '-s', '-f', 'in.mk'])\nwhile not os.path.exists('begun'):\n    time.sleep(0.01)\n"
                 "make.send_signal(getattr(signal, sys.argv[1]))\nprint(make.wait())\n")
         for name in ("SIGHUP", "SIGINT", "SIGTERM", "SIGUSR2"):
             with self.subTest(name):
