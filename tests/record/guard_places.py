@@ -40,7 +40,7 @@ PLACE_GUARDS: List[Guard] = [
     Guard("signals: those that come for make", WRAPPER, "    hand_on(child)\n", "", "test_output.Output.test_signals_that_a_recipe_sends_to_a_make"),
     Guard("signals: an interrupt of make alone", "make/heard.py", " or one in USUAL:", ":", "test_output.Output.test_signals_that_a_recipe_sends_to_a_make"),
     Guard("ends: the key that quits", "entry.py", ", signal.SIGQUIT, signal.SIGALRM", ", signal.SIGALRM", "test_ends.Signals.test_quit"),
-    Guard("ends: signals of batch systems", "entry.py", ", signal.SIGUSR1, signal.SIGUSR2, signal.SIGXCPU)", ")", "test_ends.Signals.test_signals_of_batch_systems"),
+    Guard("ends: signals of batch systems", "entry.py", ", signal.SIGUSR1, signal.SIGUSR2, signal.SIGXCPU)", ")", "test_ends.Signals.test_signal_of_a_batch_system"),
     Guard("places: temporary folders in which no program runs", "folder.py", "if runs_programs(path) and", "if", "test_ends.Places.test_temporary_folders_in_which_no_program_runs"),
     Guard("places: a temporary folder in the project", "folder.py", "(path == ROOMS or not (os.path.realpath(path) + \"/\").startswith(tuple(inside)))", "True", "test_ends.Places.test_temporary_folders_in_which_no_program_runs"),
     Guard("ends: a make that was killed", "failed.py", "if one.base is not None and target not in one.base.recipes:", "if target not in (one.base or Base()).recipes:", "test_failed.Failed.test_make_that_was_killed"),

@@ -77,10 +77,11 @@ class Signals(unittest.TestCase):
         self.stopped(signal.SIGQUIT, True)
         self.stopped(signal.SIGQUIT)
 
-    def test_signals_of_batch_systems(self) -> None:
-        for number in (signal.SIGUSR1, signal.SIGXCPU):
-            with self.subTest(number):
-                self.stopped(number, True)
+    def test_signal_of_a_batch_system(self) -> None:
+        self.stopped(signal.SIGXCPU, True)
+
+    def test_signal_that_ends_no_make(self) -> None:
+        self.stopped(signal.SIGUSR1, True)
 
     def test_interrupted_at_a_terminal(self) -> None:
         self.stopped(signal.SIGINT, True)
