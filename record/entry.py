@@ -16,7 +16,7 @@ from importlib import import_module
 from pathlib import Path
 from typing import Iterator, List
 
-STOPPING = (signal.SIGINT, signal.SIGTERM, signal.SIGHUP, signal.SIGQUIT)
+STOPPING = (signal.SIGINT, signal.SIGTERM, signal.SIGHUP, signal.SIGQUIT, signal.SIGALRM, signal.SIGUSR1, signal.SIGUSR2, signal.SIGXCPU)  # the last ones by batch systems
 UNHEARD: List[signal.Signals] = []  # what this program hears, and its caller ignores, as a build would
 FAILED = 3
 SHORT = 100  # bytes of a path that may stand in the first line of a script

@@ -20,6 +20,7 @@ if TYPE_CHECKING:
     from record.make.graph import Build
 
 ROOMS = "/tmp" if os.path.isdir("/tmp") else None  # where temporary folders are made
+NO_ROOM = "no folder for temporary files lets programs run (%s: they are mounted with noexec, or not for you): name one by TMPDIR that is not in the project"
 NAMES = 12  # so many of the targets that were there before are named
 FOUND = 3  # so many names of a folder that is no record
 
@@ -185,6 +186,26 @@ def alone(folder: Path) -> Iterator[None]:
         except OSError as fault:
             raise Taken("another race-record makes the record %s now: wait until it has ended, or let one of the two build in a copy of the project" % folder) from fault
         yield
+
+
+def runs_programs(folder: str) -> bool:
+    """Whether who runs this may make a program in a folder, and run it there."""
+    try:
+        return os.access(folder, os.W_OK | os.X_OK) and not os.statvfs(folder).f_flag & os.ST_NOEXEC
+    except OSError:
+        return False
+
+
+def rooms_of_programs() -> List[str]:
+    """Folders for temporary files, those that are made for them first. The recorder's make runs from there, and many systems mount /tmp with noexec."""
+    named = ("/tmp", os.environ.get("TMPDIR", ""), "/var/tmp", os.environ.get("XDG_RUNTIME_DIR", ""), "/dev/shm", os.path.expanduser("~/.cache"))
+    return [path for path in named if os.path.isabs(path) and os.path.isdir(path)]
+
+
+def room_of_programs(tops: List[str]) -> Optional[str]:
+    """The first one in which programs run, and which is no part of the project."""
+    inside = [os.path.realpath(top).rstrip("/") + "/" for top in tops]
+    return next((path for path in rooms_of_programs() if runs_programs(path) and (path == ROOMS or not (os.path.realpath(path) + "/").startswith(tuple(inside)))), None)
 
 
 @contextmanager

@@ -21,7 +21,7 @@ from typing import Dict, List, Optional, Set, Tuple, cast
 
 from record import RELEASE, VERSION
 from record.entry import STOPPING, UNHEARD, Stopped, end_traced, interpreter, printable
-from record.folder import ROOMS, NotWhole, Record, Taken, accept_warm, alone, aside, is_record, reading, rewrite, what_stands
+from record.folder import NO_ROOM, NotWhole, Record, Taken, accept_warm, alone, aside, is_record, reading, rewrite, room_of_programs, rooms_of_programs, what_stands
 from record.judge import find_race, judge, no_race
 from record.make.cover import Cover
 from record.make.options import forget_coerced
@@ -49,7 +49,7 @@ statuses: 0 safe, with --missing also nothing missing, 1 races or missing inputs
           2 no verdict on one of the two, 3 usage or a tool that is missing"""
 NOT_TRACED = ("strace may not follow processes here, so nothing was built (see its lines above). In a container allow it, such as docker run --cap-add=SYS_PTRACE; "
               "on a machine /proc/sys/kernel/yama/ptrace_scope must be less than 3")
-WRAPPER = ("record.make.limits", "record.make.lines", "record.make.options", "record.make.given", "record.make.copied", "record.make.outputs", "record.make.wrapper")
+WRAPPER = ("record.make.limits", "record.make.lines", "record.make.options", "record.make.given", "record.make.copied", "record.make.heard", "record.make.outputs", "record.make.wrapper")
 PROGRAM = """#!%s -ISBXutf8
 import marshal, os, sys
 try:
@@ -265,9 +265,12 @@ def attempt(options: argparse.Namespace, words: List[str], tools: Dict[str, str]
     for path in options.linked:
         names.share(path)
     kept = Kept.of(names)
-    room = Path(tempfile.mkdtemp(prefix="race-record-", dir=ROOMS))
+    rooms = room_of_programs(names.tops)
+    if rooms is None:
+        raise Missing(NO_ROOM % ", ".join(rooms_of_programs()))
+    room = Path(tempfile.mkdtemp(prefix="race-record-", dir=rooms))
     spool = Path(os.path.realpath(room))
-    cover = Cover(spool, real, ROOMS)
+    cover = Cover(spool, real, rooms)
     try:
         prepare_spool(spool, real, cover.past)
         cover.prepare(names.tops)

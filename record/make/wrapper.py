@@ -1,6 +1,6 @@
 """Stands in front of GNU make while a build is recorded.
 
-`race-record` compiles limits.py, lines.py, options.py, given.py, copied.py, outputs.py and this file for SPOOL/bin/make, first on PATH, a program of its own. It runs the real make (named
+`race-record` compiles limits.py, lines.py, options.py, given.py, copied.py, heard.py, outputs.py and this file for SPOOL/bin/make, first on PATH, a program of its own. It runs the real make (named
 in SPOOL/real) with words that let it say what it considers, takes make's own lines out of standard output again, into
 SPOOL/PID.make, and passes everything else on byte for byte. Queries (`make -n`, `-q`, `-t`, `-p`, `-v`, `-h`) and makes
 that were asked for debug words run untouched.
@@ -19,6 +19,7 @@ except ImportError:
 
 from record.make.copied import Copies, now
 from record.make.given import take_input
+from record.make.heard import USUAL, as_usual, end_as, hand_on
 from record.make.limits import Kept, keep, note_cut, note_past
 from record.make.lines import REMOVING, TOKENS, VERSION, about_job, is_aside, is_folder, is_included, is_look, is_unloaded, is_word, may_go_on, named, place_of_end, place_of_start, remade, started
 from record.make.options import WORDS, asked, asks_jobs, forget_coerced, jobs_of_call, plain_args, speak_english, without_words
@@ -26,7 +27,6 @@ from record.make.outputs import file_of, goes_to, is_closed, is_one_file, note_o
 
 SIZE, SET_SIZE = 1 << 20, 1031  # bytes of the pipe, and what asks for them
 LONG = 4096  # bytes: a longer text comes in pieces
-USUAL = [signal.SIGPIPE, signal.SIGXFSZ]  # signals that are not ignored for make, as far as this program knows
 REAPING = b"Reaping winning child 0x"
 BASE, END_OF_BASE = b"# Make data base, printed on", b"# Finished Make data base on"
 
@@ -313,12 +313,6 @@ def head_of(args: "list[str]", flags: str, below: bool, slots: str, where: str, 
     return "".join("%s %s\n" % (key, text.replace("\n", " ")) for key, text in lines).encode("utf-8", "surrogateescape")
 
 
-def as_usual() -> None:
-    """Signals that Python or this program ignores do what they do without them."""
-    for one in USUAL:
-        signal.signal(one, signal.SIG_DFL)
-
-
 def run_logged(spool: str, name: str, real: str, args: "list[str]", flags: str, below: bool, slots: str) -> int:
     """Runs make with the recorder's words and keeps what it says; gives its raw status."""
     extra, spoken = WORDS + (["-j1"] if asks_jobs(args, flags) else []), speak_english(os.environ)
@@ -338,7 +332,7 @@ def run_logged(spool: str, name: str, real: str, args: "list[str]", flags: str, 
             os.dup2(writing, 2)
         os.dup2(writing, 1)
         os.execv(real, [name] + args[:split] + extra + args[split:])
-    signal.signal(signal.SIGTERM, lambda *_: os.kill(child, signal.SIGTERM))
+    hand_on(child)
     with open_log(spool, child) as log:
         note_start(log.name, real, name, args)
         log.write(head_of(args, flags, below, slots, where, path, errors, spoken))
@@ -392,9 +386,5 @@ def main(spool: str) -> None:
         raw = run_logged(spool, name, real, args, flags, below, slots)
     except OSError as error:  # the disk is full: make is not seen any more, so the build fails
         sys.exit("race-record: what make says cannot be kept: %s" % error)
-    if os.WIFSIGNALED(raw):
-        if os.WTERMSIG(raw) != signal.SIGKILL:
-            signal.signal(os.WTERMSIG(raw), signal.SIG_DFL)
-        os.kill(os.getpid(), os.WTERMSIG(raw))
-    sys.exit(os.WEXITSTATUS(raw))
+    sys.exit(end_as(raw))
 

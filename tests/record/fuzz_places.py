@@ -23,9 +23,9 @@ from typing import IO, Dict, List, Mapping, Optional, Tuple, Union
 INPUTS = ("nothing", "file", "text", "open", "socket", "closed", "terminal")
 ENDLESS = ("open", "terminal")  # who reads there waits
 OUTPUTS = ("apart", "apart", "joined", "files", "no errors", "no output", "terminal")
-LIMITS = ("-s 256", "-s unlimited", "-f 200000", "-v 8000000", "-c 0", "-c unlimited", "-t 600", "-p 600", "-l 64", "-d 4000000", "-r 0")
+LIMITS = ("-s 256", "-s unlimited", "-f 200000", "-c 0", "-c unlimited", "-t 600", "-p 600", "-l 64", "-r 0")
 # How the command is called: words before it, and what a caller such as cron sets.
-CALLS = ("sh -c '\"$@\"' sh", "env", "timeout 100", "bash -c '\"$@\"; exit $?' bash", "sh -c '\"$@\" | cat' sh", "sh -c '\"$@\" & wait $!' sh", "xargs -a /dev/null", "nohup", "stdbuf -oL", "setsid -w", "unshare -m")
+CALLS = ("sh -c '\"$@\"' sh", "env", "timeout 100", "bash -c '\"$@\"; exit $?' bash", "sh -c '\"$@\" | cat' sh", "sh -c '\"$@\" & wait $!' sh", "xargs -a /dev/null", "nohup", "stdbuf -oL", "setsid -w")
 OURS = ("N", "J", "RACE", "ASAN_OPTIONS")  # of the fuzzer
 CRON = {"PATH": "/usr/bin:/bin", "SHELL": "/bin/sh", "LOGNAME": "x"}
 USER = 1000
@@ -261,6 +261,6 @@ def draw_place(seed: int, is_later: bool, switches: bool) -> Place:
     place.ignored = chance.choice((["INT"], ["INT", "QUIT"], ["HUP"], ["TERM", "USR1"], ["CHLD"])) if seldom(0.2) else []
     place.above = seldom(0.2)
     place.limits = chance.sample(LIMITS, chance.choice((1, 2))) if seldom(0.2) else []
-    place.call = chance.choice(CALLS if not place.user else CALLS[:-1]) if seldom(0.3) else ""
+    place.call = chance.choice(CALLS) if seldom(0.3) else ""
     place.bare = seldom(0.15)
     return place

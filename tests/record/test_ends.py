@@ -17,7 +17,7 @@ from unittest import mock
 import forked
 import support
 from record import folder as places
-from record.entry import printable, reason
+from record.entry import STOPPING, printable, reason
 from record.folder import Taken, alone as alone_at, aside, come_back, move
 from record.trace.pipe import Pipe
 
@@ -28,7 +28,7 @@ SAFE = {"Makefile": "all: ; @touch all\n"}
 def alone() -> None:
     """A session of its own, in which signals do what they usually do."""
     os.setsid()
-    for number in (signal.SIGINT, signal.SIGTERM, signal.SIGHUP, signal.SIGQUIT):
+    for number in STOPPING:
         signal.signal(number, signal.SIG_DFL)
 
 
@@ -76,6 +76,12 @@ class Signals(unittest.TestCase):
     def test_quit(self) -> None:
         self.stopped(signal.SIGQUIT, True)
         self.stopped(signal.SIGQUIT)
+
+    def test_signal_of_a_batch_system(self) -> None:
+        self.stopped(signal.SIGXCPU, True)
+
+    def test_signal_that_ends_no_make(self) -> None:
+        self.stopped(signal.SIGUSR1, True)
 
     def test_interrupted_at_a_terminal(self) -> None:
         self.stopped(signal.SIGINT, True)
@@ -128,6 +134,16 @@ class Places(unittest.TestCase):
             self.ends(project, "no/such/record: No such file or directory; there is no verdict", ("-o", "no/such/record", "--", "make"))
             self.ends(project, "file is there and is no record", ("-o", "file", "--", "make"))
             self.assertFalse((project.folder / "all").exists())
+
+    def test_temporary_folders_in_which_no_program_runs(self) -> None:
+        """/tmp is often mounted so: the recorder's make runs from another one, which is no part of the project."""
+        files = {"Makefile": 'all: ; @echo "$${PATH%%/bin:*}" > all\n'}
+        with support.Project(files) as project, mock.patch("record.folder.runs_programs", lambda path: path != "/tmp"):
+            with mock.patch.dict(os.environ, TMPDIR=os.fspath(project.folder)):
+                self.assertEqual(0, project.record().status)
+            self.assertEqual("/var/tmp", os.path.dirname((project.folder / "all").read_text()))
+        with support.Project(SAFE) as project, mock.patch("record.folder.runs_programs", lambda path: False):
+            self.ends(project, "no folder for temporary files lets programs run (/tmp, ", ("--", "make"))
 
     def test_records_that_cannot_be_judged_again(self) -> None:
         for text, says in (("", "is no whole record"), ("[]", "is no whole record"), ("{}", "is of another version"), ('{"version": "0"}', "is of another version"),

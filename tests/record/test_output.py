@@ -147,6 +147,15 @@ class Output(unittest.TestCase):
             outcome = project.record()
         self.assertEqual(["serial"], [one["kind"] for one in (outcome.record or {})["assumptions"]])
 
+    def test_signals_that_a_recipe_sends_to_a_make(self) -> None:
+        """Who started it knows one number, and make ends as it does without the recorder."""
+        send = ("import os, signal, subprocess, sys, time\nsignal.signal(getattr(signal, sys.argv[1]), signal.SIG_DFL)\nmake = subprocess.Popen(['make', '-s', '-f', 'in.mk'])\nwhile not os.path.exists('begun'):\n    time.sleep(0.01)\n"
+                "make.send_signal(getattr(signal, sys.argv[1]))\nprint(make.wait())\n")
+        for name in ("SIGHUP", "SIGINT", "SIGTERM", "SIGUSR2"):
+            with self.subTest(name):
+                inner = "all: x y\nx: ; @echo a > x; : > begun; sleep 0.3; echo b >> x\ny: ; @echo y > y\n"
+                self.assertEqual(2, self.both("all: ; @python3 send.py %s > status; sleep 0.5\n" % name, send_py=send, in_mk=inner))
+
     def test_input_and_standard_error(self) -> None:
         with support.Project({"Makefile": "all: ; @echo error >&2; echo out\n"}) as project:
             outcome = project.record()
