@@ -48,40 +48,56 @@ def hear() -> None:
             signal.signal(one, stop)
 
 
+def read_of(pid: str, name: str) -> bytes:
+    """What the kernel shows of a process; nothing where it has ended, or is of another user."""
+    try:
+        with open("/proc/%s/%s" % (pid, name), "rb") as file:
+            return file.read()
+    except OSError:
+        return b""
+
+
 def traced(tracer: int) -> Iterator[int]:
     """The processes that a tracer follows: those whose parents have ended, too."""
-    for pid in filter(str.isdigit, os.listdir("/proc")):
-        try:
-            with open("/proc/%s/status" % pid, "rb") as file:
-                if b"\nTracerPid:\t%d\n" % tracer in file.read():
-                    yield int(pid)
-        except OSError:  # it has ended
-            pass
+    return (int(pid) for pid in filter(str.isdigit, os.listdir("/proc")) if b"\nTracerPid:\t%d\n" % tracer in read_of(pid, "status"))
 
 
-def first_traced(strace: "subprocess.Popen[bytes]") -> List[int]:
-    """The processes that strace follows. It may have just begun, and then follows none yet."""
+def left_of(room: str) -> Iterator[int]:
+    """The processes of a build whose tracer has ended before them: their PATH begins in the folder that the recorder has for it."""
+    return (int(pid) for pid in filter(str.isdigit, os.listdir("/proc")) if os.fsencode("PATH=%s/" % room) in read_of(pid, "environ"))
+
+
+def to_end(strace: "subprocess.Popen[bytes]", room: str) -> List[int]:
+    """The processes of a build. strace may have just begun, and then follows none yet; a signal to all may have ended it, and not them."""
     until = time.monotonic() + PATIENCE
     while True:
-        found = list(traced(strace.pid))
-        if found or strace.poll() is not None or time.monotonic() > until:
+        is_over = strace.poll() is not None
+        found = list(left_of(room) if is_over else traced(strace.pid))
+        if found or is_over or time.monotonic() > until:
             return found
         time.sleep(0.02)
 
 
-def end_traced(strace: "subprocess.Popen[bytes]") -> None:
-    """Ends all that strace follows, and so strace, which hears no signal itself."""
+def have_ended(strace: "subprocess.Popen[bytes]", room: str) -> bool:
+    """Whether strace, and all processes of the build that it does not follow any more, end in time."""
+    until = time.monotonic() + PATIENCE
+    while time.monotonic() < until:
+        if strace.poll() is not None and not any(left_of(room)):
+            return True
+        time.sleep(0.02)
+    return False
+
+
+def end_traced(strace: "subprocess.Popen[bytes]", room: str) -> None:
+    """Ends all processes of a build, and so strace, which hears no signal itself."""
     for number in (signal.SIGTERM, signal.SIGKILL):
-        for pid in first_traced(strace):
+        for pid in to_end(strace, room):
             try:
                 os.kill(pid, number)
             except OSError:  # it has ended, or is of another user
                 pass
-        try:
-            strace.wait(PATIENCE)
+        if have_ended(strace, room):
             return
-        except subprocess.TimeoutExpired:
-            pass
     strace.kill()
     strace.wait()
 

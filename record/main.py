@@ -178,7 +178,7 @@ def run_build(words: List[str], spool: Path, tops: List[str], cover: Cover) -> T
             signal.pthread_sigmask(signal.SIG_SETMASK, held)
             status, seconds = process.wait(), time.monotonic() - began
         except BaseException:
-            end_traced(process)
+            end_traced(process, str(spool))
             raise
         finally:
             ended.set()

@@ -10,6 +10,7 @@ import threading
 import time
 import unittest
 from concurrent.futures import ThreadPoolExecutor
+from contextlib import suppress
 from pathlib import Path
 from typing import Optional, Sequence
 from unittest import mock
@@ -50,8 +51,32 @@ def is_alive(pid: str) -> bool:
         return False
 
 
+def child_of(pid: int) -> int:
+    """The only process that a process has started."""
+    for one in filter(str.isdigit, os.listdir("/proc")):
+        with suppress(OSError):  # it has ended
+            if Path("/proc", one, "stat").read_text().rpartition(")")[2].split()[1] == str(pid):
+                return int(one)
+    raise AssertionError("nothing was started by %d" % pid)
+
+
 class Signals(unittest.TestCase):
     """A signal while a build runs."""
+
+    def test_strace_that_ended_before_the_build(self) -> None:
+        """A signal to a whole group ends it, and may not reach what it follows."""
+        with support.Project(SLOW) as project:
+            process = started(project)
+            process.send_signal(signal.SIGSTOP)
+            os.kill(child_of(process.pid), signal.SIGKILL)
+            process.send_signal(signal.SIGTERM)
+            process.send_signal(signal.SIGCONT)
+            status = process.wait(60)
+            left = [pid for pid in (project.folder / "pids").read_text().split() if is_alive(pid)]
+            for pid in left:
+                os.kill(int(pid), signal.SIGKILL)
+            process.communicate(timeout=60)
+        self.assertEqual((3, []), (status, left))
 
     def stopped(self, number: int, to_all: bool = False) -> None:
         with support.Project(SLOW) as project:
