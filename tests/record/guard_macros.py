@@ -2,7 +2,7 @@
 
 from typing import List
 
-from guard_table import COARSE, FALSE_RACE, LOST_HOLE, SHOWN, UNSAID, YES, Guard
+from guard_table import COARSE, FALSE_RACE, LOST_HOLE, SAID, SHOWN, UNSAID, YES, Guard
 
 
 def macro(name: str) -> str:
@@ -97,9 +97,10 @@ MACRO_GUARDS: List[Guard] = [
     Guard("loops: over macros of others with computed names", MACROS, "self.bound & {name, ANY}:", "self.bound & {name}:", macro("loop_over_a_macro_of_a_computed_loop"), YES, COARSE),
     Guard("loops: behind two signs", MACROS, "and is_loop and not re.search", "and not re.search", macro("loop_behind_two_signs"), YES, COARSE),
     Guard("functions: names that are put together by others", MACROS, " or any(map(self.makes_name, self.all_texts()))", "", macro("function_whose_name_is_put_together"), YES, SHOWN),
-    Guard("functions: names that are nowhere", MACROS, "self.is_used or any(COMPUTED.search(text) for text in texts)", "self.is_used or False", macro("function_that_a_file_names"), YES),
+    Guard("functions: names that are nowhere", MACROS, "self.is_used or any(COMPUTED.search(text) for text in texts)", "self.is_used or False", macro("function_that_a_file_names"), YES, SAID),
     Guard("functions: of exported macros", MACROS, "if EVAL.search(self.text_of(name)) or COMPUTED.search(self.text_of(name))}", "if EVAL.search(self.text_of(name))}", macro("function_of_an_exported_macro"), YES),
-    Guard("assignments: a macro that is called define", BASE, '(?![ \\t]*(?:[+?!]|:{1,3})?=)"', '"', macro("macro_of_lines_for_a_while_behind_one_that_is_called_define"), YES),
+    Guard("assignments: a macro that is called define", BASE, '(?![ \\t]*(?:[+?!]|:{1,3})?=)"', '"', macro("macro_of_lines_for_a_while_behind_one_that_is_called_define"), YES,
+          (ASSIGNED, "        yield from all_defined(body)\n", "")),
     Guard("data base: lines behind a tab", BASE, 'LEVEL = re.compile(r"(?!\\t)', 'LEVEL = re.compile(r"', macro("macro_of_lines_for_a_while_with_a_tab"), YES, SHOWN),
     Guard("data base: lines behind the last one", BASE, "self.goes_on = not self.depth", "self.goes_on = False", macro("macro_of_lines_with_a_tab"), YES, (BASE, 'LEVEL = re.compile(r"(?!\\t)', 'LEVEL = re.compile(r"'), SHOWN),
     Guard("data base: lines that go on", BASE, "LEVEL.match(text) if not is_continued(previous) else None", "LEVEL.match(text)", text("lines_that_go_on")),

@@ -2,7 +2,7 @@
 
 from typing import List
 
-from guard_table import COARSE, FALSE_RACE, SHOWN, YES, Guard
+from guard_table import COARSE, FALSE_RACE, SAID, SHOWN, YES, Guard
 
 
 def rare(name: str) -> str:
@@ -28,7 +28,7 @@ RARE_GUARDS: List[Guard] = [
     Guard("macros: those that no exported one refers to", "make/macros.py", "found = {name for name in self.texts if self.is_exported(name)}", "found = {*self.texts}",
           rare("macro_that_no_exported_one_names"), FALSE_RACE),
     Guard("functions: eval whose name is put together", "make/macros.py", "one in text or composes(text, one)", "one in text", rare("eval_whose_name_is_put_together"), YES,
-          ("make/macros.py", "self.is_used or any(COMPUTED.search(text) for text in texts)", "self.is_used or False")),
+          ("make/macros.py", "self.is_used or any(COMPUTED.search(text) for text in texts)", "self.is_used or False"), SAID),
     Guard("functions: eval whose name is put together, among others", "make/macros.py", ' or any(composes("\\n".join(found), one) for one in CHANGES)', "", rare("eval_whose_name_is_put_together"), YES, SHOWN),
     Guard("loops: names of macros", "make/macros.py", "if words is not None and is_loop and not re.search", "if False and not re.search", rare("loop_over_names_of_macros"), FALSE_RACE, COARSE),
     Guard("loops: names in another macro", "make/macros.py", "found |= words.union(*(other or () for other in others))", "found |= words", rare("loop_over_names_in_another_macro"), YES, SHOWN),

@@ -85,8 +85,8 @@ class Signals(unittest.TestCase):
             process = started(project)
             self.assertFalse((project.folder / ".race").exists())  # the build does not see it
             os.killpg(process.pid, number) if to_all else process.send_signal(number)
+            self.assertEqual(3, process.wait(60))
             _, said = process.communicate(timeout=60)
-            self.assertEqual(3, process.returncode, said)
             self.assertEqual("race-record: stopped by %s; there is no verdict" % signal.Signals(number).name, said.decode().splitlines()[-1])
             self.assertEqual("older\n", (project.folder / ".race" / "record.json").read_text())
             self.assertFalse([pid for pid in (project.folder / "pids").read_text().split() if is_alive(pid)])
