@@ -165,7 +165,7 @@ def add_folders(builder: "Builder") -> None:
     makers = {path: Makers(folder.strict | folder.quiet, {*folder.gone}) for path, folder in table.items()}
     for path, folder in table.items():
         add_folder(builder, path, folder)
-    add_listed(builder, makers)
+    add_listed(builder, makers, {path: folder.first_made for path, folder in table.items()})
     add_times(builder)
     add_modes(builder)
 
@@ -271,17 +271,18 @@ def mark(builder: "Builder", name: str, meaning: str, readers: Set[int], writers
         builder.build.meanings[name] = meaning
 
 
-def add_listed(builder: "Builder", table: Dict[str, Makers]) -> None:
-    """A listing sees the folders that recipes make in it."""
+def add_listed(builder: "Builder", table: Dict[str, Makers], first_made: Dict[str, Dict[int, int]]) -> None:
+    """A listing sees the folders that recipes make in it; that of a task which makes one itself, only where it lists first."""
     inside: Dict[str, List[str]] = {}
     for name in table:
         inside.setdefault(os.path.dirname(name), []).append(name)
-    for at, path in ((at, path) for at, events in each(builder) for kind, path, _ in events if kind == LISTED):
+    for at, path, place in ((at, path, place) for at, events in each(builder) for kind, path, place in events if kind == LISTED):
         where, pattern = path.split("\0")
         for name in (name for name in inside.get(where, ()) if matches(os.path.basename(name), pattern)):
             made, gone = table[name]
-            makers = gone if was_there(builder, name) else made | gone
-            if at not in makers and (gone - {at} or not any(builder.build.is_before(m, at) for m in makers)):
+            makers = (gone if was_there(builder, name) else made | gone) - {at}
+            is_own = at in gone or at in made and first_made[name].get(at, -1) < place
+            if not is_own and (gone or not any(builder.build.is_before(m, at) for m in makers)):
                 seen(builder, name, at, makers)
 
 

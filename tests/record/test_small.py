@@ -121,6 +121,11 @@ SMALL: Dict[str, Small] = {
     "folders_made_by_pm_to_blib": Small("safe", "all: d/auto/A/a d/a\nd/a: ; perl -MExtUtils::Install -e \"pm_to_blib({@ARGV}, 'd/auto', q[], '755')\" -- A.pm d/A.pm; touch $@\n"
                                         "d/auto/A/a: ; perl -MExtUtils::Command -e mkpath -- $(@D); touch $@\n", {"A.pm": "package A;\nuse AutoLoader;\n1;\n__END__\n"}, setup="umask 022"),
     "folders_of_a_perl_that_nobody_knows": Small("race", "all: d/a d/b\nd/a d/b: ; perl -e '-d \"d\" or mkdir \"d\"'; touch $@\n"),
+    "folder_that_is_listed_first": Small("race", "all: a b\na: ; ls p > a; mkdir -p p/q\nb: ; mkdir -p p/q; touch b\n", {"p/k": ""}),
+    "folder_that_is_listed_first_by_one_who_does_not_mind": Small("race", "all: a b\na:\n\techo p/* > a\n\tmkdir p/q 2> /dev/null || true\nb: ; mkdir p/q 2> /dev/null || true; touch b\n", {"p/k": ""}),
+    "folder_that_is_listed_first_in_order": Small("safe", "all: a b\na: ; ls p > a; mkdir -p p/q\nb: a ; mkdir -p p/q; touch b\n", {"p/k": ""}),
+    "folder_that_is_listed_first_behind_another": Small("safe", "all: a b\na: b ; ls p > a; mkdir -p p/q\nb: ; mkdir -p p/q; touch b\n", {"p/k": ""}),
+    "folder_that_is_listed_later": Small("safe", "all: a b\na: ; mkdir -p p/q; ls p > a\nb: ; mkdir -p p/q; touch b\n", {"p/k": ""}),
     "folder_of_two_modes": Small("race", "all: a b\na: ; mkdir -p -m 700 d; touch a\nb: ; mkdir -p d; touch b\n"),
     "folder_of_one_mode": Small("safe", "all: a b\na: ; umask 022; mkdir -p -m 755 d; touch a\nb: ; umask 022; mkdir -p d; touch b\n"),
     # ages that are taken over
