@@ -30,6 +30,7 @@ NAME_ASKED = "s"  # a kind of event of this module alone: a decision of make ask
 OWN_LOOKS = SEEN + NAME_ASKED + ABSENT  # at the folder's own name
 USES = SEEN + NAME_ASKED + READ + WRITTEN + ENTERED + LISTED  # what needs the folder
 TOUCHES = READ + SEEN + TREE_CHANGES + MADE_BEFORE + ENTERED + LISTED  # what needs the folders above a name
+FOR_IMPORTS, OF_PYTHON = "*/", "*.pyc"  # Python asks for both where it imports
 SEARCH = 0o100  # without this bit of a folder nobody but root finds what is in it
 
 
@@ -272,23 +273,26 @@ def mark(builder: "Builder", name: str, meaning: str, readers: Set[int], writers
 
 
 def add_listed(builder: "Builder", table: Dict[str, Makers], first_made: Dict[str, Dict[int, int]]) -> None:
-    """A listing sees the folders that recipes make in it; that of a task which makes one itself, only where it lists first."""
+    """A listing sees the folders that recipes make in it; that of a task which makes one itself, only where it lists first, and not for a module."""
     inside: Dict[str, List[str]] = {}
     for name in table:
         inside.setdefault(os.path.dirname(name), []).append(name)
-    for at, path, place in ((at, path, place) for at, events in each(builder) for kind, path, place in events if kind == LISTED):
-        where, pattern = path.split("\0")
-        for name in (name for name in inside.get(where, ()) if matches(os.path.basename(name), pattern)):
-            made, gone = table[name]
-            makers = (gone if was_there(builder, name) else made | gone) - {at}
-            is_own = at in gone or at in made and first_made[name].get(at, -1) < place
-            if not is_own and (gone or not any(builder.build.is_before(m, at) for m in makers)):
-                seen(builder, name, at, makers)
+    for at, events in each(builder):
+        lists = {path: place for kind, path, place in events if kind == LISTED}
+        for path, place in lists.items():
+            where, pattern = path.split("\0")
+            is_import = pattern == FOR_IMPORTS and where + "\0" + OF_PYTHON in lists
+            for name in (name for name in inside.get(where, ()) if matches(os.path.basename(name), pattern)):
+                made, gone = table[name]
+                makers = (gone if was_there(builder, name) else made | gone) - {at}
+                is_own = at in gone or at in made and (is_import or first_made[name].get(at, -1) < place)
+                if not is_own and (gone or not any(builder.build.is_before(m, at) for m in makers)):
+                    seen(builder, name, at, makers)
 
 
 def matches(name: str, pattern: str) -> bool:
-    """Whether a pattern can match the name of a folder; with a slash behind it, that of no file. `*/` is what Python asks for where it imports."""
-    return name != "__pycache__" if pattern == "*/" else fnmatch.fnmatchcase(name, pattern.rstrip("/"))
+    """Whether a pattern can match the name of a folder; with a slash behind it, that of no file."""
+    return name != "__pycache__" if pattern == FOR_IMPORTS else fnmatch.fnmatchcase(name, pattern.rstrip("/"))
 
 
 def add_times(builder: "Builder") -> None:

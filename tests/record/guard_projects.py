@@ -2,7 +2,7 @@
 
 from typing import List
 
-from guard_table import COPIES, FALSE_RACE, LOST_HOLE, LOST_RACE, UNSAID, YES, Guard
+from guard_table import COPIES, FALSE_RACE, LISTED_FIRST, LOST_HOLE, LOST_RACE, UNSAID, YES, Guard
 
 
 def project(name: str) -> str:
@@ -244,8 +244,8 @@ PROJECT_GUARDS: List[Guard] = [
     Guard("Python: folders that may be there", "tools/python.py", "is_quiet = settle_made(life, own if sources else sorted(modules_of(life)), read_at(life, sources), written)", "is_quiet = False", makedirs("that_may_be_there"), FALSE_RACE),
     Guard("Python: folders that may not be there", "tools/makedirs.py", 'forms.is_quiet and has(call, "exist_ok")', "forms.is_quiet", makedirs("of_which_one_part_may_not_be_there"), YES),
     Guard("Python: folders: other looks", "tools/makedirs.py", "forms.looks or token.string in LOOKS", "forms.looks", makedirs("that_the_program_looks_for_first"), YES),
-    Guard("Python: folders: search paths", "tools/makedirs.py", ' or [one.string for one in tokens[at:at + 3]] == ["sys", ".", "path"]', "", makedirs("in_which_modules_are_looked_for"), YES),
-    Guard("Python: folders: looks before the script", "tools/python.py", "read_at(life, sources), written)", "life.begun, written)", makedirs("in_which_modules_are_looked_for"), YES),
+    Guard("Python: folders: search paths", "tools/makedirs.py", ' or [one.string for one in tokens[at:at + 3]] == ["sys", ".", "path"]', "", makedirs("in_which_modules_are_looked_for"), YES, LISTED_FIRST),
+    Guard("Python: folders: looks before the script", "tools/python.py", "read_at(life, sources), written)", "life.begun, written)", makedirs("in_which_modules_are_looked_for"), YES, LISTED_FIRST),
     Guard("Python: folders: texts that nobody has read", "tools/makedirs.py", "forms.is_quiet and token.string not in OTHERS and", "forms.is_quiet and", makedirs("texts")),
     Guard("Python: folders: computed names", "tools/makedirs.py", " and not is_hidden([one.string for one in tokens[at:at + 3]])", "", makedirs("texts")),
     Guard("Python: folders: names for makers", "tools/makedirs.py", "not (in_import and is_plain(tokens[at + 1].string))", "not in_import", makedirs("texts")),

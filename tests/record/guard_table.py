@@ -45,6 +45,9 @@ class Guard:
         return [module for module, _, _ in self.edits()]
 
 
+# What turns off that who makes a folder, and lists first, sees whether another has made it.
+LISTED_FIRST = ("make/folders.py", "(is_import or first_made[name].get(at, -1) < place)", "True")
+
 # What turns off that the data base shows which macros recipes have changed.
 SHOWN = ("make/used.py", "    if seen:\n", "    if False:\n")
 
@@ -281,8 +284,9 @@ OWNERS: List[Guard] = [
     Guard("said: recipes that leave their target alone", "make/build.py", 'self.assumed.add("unwritten", node.name)', "pass", small("unwritten"), UNSAID),
     Guard("said: recipes that nothing asked for", "importing.py", 'assumed.add("unasked", name)', "pass", small("unasked"), UNSAID),
     Guard("said: names outside of the project", "trace/replay.py", "            self.outside[path.rstrip(\"/\")] = None\n", "            pass\n", small("outside"), UNSAID),
-    Guard("folders: listed before the task makes them itself", "make/folders.py", "is_own = at in gone or at in made and first_made[name].get(at, -1) < place", "is_own = at in gone or at in made", small("folder_that_is_listed_first"), YES),
-    Guard("folders: listed when the task has made them itself", "make/folders.py", "is_own = at in gone or at in made and first_made[name].get(at, -1) < place", "is_own = at in gone", small("folder_that_is_listed_later"), FALSE_RACE),
+    Guard("folders: listed before the task makes them itself", "make/folders.py", "(is_import or first_made[name].get(at, -1) < place)", "True", small("folder_that_is_listed_first"), YES),
+    Guard("folders: listed when the task has made them itself", "make/folders.py", "(is_import or first_made[name].get(at, -1) < place)", "False", small("folder_that_is_listed_later"), FALSE_RACE),
+    Guard("folders: no list for a module", "make/folders.py", "(is_import or first_made[name].get(at, -1) < place)", "first_made[name].get(at, -1) < place", small("folder_that_is_listed_for_modules_first"), FALSE_RACE),
     Guard("said: scripts that make folders", "trace/calls.py", 'self.makers.append(" ".join(script)[:60])', "pass", small("makers"), UNSAID),
     Guard("scripts that make folders are quiet", "trace/replay.py", "if kind == SEEN and not life.is_make and", "if False and", small("makers"), FALSE_RACE),
     Guard("scripts that make folders: no other folder", "tools/shelltext.py", "    return any(is_on_the_way(folder, name)", "    return True or any(is_on_the_way(folder, name)", small("makers_of_another_folder"), YES),
