@@ -39,6 +39,7 @@ PLACE_GUARDS: List[Guard] = [
     Guard("places: a path of Python that no script can name", "entry.py", "if len(os.fsencode(path)) < SHORT and not set(path) & set(\" \\t\\n\"):", "if True:", "test_entry.Python.test_paths_that_no_script_can_name"),
     Guard("signals: those that come for make", WRAPPER, "    hand_on(child)\n", "", "test_output.Output.test_signals_that_a_recipe_sends_to_a_make"),
     Guard("signals: an interrupt of make alone", "make/heard.py", " or one in USUAL:", ":", "test_output.Output.test_signals_that_a_recipe_sends_to_a_make"),
+    Guard("ends: what strace has left and lives on", "entry.py", " and not any(left_of(room)):", ":", "test_ends.Signals.test_what_does_not_hear_the_first_signal"),
     Guard("ends: what strace followed and has left", "entry.py", "list(left_of(room) if is_over else traced(strace.pid))", "list(traced(strace.pid))", "test_ends.Signals.test_strace_that_ended_before_the_build"),
     Guard("ends: the key that quits", "entry.py", ", signal.SIGQUIT, signal.SIGALRM", ", signal.SIGALRM", "test_ends.Signals.test_quit"),
     Guard("ends: signals of batch systems", "entry.py", ", signal.SIGUSR1, signal.SIGUSR2, signal.SIGXCPU)", ")", "test_ends.Signals.test_signal_of_a_batch_system"),

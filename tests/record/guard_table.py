@@ -286,6 +286,7 @@ OWNERS: List[Guard] = [
     Guard("said: names outside of the project", "trace/replay.py", "            self.outside[path.rstrip(\"/\")] = None\n", "            pass\n", small("outside"), UNSAID),
     Guard("folders: listed before the task makes them itself", "make/folders.py", "(is_import or first_made[name].get(at, -1) < place)", "True", small("folder_that_is_listed_first"), YES),
     Guard("folders: listed when the task has made them itself", "make/folders.py", "(is_import or first_made[name].get(at, -1) < place)", "False", small("folder_that_is_listed_later"), FALSE_RACE),
+    Guard("folders: listed where they are there", "make/folders.py", "if not is_own and (gone or not any(builder.build.is_before(m, at) for m in makers)):", "if not is_own:", small("folder_that_is_listed_first_and_there"), FALSE_RACE),
     Guard("folders: no list for a module", "make/folders.py", "(is_import or first_made[name].get(at, -1) < place)", "first_made[name].get(at, -1) < place", small("folder_that_is_listed_for_modules_first"), FALSE_RACE),
     Guard("said: scripts that make folders", "trace/calls.py", 'self.makers.append(" ".join(script)[:60])', "pass", small("makers"), UNSAID),
     Guard("scripts that make folders are quiet", "trace/replay.py", "if kind == SEEN and not life.is_make and", "if False and", small("makers"), FALSE_RACE),

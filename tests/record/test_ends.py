@@ -18,7 +18,7 @@ from unittest import mock
 import forked
 import support
 from record import folder as places
-from record.entry import STOPPING, printable, reason
+from record.entry import STOPPING, end_traced, printable, reason
 from record.folder import Taken, alone as alone_at, aside, come_back, move
 from record.trace.pipe import Pipe
 
@@ -91,6 +91,20 @@ class Signals(unittest.TestCase):
             self.assertEqual("older\n", (project.folder / ".race" / "record.json").read_text())
             self.assertFalse([pid for pid in (project.folder / "pids").read_text().split() if is_alive(pid)])
             self.assertFalse(os.path.exists((project.folder / "path").read_text().split(":")[0]))
+
+    def test_what_does_not_hear_the_first_signal(self) -> None:
+        """It is killed then, also where strace does not follow it any more."""
+        with tempfile.TemporaryDirectory() as room, mock.patch("record.entry.PATIENCE", 0.2), subprocess.Popen(["true"]) as strace:
+            strace.wait()
+            env = {**os.environ, "PATH": "%s/bin:%s" % (room, os.environ["PATH"])}
+            with subprocess.Popen(["sh", "-c", "trap '' TERM; echo; exec sleep 100"], env=env, stdout=subprocess.PIPE) as left:
+                assert left.stdout is not None
+                left.stdout.readline()  # it ignores the signal now
+                end_traced(strace, room)
+                time.sleep(0.1)
+                status = left.poll()
+                left.kill()
+        self.assertEqual(-signal.SIGKILL, status)
 
     def test_terminated(self) -> None:
         self.stopped(signal.SIGTERM)

@@ -125,6 +125,7 @@ SMALL: Dict[str, Small] = {
     "folder_that_is_listed_first_by_one_who_does_not_mind": Small("race", "all: a b\na:\n\techo p/* > a\n\tmkdir p/q 2> /dev/null || true\nb: ; mkdir p/q 2> /dev/null || true; touch b\n", {"p/k": ""}),
     "folder_that_is_listed_first_in_order": Small("safe", "all: a b\na: ; ls p > a; mkdir -p p/q\nb: a ; mkdir -p p/q; touch b\n", {"p/k": ""}),
     "folder_that_is_listed_first_behind_another": Small("safe", "all: a b\na: b ; ls p > a; mkdir -p p/q\nb: ; mkdir -p p/q; touch b\n", {"p/k": ""}),
+    "folder_that_is_listed_first_and_there": Small("safe", "all: a b c\na: b ; ls p > a; mkdir -p p/q\nb: ; mkdir -p p/q; touch b\nc: ; mkdir -p p/q; touch c\n", {"p/k": ""}),
     "folder_that_is_listed_later": Small("safe", "all: a b\na: ; mkdir -p p/q; ls p > a\nb: ; mkdir -p p/q; touch b\n", {"p/k": ""}),
     "folder_that_is_listed_for_modules_first": Small("safe", "all: a b\na b: ; python3 -S gen.py $@\n", {
         "gen.py": "import json, os, sys\nos.makedirs('out', exist_ok=True)\nopen('out/' + sys.argv[1], 'w').close()\nopen(sys.argv[1], 'w').close()\n"}),
