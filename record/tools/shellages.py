@@ -6,7 +6,7 @@ from functools import lru_cache
 from typing import List, Optional, Tuple
 
 from record.tools.shelltext import FORMAT_OF_STAT, KEPT, LARGE, SHELLS, TAKES_IN, base_name, contents, is_input, is_interpreter, script_of, shell_words, sourced
-from record.tools.texts import text_of
+from record.tools.texts import script_text, text_of
 from record.trace.system import OF_SYSTEM
 
 # Words of a shell's text, or of a program, that ask when a file was read last.
@@ -90,9 +90,9 @@ def tests_newer(path: str, argv: Tuple[str, ...], folder: str) -> bool:
 
 @lru_cache(KEPT)
 def tests_newer_in(path: str) -> Optional[bool]:
-    """Whether a text has such a test; None where it cannot be read. Each shell opens its libraries, so no file is read more than once."""
+    """Whether a text has such a test; None where it cannot be read. No file is read more than once."""
     try:
-        return NEWER.search(text_of(path, LARGE)) is not None
+        return NEWER.search(script_text(path, LARGE)) is not None
     except OSError:
         return None
 

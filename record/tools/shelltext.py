@@ -7,7 +7,7 @@ from functools import lru_cache
 from typing import Iterable, List, Optional, Set, Tuple
 
 from record.tools.golang import output_folder
-from record.tools.texts import text_of
+from record.tools.texts import script_text, text_of
 from record.trace.system import OF_SYSTEM
 
 KEPT, LARGE = 4096, 1 << 22  # how many files are remembered; how much of a script is read
@@ -353,7 +353,7 @@ def sets_options(argv: List[str], folder: str) -> bool:
 def sets_options_in(path: str) -> bool:
     """Whether a makefile or a script does so."""
     try:
-        return bool(SETS_OPTIONS.search(text_of(path, LARGE)))
+        return bool(SETS_OPTIONS.search(script_text(path, LARGE)))
     except OSError:
         return False
 

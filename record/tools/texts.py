@@ -5,6 +5,7 @@ import errno
 import os
 
 OF_PROCESS = ("/dev/fd/", "/dev/std", "/proc/")  # how names begin that lead each process elsewhere
+BINARY = "\x7fELF"  # how programs and libraries begin
 
 
 def is_plain(path: str) -> bool:
@@ -18,3 +19,8 @@ def text_of(path: str, limit: int = -1) -> str:
         raise OSError(errno.EINVAL, "is no plain file", path)
     with open(path, errors="replace") as file:
         return file.read(limit)
+
+
+def script_text(path: str, limit: int = -1) -> str:
+    """The same of a script or a makefile; nothing of a program or a library: each shell and each make opens those that it needs."""
+    return "" if text_of(path, len(BINARY)) == BINARY else text_of(path, limit)

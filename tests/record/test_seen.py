@@ -182,9 +182,9 @@ class Words(unittest.TestCase):
         self.assertEqual([True] * len(texts), [shellages.compares_ages(["sh", "-c", text], "/") for text in texts])
 
     def test_who_sets_options(self) -> None:
-        with support.Project({"s": "export -f show\n", "t": "export x\n"}) as project:
-            words = (["bash", "-c", "declare -fx show"], ["bash", "s"], ["bash", "t"], ["bash", "-c", "declare -f show"])
-            self.assertEqual([True, True, False, False], [shelltext.sets_options(argv, os.fspath(project.folder)) for argv in words])
+        with support.Project({"s": "export -f show\n", "t": "export x\n", "library": "\x7fELF export -f show\n"}) as project:
+            words = (["bash", "-c", "declare -fx show"], ["bash", "s"], ["bash", "t"], ["bash", "-c", "declare -f show"], ["bash", "library"])
+            self.assertEqual([True, True, False, False, False], [shelltext.sets_options(argv, os.fspath(project.folder)) for argv in words])
 
 
 if __name__ == "__main__":
