@@ -6,6 +6,8 @@ import re
 from functools import lru_cache
 from typing import List, Sequence, Tuple
 
+from record.tools.pynames import tree_of
+
 VERSION = re.compile(r"(?:.*/)?python3\.1[34]$")
 PLAIN = re.compile(r"-[bBEIOPqRsSu]*c?")  # options by which it takes in no more
 LOADED = frozenset(("builtins", "errno", "io", "os", "os.path", "sys", "time"))  # modules that are part of it, or that it has before it looks for any
@@ -29,12 +31,10 @@ def patterns(program: str, argv: Sequence[str], text: str) -> List[str]:
 @lru_cache(1024)
 def is_alone(text: str) -> bool:
     """Whether a text takes in no module but those which are there anyway."""
-    if MORE.search(text):
+    tree = tree_of(text) if not MORE.search(text) else None
+    if tree is None:
         return False
-    try:
-        nodes = [*ast.walk(ast.parse(text))]
-    except (SyntaxError, ValueError, RecursionError, MemoryError):
-        return False
+    nodes = [*ast.walk(tree)]
     named = [one.name for node in nodes if isinstance(node, ast.Import) for one in node.names]
     named += [node.module or "" for node in nodes if isinstance(node, ast.ImportFrom)]
     return LOADED.issuperset(named)

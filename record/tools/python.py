@@ -6,13 +6,13 @@ of the program lists folders.
 
 import os
 import re
-from typing import Dict, Iterator, List, Sequence, Set, Tuple
+from typing import Dict, Iterator, List, Mapping, Optional, Sequence, Set, Tuple
 
 from record.missing.looked import BYTE_CODE
-from record.tools import pystart, shelltext
+from record.tools import pynames, pystart, shelltext
 from record.tools.makedirs import settle_made
 from record.tools.texts import text_of
-from record.trace.events import ABSENT, AGE_SEEN, LISTED, MADE_QUIETLY, MAKER_SEEN, READ, SEEN, STRICT, WAY_ABSENT
+from record.trace.events import ABSENT, AGE_SEEN, FOLDER_KEPT, LISTED, MADE_QUIETLY, MAKER_SEEN, READ, SEEN, STRICT, TREE_CHANGES, WAY_ABSENT
 from record.trace.lives import Life
 
 PYTHON = re.compile(r"(?:.*/)?python[\d.]*$")
@@ -41,11 +41,12 @@ def settle(lives: List[Life], tops: Sequence[str] = ()) -> Iterator[Tuple[str, s
     for path, place in ((path, place) for life in lives for path, place in life.changed.items() if path.endswith(".py")) if known else ():
         written[path] = max(place, written.get(path, 0))
     others = {cache_of(path) for life in lives if not is_python(life) for _, path in life.events if CACHE in path}
+    changed = pynames.changed_in(lives, TREE_CHANGES + FOLDER_KEPT) if known else {}
     for life in known:
         names = [path for _, path in life.events if CACHE in path and cache_of(path) not in others and not is_of_system(path, tops)]
         sources = sources_of(life)
         own = own_sources(life, sources)
-        settle_lists(life, sources, own, written)
+        settle_lists(life, sources, own, written, changed)
         settle_code(life, others)
         is_quiet = settle_made(life, own if sources else sorted(modules_of(life)), read_at(life, sources), written)
         if names:
@@ -138,9 +139,9 @@ def is_named(path: str, texts: str) -> bool:
     return not package or re.search(r"\b%s\b" % re.escape(package), texts) is not None
 
 
-def settle_lists(life: Life, sources: Dict[str, int], own: List[str], written: Dict[str, int]) -> None:
+def settle_lists(life: Life, sources: Dict[str, int], own: List[str], written: Dict[str, int], changed: Optional[Mapping[str, Set[str]]] = None) -> None:
     """Lists of folders in which it finds modules, or of its own one where it is handed a text. A text that was written later may have
-    listed folders."""
+    listed folders. Where it is known which names came or went in the folders (`changed`), a list counts if it may take in one of them."""
     begun, text = read_at(life, sources), given_text(life)
     if text:
         sources, own = modules_of(life), [*modules_of(life)]
@@ -153,7 +154,8 @@ def settle_lists(life: Life, sources: Dict[str, int], own: List[str], written: D
         folder = path.partition("\0")[0]
         if (place > begun or is_all) and (way_of(life)[0] and folder == life.folder or any(os.path.dirname(source) == folder for source in sources)):
             del life.events[LISTED, path]
-            for pattern in wanted or MODULES:
+            is_asked = changed is None or way_of(life)[0] == "m" and not text or pynames.may_take_in(life, text, own, changed.get(folder, set()))
+            for pattern in wanted or (MODULES if is_asked else ()):
                 life.events.setdefault((LISTED, folder + "\0" + pattern), place)
 
 

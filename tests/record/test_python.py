@@ -6,7 +6,7 @@ import unittest
 from typing import Dict
 
 import support
-from record.tools import pystart
+from record.tools import pynames, pystart
 from record.tools.python import given_text, is_of_python, lists_folders, own_sources, settle, settle_lists, sources_of
 from record.trace.lives import Life
 
@@ -118,6 +118,23 @@ class Python(unittest.TestCase):
             life = Life(1, argv=["python3", "gen.py"], ran=[["python3", "gen.py"]], events={("R", str(project.folder / "gen.py")): 1, ("L", "%s\0*" % project.folder): 2})
             settled(life)
             self.assertEqual({"*.py", "*.pyc", "*.so", "*.pth", "*/"}, {path.partition("\0")[2] for kind, path in life.events if kind == "L"})
+
+    def test_names_that_its_statements_take_in(self) -> None:
+        """`t` holds the script, and a recipe makes names there that are modules for some scripts alone."""
+        more = "import argparse, logging\n" + SCRIPT
+        for made, script, status in (("mkdir t/build", more + "'build'\n", 0), ("touch t/libmore.so t/more.py t/x.txt", more, 0), ("mkdir t/html", more, 1), ("mkdir t/_x", more, 1), ("touch t/lib.so", more, 1),
+                                     ("mkdir t/build", more + "import asyncio\n", 1), ("mkdir t/build", more + "0 and help(lib)\n", 1)):
+            self.of("all: t/x.c a\na: ; %s; touch a\nt/x.c: ; python3 -S t/gen.py $@\n" % made, script, status)
+        self.of("all: a b\na: ; mkdir build; touch a\nb: ; python3 -S -c 'import json; print(1)' > b\n", SCRIPT, 0)
+
+    def test_whose_names_are_known(self) -> None:
+        for text, words, wanted in (("import json, os.path\nfrom . import a\nfrom lib import b as c\n", [], {"json", "os", "path", "a", "lib", "b", ""}), ("import json", ["-Eu"], {"json"}), ("import json", ["-W", "error::x.Y"], None),
+                                    ("import other", [], None), ("from logging import INFO, config", [], None), ("import xml.sax", [], None), ("print 1", [], None), ("# coding: utf-7\n", [], None), ("# coding: utf-8\n", [], set()),
+                                    ("x.__loader__", [], None), ("'\\d'", [], set()), ("x = 1\n" * 50000, [], None)):
+            with support.Project({"gen.py": text, "lib.py": ""}) as project:
+                life = Life(1, argv=["python3", *words, "gen.py"], program="/usr/bin/python3.11")
+                found = pynames.names_in(life, "", [str(project.folder / name) for name in ("gen.py", "lib.py")])
+                self.assertEqual(wanted if pynames.STANDARD else None, None if found is None else {*found}, (text[:30], words))
 
     def test_that_a_script_begins(self) -> None:
         for line, status in (("for f in /etc/pas*; do :; done", 0), ("echo t/*.c > /dev/null", 1)):
