@@ -9,7 +9,7 @@ import re
 from typing import Dict, Iterator, List, Sequence, Set, Tuple
 
 from record.missing.looked import BYTE_CODE
-from record.tools import pystart, shelltext
+from record.tools import pyages, pystart, shelltext
 from record.tools.makedirs import settle_made
 from record.tools.texts import text_of
 from record.trace.events import ABSENT, AGE_SEEN, LISTED, MADE_QUIETLY, MAKER_SEEN, READ, SEEN, STRICT, WAY_ABSENT
@@ -47,6 +47,7 @@ def settle(lives: List[Life], tops: Sequence[str] = ()) -> Iterator[Tuple[str, s
         own = own_sources(life, sources)
         settle_lists(life, sources, own, written)
         settle_code(life, others)
+        settle_looks(life, own if sources else sorted(modules_of(life)), read_at(life, sources), written)
         is_quiet = settle_made(life, own if sources else sorted(modules_of(life)), read_at(life, sources), written)
         if names:
             yield "bytecode", "%s: %s" % (" ".join(life.argv)[:60], names[0])
@@ -155,6 +156,16 @@ def settle_lists(life: Life, sources: Dict[str, int], own: List[str], written: D
             del life.events[LISTED, path]
             for pattern in wanted or MODULES:
                 life.events.setdefault((LISTED, folder + "\0" + pattern), place)
+
+
+def settle_looks(life: Life, texts: List[str], begun: int, written: Dict[str, int]) -> None:
+    """Looks of a program whose texts ask for no age."""
+    text = given_text(life)
+    looks = [(kind, path) for (kind, path), place in life.events.items() if kind == AGE_SEEN and place > begun]
+    if not looks or not (texts or text) or any(written.get(path, 0) > begun for path in texts) or pyages.may_ask([text], texts):
+        return
+    for event in looks:
+        del life.events[event]
 
 
 def library_of(life: Life) -> str:
