@@ -9,7 +9,7 @@ import re
 from typing import Dict, Iterator, List, Mapping, Optional, Sequence, Set, Tuple
 
 from record.missing.looked import BYTE_CODE
-from record.tools import pynames, pystart, shelltext
+from record.tools import pyages, pynames, pystart, shelltext
 from record.tools.makedirs import settle_made
 from record.tools.texts import text_of
 from record.trace.events import ABSENT, AGE_SEEN, FOLDER_KEPT, LISTED, MADE_QUIETLY, MAKER_SEEN, READ, SEEN, STRICT, TREE_CHANGES, WAY_ABSENT
@@ -48,7 +48,10 @@ def settle(lives: List[Life], tops: Sequence[str] = ()) -> Iterator[Tuple[str, s
         own = own_sources(life, sources)
         settle_lists(life, sources, own, written, changed)
         settle_code(life, others)
-        is_quiet = settle_made(life, own if sources else sorted(modules_of(life)), read_at(life, sources), written)
+        texts = own if sources else sorted(modules_of(life))
+        if sources or given_text(life):
+            settle_looks(life, texts, read_at(life, sources), written)
+        is_quiet = settle_made(life, texts, read_at(life, sources), written)
         if names:
             yield "bytecode", "%s: %s" % (" ".join(life.argv)[:60], names[0])
         if is_quiet:
@@ -157,6 +160,16 @@ def settle_lists(life: Life, sources: Dict[str, int], own: List[str], written: D
             is_asked = changed is None or way_of(life)[0] == "m" and not text or pynames.may_take_in(life, text, own, changed.get(folder, set()))
             for pattern in wanted or (MODULES if is_asked else ()):
                 life.events.setdefault((LISTED, folder + "\0" + pattern), place)
+
+
+def settle_looks(life: Life, texts: List[str], begun: int, written: Dict[str, int]) -> None:
+    """Looks of a program whose texts ask for no age."""
+    text = given_text(life)
+    looks = [(kind, path) for (kind, path), place in life.events.items() if kind == AGE_SEEN and place > begun]
+    if not looks or any(written.get(path, 0) > begun for path in texts) or pyages.may_ask([text], texts):
+        return
+    for event in looks:
+        del life.events[event]
 
 
 def library_of(life: Life) -> str:

@@ -21,7 +21,7 @@ READ_TIME_NAMES = re.compile(r"\b(?:st_|get)?atime\b|(?<!\S)-A\s")  # the same i
 # `ar` with `u` is not among them: it compares a file with its archive alone (record/make/ages.py).
 GAP = r"(?:[ \t]|\\\n)+"  # between two words of a command
 AGE_WORDS = re.compile(r"""
-      (^|\s|\[)[\"'\\]*-[\"'\\]*-?([no][\"'\\]*t|[ac]?newer[\w-]*|mtime|mmin|atime|amin|cmin|ctime|f?printf)[\"'\\]*[\s=]  # x -nt y, find -newer x, "-ot"
+      (^|\s|\[)[\"'\\]*-[\"'\\]*(-?([no][\"'\\]*t|[ac]?newer[\w-]*|mmin|atime|amin|cmin|ctime|f?printf)|mtime)[\"'\\]*[\s=]  # x -nt y, find -newer x, "-ot"
     | \b(cp|mv|rsync|tar)\s+([^;|&\n]*?\s)?(-\w*u|--update(?!=all|=none))        # cp -pu x y
     | (?:\btest|\[)GAP(?:!GAP)?(?![-!])(?:\\.|"(?:\\.|[^"\\])*"|'[^']*'|\$\([^()]*\)|`[^`]*`|[^\s"'\\`])+GAP
       -?(?:"-?\$[^"]*"|\$(?:\{[^{}]*\}|"[^"\s]*"|'[^'\s]*'|[^\s"'`;&|])+)GAP[^\s;&|\])]  # test x $how y

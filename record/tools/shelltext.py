@@ -25,14 +25,14 @@ TOOLS = re.compile(r"/usr/(?:local/)?bin/(?:makeinfo|texi2any|pod2man|pod2text|h
 PROGRESS = ("cmake_progress_start", "cmake_progress_report", "cmake_echo_color")  # what `cmake -E` does to count what is built
 # A folder that `cp` or `mv` copies gets its names in that order; with `-v` or `-c` the last four say in which order they come to names.
 SORTERS, NAMING = ("make", "gmake", "rm", "chmod", "chown", "rmdir", "git"), ("rm", "rmdir", "chmod", "chown")
-COMPRESSORS = ("gzip", "pigz", "bzip2", "xz", "lzma", "lzip", "zstd", "compress")  # they refuse a file that has two names
+COMPRESSORS = ("gzip", "pigz", "bzip2", "xz", "lzma", "lzip", "zstd", "compress")  # they refuse a file that has two names; `tar` that unpacks counts none
+UNPACKS = re.compile(r"\S+(?: -C \S+| --\w[\w-]*=\S*)* (?:-?[vzjJapmko]*x[a-zA-Z]*|--extract|--get)(?: |$)")
 # Scripts that make folders for themselves, and what Perl's makefiles make folders by.
 MAKERS, EXTUTILS = ("install-sh", "mkinstalldirs", "libtool"), re.compile(r"-MExtUtils::Command -e mkpath$|-MExtUtils::Install -e pm_to_blib\(")
 PASSING = ("env", "nice", "ionice", "setsid", "timeout", "flock", "time", "stdbuf")  # they leave errors to who runs in their place
 
 # Words of programs.
 NAMES_NEXT = re.compile(r"[-+]\w*[oO]\w*|--rcfile|--init-file")  # options of a shell whose value is the next word: `-euo pipefail`
-LETTERS = re.compile(r"-\w")  # options of one letter each, as `-ec`; others have two dashes
 AT_ONCE = re.compile(r"\s(?:-\w*P\s*|--max-procs[= ])(?!\s|1\s)")  # of xargs, by which it runs several programs at once: `-P 4`
 FORCES, SAYS = re.compile(r"-[a-zA-Z]*f[a-zA-Z]*|--force"), re.compile(r"-[a-zA-Z]*[viI][a-zA-Z]*|--(?:verbose|interactive.*)")  # of rm: `-rf`, `-v`
 SHOWS = re.compile(r"-(?:print|ls|fprint|fls|exec|ok)")  # what find does beside `-delete`
@@ -88,7 +88,7 @@ def shell_words(argv: List[str]) -> Tuple[str, str]:
         word, at = argv[at], at + 1
         if word in ("-", "--"):
             break
-        options += word if LETTERS.match(word) else ""
+        options += word if re.match(r"-\w", word) else ""  # of one letter each, as `-ec`
         at += bool(NAMES_NEXT.fullmatch(word))
     first = argv[at] if at < len(argv) else ""
     return (first, "") if "c" in options else ("", "" if "s" in options else first)
@@ -340,7 +340,7 @@ def looks_at_links(argv: List[str]) -> bool:
     if name == "ls":
         return bool(re.search(r"\s(-\w*[lnogs]|--(fo|fu))", text))
     if name in ("find", "tar", "rsync", "cpio", *COMPRESSORS):
-        return name != "find" or bool(re.search(r"-links|-printf|-ls|-samefile", text))
+        return bool(re.search(r"-links|-printf|-ls|-samefile", text)) if name == "find" else name != "tar" or not UNPACKS.match(text)
     return is_interpreter(argv) and "stat" in text  # also in the text of `-c`
 
 

@@ -6,7 +6,7 @@ import unittest
 from typing import Dict
 
 import support
-from record.tools import pynames, pystart
+from record.tools import pyages, pynames, pystart
 from record.tools.python import given_text, is_of_python, lists_folders, own_sources, settle, settle_lists, sources_of
 from record.trace.lives import Life
 
@@ -15,6 +15,7 @@ SCRIPT = "import sys, lib\nopen(sys.argv[1], 'w').write(lib.text())\n"
 TWO = "all: t/x.c t/y.c\nt/x.c: ; python3 -S t/gen.py t/x.c\nt/y.c: ; python3 -S t/gen.py t/y.c\n"
 
 
+SIDES = "all: s\nx: ; echo x > x\ny: ; echo y > y\ns: x y; python3 -S t/gen.py > s\n"
 TEXT = "all: a b\na: ; touch %s a\nb: ; python3 -S -c '%s' > b\n"
 
 
@@ -71,6 +72,26 @@ class Python(unittest.TestCase):
             self.of("all: a b\na: ; touch %s a\nb: ; python3 -S -Bm t.gen b\n" % made, text, status, files={})
         for words, status in (("json.tool i.json", 0), ("timeit -n1 -r1 'import lib; lib.os.listdir()'", 1)):
             self.of("all: a b\na: ; touch x.txt a\nb: ; python3 -S -m %s > b\n" % words, "", status, files={"i.json": "{}\n", "lib.py": "import os\n"})
+
+    def test_looks_that_ask_for_no_age(self) -> None:
+        script, again = "import os\nprint(os.path.exists('x'), os.path.exists('y'))\n", "s2: s; echo > t/gen.py; touch s2\nall: s2\n"
+        for text, more, status in ((script, "", 0), (script.replace("exists", "getmtime"), "", 1), ("import lib\n" + script, "", 0), ("import later\n" + script, "", 1), (script.replace("exists", "getmtime"), again, 1)):
+            files = {"t/lib.py": "x = 1\n", "t/later.py": "import os\ndef is_later(a, b):\n    return os.stat(a)[8] > os.stat(b)[8]\n"}
+            self.of(SIDES + more, text, status, files=files)
+        self.of(SIDES.replace("t/gen.py", "-c 'import os; print(os.path.isfile(\"x\"), os.path.isfile(\"y\"))'"), "", 0)
+        self.of(SIDES.replace("python3 -S t/gen.py", "cat t/gen.py | PYTHONPATH=t python3 -S -"), "import lib\n" + script, 1)
+
+    def test_texts_that_ask_for_no_age(self) -> None:
+        for text, wanted in (("import os, json\nfrom pathlib import Path\nos.path.isfile('x'), Path('x').exists()", False), ("import lib, os.path", sys.version_info < (3, 10)), ("import shutil, datetime; shutil.copy2('x', 'y')", False),
+                             ("from . import x", False), ("import os; os.stat('x')", True), ("os.path.getctime('x')", True), ("next(os.scandir()).inode()", True), ("x.st_mtime_ns", True), ("import zipfile", True), ("import xml.etree", True),
+                             ("from os import *", True), ("from zipfile import ZipFile", True), ("import more", True), ("getattr(os, 's' + 'tat')", True), ("exec('x')", True), ("sys.modules['os']", True), ("__loader__.path(x)", True),
+                             ("shutil.make_archive('x', 'tar')", True), ("type(f)(compile(x, '', 'eval'), {})()", True), ("re.compile('x')", False), ("sys.settrace(lambda x, *_: x.f_builtins)", True), ("values.read_file('x')", True), ("print 1", True), ("os.\uff53tat('x')", True), ("# coding: unicode_escape\nx", True), ("#!/x\n# -*- coding: utf-7 -*-", True), ("# coding=utf-8", False),
+                             ("if __name__ == '__main__': x()", False), ("print(datetime.now(), statistics, 'status')", False)):
+            self.assertEqual(wanted, pyages.asks(text, frozenset(("lib", "zipfile"))), text)
+        with support.Project({"x.py": "x = 1\n", "x.so": "x = 1\n"}) as project:
+            self.assertEqual([False, True, True], [pyages.asks_in(str(project.folder / name), frozenset()) for name in ("x.py", "x.so", "gone.py")])
+        for path, wanted in (("/w/lib.py", "lib"), ("/w/d/__init__.py", "d"), ("/w/x.cpython-311.so", "x")):
+            self.assertEqual(wanted, pyages.name_of(path))
 
     def test_words_that_hold_a_text(self) -> None:
         for words, text in ((["-c", "x"], "x"), (["-Ec", "x"], "x"), (["-W", "-c", "-c", "x"], "x"), (["-m", "m", "-c", "x"], ""), (["s.py", "-c", "x"], ""), (["-", "-c", "x"], ""), ([], ""), (["-Bm", "gzip", "x"], "import gzip")):

@@ -101,7 +101,7 @@ class Looks(unittest.TestCase):
     """Programs that see more than contents."""
 
     def test_numbers_of_names(self) -> None:
-        for words, wanted in (("stat -c %h x", True), ("stat x", True), ("stat -c %s x", False), ("ls -l", True), ("ls", False), ("tar cf x d", True),
+        for words, wanted in (("stat -c %h x", True), ("stat x", True), ("stat -c %s x", False), ("ls -l", True), ("ls", False), ("tar cf x d", True), ("tar -cf x -C d x", True), ("tar --exclude -x cf x d", True), ("tar xzf x", False), ("tar -C d --strip-components=1 -xf x", False), ("tar --extract -f x", False),
                               ("find . -links 2", True), ("find . -name x", False), ("cat x", False)):
             self.assertEqual(wanted, shelltext.looks_at_links(words.split()), words)
         for argv, wanted in ((["python3", "-c", "os.stat('x')"], True), (["perl", "-e", "lstat 'x'"], True), (["python3", "-c", "print()"], False)):
