@@ -129,7 +129,7 @@ def words_asked(known: Macros, node: Node) -> Optional[List[str]]:
     base = known.base
     text = "\n".join(base.recipes.get(node.name, ()))
     reached = known.answers.of_recipe(node.name)
-    texts = [text, *map(known.text_of, reached)]
+    texts = [text, *known.answers.texts_of_recipe(node.name)]
     calls = [call for one in texts for call in arguments(one)]
     if ANY in reached or composes("\n".join(texts), "wildcard") or sum(one.count("wildcard") for one in texts) > len(calls) or None in calls or BOUND.search("\n".join(texts)):
         return None

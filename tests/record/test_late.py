@@ -31,6 +31,7 @@ LATER = "D = d1\nall: a c b.q\na: ; touch d2/n.x a\nc: ; touch c\n%s\n"
 # c lists d first; d/a looks for names there, and d/b, which nothing orders with d/a, makes one.
 FIRST = "all: c d/a d/b\ns: ; touch s\nc: s ; echo $(wildcard d/*.q) > c\nd/a: s ; %s > $@\nd/b: c ; touch d/z.q $@\n"
 WITH_K = FIRST.replace("d/a: s", "d/a: s d/k")
+T_FOR_A_WHILE = "T := v\n" + FIRST.replace("s: ;", "s: ; $(F)").replace("d/b\n", "d/b e\n", 1) % "echo $(T)" + "e: d/a d/b ; touch e $(eval T := x)\n"
 FOLDERS = "mkdir d1 d2 'd 2'"
 SEES = "who lists the processes that run"
 READ = "who asks when a file was read last"
@@ -81,6 +82,9 @@ LATE: Dict[str, Small] = {
     "wildcard_of_a_pattern_in_a_macro": Small("race", "N = d/[z].q\n" + FIRST % "echo $(wildcard $(N))", {"d/k": ""}),
     "wildcard_of_a_macro_that_may_be_a_pattern": Small("race", "N = d/k\n" + FIRST.replace("s: ;", "s: ; $(eval N := d/*.q)") % "echo $(wildcard $(N))", {"d/k": ""}),
     "wildcard_of_a_folder_that_is_a_pattern": Small("race", FIRST % "echo $(wildcard ?/z.q)", {"d/k": ""}),
+    "wildcard_that_was_asked_when_the_makefile_was_read": Small("safe", "HOME := $(CURDIR)/v\nT := $(wildcard ~/*.q)\n" + FIRST % "echo $(wildcard $@) $(T)", {"d/k": ""}),
+    "wildcard_that_is_asked_later": Small("race", "T := $(wildcard v/*.q)\nT = $(wildcard d/*.q)\n" + FIRST % "echo $(wildcard $@) $(T)", {"d/k": ""}),
+    "wildcard_that_a_recipe_gives_a_macro_for_a_while": Small("race", T_FOR_A_WHILE, {"d/k": ""}, says="RACE  d/z.q"),
     # processes of other recipes
     "signal_for_another_recipe": Small("safe", "all: b\na: ; sleep 9 > /dev/null 2>&1 & echo $$! > a\nb: a ; kill `cat a`; touch b\n", says=SEES),
     "signal_for_its_own_process": Small("safe", "all: ; sleep 9 & kill $$!; touch all\n", lacks=SEES),
