@@ -156,9 +156,10 @@ def folders_asked(known: Macros, names: Names, node: Node) -> Optional[Set[str]]
 
 def folders_listed(known: Macros, names: Names, node: Node) -> Optional[Set[str]]:
     """Those of them that make lists for that; None where nobody can say which. For a name without a sign of a pattern it asks the disk itself, where the
-    trace shows that, and lists no folder."""
+    trace shows that of one of them, and lists no folder: it has not come to the others."""
     words = words_asked(known, node)
-    return None if words is None else folders_of(known, names, (word for word in words if MAGIC.search(word) or not is_asked(known.make, names, word)))
+    are_asked = any(is_asked(known.make, names, word) for word in words or () if not MAGIC.search(word))
+    return None if words is None else folders_of(known, names, (word for word in words if MAGIC.search(word) or not are_asked))
 
 
 def is_asked(make: Make, names: Names, name: str) -> bool:
