@@ -69,7 +69,7 @@ def own_folders(builder: "Builder", node: Node) -> Optional[Set[str]]:
     text = "\n".join(base.recipes.get(node.name, ()))
     if ".SECONDEXPANSION" in base.prerequisites or any(may_list(known, one) for one in (text, *map(known.text_of, known.answers.of_recipe(node.name)))):
         return None
-    return folders_listed(known, builder.names, node)
+    return folders_listed(builder, node)
 
 
 def may_list(known: Macros, text: str) -> bool:
@@ -89,7 +89,7 @@ def share_listings(builder: "Builder") -> None:
     late = {folder: first for folder, (first, last) in builder.listed.items() if last > began}
     lists = Lists(make)
     for node in builder.graph.nodes.values() if late else ():
-        asked = folders_listed(builder.known, builder.names, node) if node.jobs or node.must and node.has_recipe else set()
+        asked = folders_listed(builder, node) if node.jobs or node.must and node.has_recipe else set()
         born = births(builder, node)
         for folder, place in late.items():
             if place < max(born) and (asked is None or folder in asked) and lists.has(folder, min(born)):
@@ -154,12 +154,17 @@ def folders_asked(known: Macros, names: Names, node: Node) -> Optional[Set[str]]
     return None if words is None else folders_of(known, names, words)
 
 
-def folders_listed(known: Macros, names: Names, node: Node) -> Optional[Set[str]]:
-    """Those of them that make lists for that; None where nobody can say which. For a name without a sign of a pattern it asks the disk itself, where the
-    trace shows that of one of them, and lists no folder: it has not come to the others."""
-    words = words_asked(known, node)
-    are_asked = any(is_asked(known.make, names, word) for word in words or () if not MAGIC.search(word))
-    return None if words is None else folders_of(known, names, (word for word in words if MAGIC.search(word) or not are_asked))
+def folders_listed(builder: "Builder", node: Node) -> Optional[Set[str]]:
+    """Those of them that make lists for that; None where nobody can say which. For a name without a sign of a pattern it asks the disk itself, and lists no folder."""
+    words = words_asked(builder.known, node)
+    return None if words is None else folders_of(builder.known, builder.names, (word for word in words if MAGIC.search(word) or not asks_disk(builder)))
+
+
+@lru_cache(maxsize=4)
+def asks_disk(builder: "Builder") -> bool:
+    """Whether the trace shows that of one such name of some recipe: then make has not come to those of which it shows no look."""
+    words = (word for node in builder.graph.nodes.values() if node.jobs for word in words_asked(builder.known, node) or ())
+    return any(is_asked(builder.make, builder.names, word) for word in words if not MAGIC.search(word))
 
 
 def is_asked(make: Make, names: Names, name: str) -> bool:

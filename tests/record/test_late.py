@@ -79,6 +79,7 @@ LATE: Dict[str, Small] = {
     "wildcard_of_a_name": Small("safe", "N = d/k\n" + FIRST % "echo $(wildcard $(N))", {"d/k": ""}),
     "wildcard_of_a_name_that_another_makes": Small("race", FIRST % "echo $(wildcard d/z.q)", {"d/k": ""}),
     "wildcard_of_a_name_in_a_branch_that_is_not_taken": Small("safe", WITH_K % "echo $(if $(wildcard $^),yes,$(wildcard $@))", {"d/k": ""}),
+    "wildcard_of_a_name_that_another_recipe_has_asked": Small("safe", WITH_K.replace("touch s", "touch s # $(wildcard $@)") % "echo $(if $(N),$(wildcard $@))", {"d/k": ""}),
     "wildcard_of_a_pattern_in_a_branch_that_is_not_taken": Small("race", WITH_K % "echo $(if $(wildcard $^),yes,$(wildcard d/*.q))", {"d/k": ""}),
     "wildcard_of_names_that_are_not_asked": Small("race", WITH_K % "echo $(if $(N),$(wildcard $@))", {"d/k": ""}),  # where make may have found another way
     "wildcard_of_a_name_and_a_pattern": Small("race", FIRST % "echo $(wildcard d/k d/*.q)", {"d/k": ""}),
