@@ -7,6 +7,7 @@ from functools import cached_property
 from typing import Callable, Dict, Iterable, Iterator, List, Optional, Set
 
 from record.make.asked import EARLIER, EVERYTHING, MAGIC, NAMED, ODD, SIGN, UNKNOWN, Asked, parts_of, pieces
+from record.make.references import COMPUTED as COMPUTED_CALL, joined
 from record.tools.shelltext import loose
 
 CALL = re.compile(r"\$([({])wildcard[ \t]+")
@@ -16,11 +17,15 @@ ARGUMENT = re.compile(r"\$(?:\d|\(\d+\)|\{\d+\})")
 ASSIGNED = re.compile(r"(?m)^[ \t]*([\w.-]+)[ \t]*(?:\?|::?:?)?=((?:[^\n]*\\\n)*[^\n]*)")
 HEAD = re.compile(r"(?<![\w$({.%/-])([\w.-]+)[ \t]*(?:[+?!]|::?:?)?=")  # of an assignment, anywhere in a line
 VALUE = re.compile(r"(?:[^\n]*\\\n)*[^\n]*")
-BINDS = re.compile(r"\b(?:define|undefine|foreach|let)\s")
+BINDS = re.compile(r"\b(?:(?:define|undefine)\s+[^\n]*|(?:foreach|let)\s+(?:[^,\n]*\n)*?[^,\n]*,[^\n]*)")  # to the end of the line
 REFERENCE = re.compile(r"\$(?:\(([\w.-]+)(?::[^$(){}*?\[]*)?\)|\{([\w.-]+)(?::[^$(){}*?\[]*)?\}|(\w))")
 COMPUTED = re.compile(r"\$(?:\(([\w.-]*)\$(?:\(([\w.-]+)\)|\{([\w.-]+)\}|(\w))([\w.-]*)\)|\{([\w.-]*)\$(?:\(([\w.-]+)\)|\{([\w.-]+)\}|(\w))([\w.-]*)\})")  # a name with one macro in it
+# A loop that may give any macro a value: its name is put together, or `call` calls it; and one that stands there as it is.
+LOOSE_LOOP = re.compile(r"\$[({](?:foreach|let)\s+[^,]*\$[^,]*,|\$[({]call\s+(?:foreach|let)\s*,")
+LOOP = re.compile(r"\$[({](?:foreach|let)\s")
+WORD_LOOP = re.compile(r"(?<![\w.-])(?:foreach|let)(?![\w.-])")
 # What gives a value to a name of a target or to an argument: a loop over such a name, or one that is computed, and an assignment.
-BOUND = re.compile(r"\$[({](?:foreach|let)[ \t]+(?:[^,\n]*[^\w.,\s-]|(?:[^,\n]*\s)?\d)[^,\n]*,"
+BOUND = re.compile(r"\$[({](?:foreach|let)\s+(?:[^,]*[^\w.,\s-]|(?:[^,]*\s)?\d)[^,]*,"
                    r"|(?m:^)(?!\t)(?:[^\n;#=]*:)?[ \t]*(?:(?:override|export|private|define)[ \t]+)*(?:\d+|[@<^+*?|%][DF]?)[ \t]*(?:[+?!]|::?:?)?="
                    r"|(?m:^)[ \t]*(?:(?:override|export|private)[ \t]+)*define[ \t]+(?:\d+|[@<^+*?|%][DF]?)[ \t]*(?:[+?!]|::?:?)?\n")
 # What calls `eval`, or may hand its name to `call`. A shell's own `eval` stands in a recipe, and files may be called eval.c.
@@ -57,10 +62,11 @@ class Macros:
 
     def __init__(self, text: str, values: Dict[str, str], names: Iterable[str] = ("*",)) -> None:
         self.text, self.values = text, values
-        self.is_bound_otherwise = BOUND.search(text) is not None
+        self.binds_any = binds_any(text)
+        self.is_bound_otherwise = self.binds_any or BOUND.search(text) is not None
         self.target = UNKNOWN if self.is_bound_otherwise or any(MAGIC.search(name) for name in names) else NAMED  # what stands for a target's name
         self.is_open = "eval" in text if ".RECIPEPREFIX" in text else EVALS.search(text) is not None
-        self.bound = "\n".join(text[found.end():].partition("\n")[0] for found in BINDS.finditer(text))  # lines of names that have a value from there
+        self.bound = "\n".join(BINDS.findall(text))  # lines of names that have a value from there
         self.plain: Dict[str, bool] = {}
         self.are_plain: Optional[bool] = None  # whether no argument of a function is a pattern
 
@@ -92,7 +98,7 @@ class Macros:
 
     def is_bound(self, name: str) -> bool:
         """Whether lines or a loop give a macro its value."""
-        return bool(self.bound) and bool(re.search(r"\b%s\b" % re.escape(name), self.bound))
+        return self.binds_any or bool(self.bound) and bool(re.search(r"\b%s\b" % re.escape(name), self.bound))
 
     def has_no_pattern(self, name: str) -> bool:
         """Whether no value that a macro may have holds a pattern."""
@@ -171,6 +177,12 @@ class Macros:
         return not MAGIC.search(rest) and "$" not in rest.replace("$$", "") and all(self.has_no_pattern(name) for name in names)
 
 
+def binds_any(text: str) -> bool:
+    """Whether a loop may give a value to a macro that the text does not name there."""
+    is_named = COMPUTED_CALL.search(text) is not None and (len(WORD_LOOP.findall(text)) > len(LOOP.findall(text)) or composes(text, "foreach") or composes(text, "let"))
+    return is_named or LOOSE_LOOP.search(text) is not None
+
+
 def outside(text: str) -> str:
     """A text without its references."""
     count = 1
@@ -198,7 +210,7 @@ def patterns(texts: List[str], values: Dict[str, str], names: Iterable[str] = ("
 
     `values` has macros with the text that make had for them at its end, and `names` are all targets that it considered.
     """
-    macros = Macros("\n".join(texts), values, names)
+    macros = Macros("\n".join(map(joined, texts)), values, names)
     found: Set[Asked] = set()
     calls = list(arguments(macros.text))
     for words in calls:
@@ -213,7 +225,7 @@ def listed(texts: List[str], values: Dict[str, str], names: Iterable[str] = ("*"
 
     `asked` gives all names that make has considered, or may have looked for to find an implicit rule.
     """
-    macros = Macros("\n".join(texts), values, names)
+    macros = Macros("\n".join(map(joined, texts)), values, names)
     found: Set[Asked] = set()
     if any(macros.may_be_rule(line.group()) for line in LINE.finditer(macros.text)):
         found.add(EVERYTHING)

@@ -8,11 +8,11 @@ from typing import TYPE_CHECKING, Dict, Iterable, Iterator, List, Optional, Set
 
 from record.make.asked import MAGIC
 from record.make.database import Base
-from record.make.globs import BOUND, WORD_EVAL, arguments, composes, with_values
+from record.make.globs import BOUND, WORD_EVAL, arguments, binds_any, composes, with_values
 from record.make.graph import Node
 from record.make.macros import Macros
 from record.make.owners import Make, Work
-from record.make.references import ANY, evals
+from record.make.references import ANY, evals, with_functions
 from record.make.words import LATER, numbers_of
 from record.trace.events import ASKS, LISTED, MAKE_LISTED, MAKE_OPENED, MODE_CHANGED, ORDER_SEEN, SEEN
 from record.trace.names import Names
@@ -127,11 +127,12 @@ def births(builder: "Builder", node: Node) -> List[int]:
 def words_asked(known: Macros, node: Node) -> Optional[List[str]]:
     """The words of `wildcard` in the recipe of a target; None where nobody can say them."""
     base = known.base
-    text = "\n".join(base.recipes.get(node.name, ()))
+    text = with_functions("\n".join(base.recipes.get(node.name, ())))
     reached = known.answers.of_recipe(node.name)
     texts = [text, *known.answers.texts_of_recipe(node.name)]
+    whole = "\n".join(texts)
     calls = [call for one in texts for call in arguments(one)]
-    if ANY in reached or composes("\n".join(texts), "wildcard") or sum(one.count("wildcard") for one in texts) > len(calls) or None in calls or BOUND.search("\n".join(texts)):
+    if ANY in reached or composes(whole, "wildcard") or whole.count("wildcard") > len(calls) or None in calls or binds_any(whole) or BOUND.search(whole):
         return None
     own = [with_prerequisites(with_target(call or "", node.name), node.name, base) for call in calls]
     if "@D" in base.bodies or not known.reached("\n".join(own)).isdisjoint({*base.bodies, *(name for one in texts for name in looped(one))}):
