@@ -4,7 +4,7 @@ import os
 import re
 from fnmatch import fnmatchcase
 from functools import cached_property
-from typing import Callable, Dict, Iterable, Iterator, List, Optional, Set
+from typing import Callable, Container, Dict, Iterable, Iterator, List, Optional, Set
 
 from record.make.asked import EARLIER, EVERYTHING, MAGIC, NAMED, ODD, SIGN, UNKNOWN, Asked, parts_of, pieces
 from record.make.references import COMPUTED as COMPUTED_CALL, joined
@@ -50,6 +50,7 @@ INNERMOST = re.compile(r"\$\([^(){}]*\)|\$\{[^(){}]*\}")
 NAMES = re.compile(r"\$(?:[({](?:(?:call|value)[ \t]+)?([\w.-]*)(?:(\$)(?:(?:\w|\([\w.-]+\)|\{[\w.-]+\})([\w.-]*)(?=[,)}\s]))?)?|(\w))")
 BRACKETS = {"(": ")", "{": "}"}
 PLAIN_NAME = re.compile(r"[\w./+-]+")
+OUTSIDE = "$(shell other)"  # for a text that no makefile has
 PLAIN = re.compile(r"\$(?:[({]([\w.-]+)[)}]|(\w))")
 DEPTH = 8  # how often macros are put in the places of their names
 # Functions whose text has no pattern where their arguments have none.
@@ -60,8 +61,8 @@ QUIET = re.compile(r"\$[({](?:dir|notdir|basename|suffix|addprefix|addsuffix|joi
 class Macros:
     """What makefiles and the data base of make say of macros."""
 
-    def __init__(self, text: str, values: Dict[str, str], names: Iterable[str] = ("*",)) -> None:
-        self.text, self.values = text, values
+    def __init__(self, text: str, values: Dict[str, str], names: Iterable[str] = ("*",), environment: Container[str] = ()) -> None:
+        self.text, self.values, self.environment = text, values, environment
         self.binds_any = binds_any(text)
         self.is_bound_otherwise = self.binds_any or BOUND.search(text) is not None
         self.target = UNKNOWN if self.is_bound_otherwise or any(MAGIC.search(name) for name in names) else NAMED  # what stands for a target's name
@@ -91,8 +92,10 @@ class Macros:
             if head.group() == name + "=" and self.text.startswith(("$(%s)" % name, "${%s}" % name), head.end()):
                 continue  # of a shell: a macro of make cannot ask for itself
             if head.start() >= ends.get(name, 0):
-                value = VALUE.match(self.text, head.end())
-                found.setdefault(name, []).append(value.group() if value else "")
+                value, sign = VALUE.match(self.text, head.end()), head.group()[-2:-1]
+                found.setdefault(name, []).append(OUTSIDE if sign == "!" else value.group() if value else "")
+                if name in self.environment and sign != "?":  # before this line it has what make found there
+                    found[name].append(OUTSIDE)
                 ends[name] = value.end() if value else head.end()
         return found
 
@@ -205,12 +208,13 @@ def with_values(text: str, values: Dict[str, str]) -> str:
     return text
 
 
-def patterns(texts: List[str], values: Dict[str, str], names: Iterable[str] = ("*",)) -> Set[Asked]:
+def patterns(texts: List[str], values: Dict[str, str], names: Iterable[str] = ("*",), environment: Container[str] = ()) -> Set[Asked]:
     """The patterns of one part of a path that makefiles look for, and in which folders; everything where they cannot be known.
 
-    `values` has macros with the text that make had for them at its end, and `names` are all targets that it considered.
+    `values` has macros with the text that make had for them at its end, `names` are all targets that it considered, and `environment` has the names of
+    the macros that it found there.
     """
-    macros = Macros("\n".join(map(joined, texts)), values, names)
+    macros = Macros("\n".join(map(joined, texts)), values, names, environment)
     found: Set[Asked] = set()
     calls = list(arguments(macros.text))
     for words in calls:
@@ -220,12 +224,13 @@ def patterns(texts: List[str], values: Dict[str, str], names: Iterable[str] = ("
     return found
 
 
-def listed(texts: List[str], values: Dict[str, str], names: Iterable[str] = ("*",), asked: Callable[[], Set[str]] = lambda: {"*"}) -> Set[Asked]:
+def listed(texts: List[str], values: Dict[str, str], names: Iterable[str] = ("*",), asked: Callable[[], Set[str]] = lambda: {"*"},
+           environment: Container[str] = ()) -> Set[Asked]:
     """The patterns in rules and in lines that include makefiles, and in macros that stand there; everything where one of these may hold any.
 
     `asked` gives all names that make has considered, or may have looked for to find an implicit rule.
     """
-    macros = Macros("\n".join(map(joined, texts)), values, names)
+    macros = Macros("\n".join(map(joined, texts)), values, names, environment)
     found: Set[Asked] = set()
     if any(macros.may_be_rule(line.group()) for line in LINE.finditer(macros.text)):
         found.add(EVERYTHING)

@@ -31,6 +31,7 @@ LATER = "D = d1\nall: a c b.q\na: ; touch d2/n.x a\nc: ; touch c\n%s\n"
 # c lists d first; d/a looks for names there, and d/b, which nothing orders with d/a, makes one.
 FIRST = "all: c d/a d/b\ns: ; touch s\nc: s ; echo $(wildcard d/*.q) > c\nd/a: s ; %s > $@\nd/b: c ; touch d/z.q $@\n"
 WITH_K = FIRST.replace("d/a: s", "d/a: s d/k")
+ASKS = "X := $(wildcard $(P))\na: ; echo $(X) > a\n"
 LOOPS = "P = k\nF = $(wildcard $(P))\n%s\na: ; echo $(X) > a; rm -f *.q\n"
 ASKED = FIRST.replace("touch s", "touch s # $(wildcard $@)")  # the trace shows that make asks the disk
 T_FOR_A_WHILE = "T := v\n" + FIRST.replace("s: ;", "s: ; $(F)").replace("d/b\n", "d/b e\n", 1) % "echo $(T)" + "e: d/a d/b ; touch e $(eval T := x)\n"
@@ -78,6 +79,10 @@ LATE: Dict[str, Small] = {
     "loop_over_its_target_that_goes_on": Small("race", ASKED % "echo $(foreach \\\n @,d/*.q,$(wildcard $@))", {"d/k": ""}),
     "loop_over_its_target_in_lines_of_a_macro": Small("race", "define T\n$(foreach\n@,d/*.q,$(wildcard $@))\nendef\n" + ASKED % "echo $(T)", {"d/k": ""}),
     "loop_that_names_no_other_macro": Small("safe", INSIDE, {"in.mk": "P = z\nX := $(foreach \\\n Q,k,$(Q))\nY := $(wildcard $(P))\na: ; echo $(Y) > a; rm -f *.q\n"}),
+    # what a macro has before a makefile sets it, and what a command gives it
+    "macro_that_a_command_gives_a_pattern": Small("race", INSIDE, {"in.mk": "P != cat f\n%sP := k\n" % ASKS, "f": "*.x\n"}),
+    "macro_that_the_environment_gives_a_pattern": Small("race", "export P = *.x\n" + INSIDE, {"in.mk": "%sP := k\n" % ASKS}),
+    "macro_that_the_environment_gives_for_good": Small("safe", "export P = z\n" + INSIDE, {"in.mk": "P ?= k\n%s" % ASKS.replace("> a", "> a; rm -f *.q")}),
     # where a recipe looks for names
     "wildcard_of_a_macro_in_a_loop": Small("race", LATER % "b.q: c ; echo $(foreach D,d2,$(wildcard $(D)/*.x)) > b.q", setup=FOLDERS),
     "wildcard_of_a_macro_of_a_pattern": Small("race", LATER % "%.q: D = d2\n%.q: c ; echo $(wildcard $(D)/*.x) > b.q", setup=FOLDERS),
