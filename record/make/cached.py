@@ -60,7 +60,7 @@ class Cached:
         """The folders in which recipes ask for names by `wildcard`; None where nobody can say which."""
         found: Set[str] = set()
         for node in self.builder.graph.nodes.values():
-            asked = folders_listed(self.builder.known, self.builder.names, node) if node.jobs or node.must and node.has_recipe else set()
+            asked = folders_listed(self.builder, node) if node.jobs or node.must and node.has_recipe else set()
             if asked is None:
                 return None
             found |= asked

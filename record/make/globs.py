@@ -4,9 +4,10 @@ import os
 import re
 from fnmatch import fnmatchcase
 from functools import cached_property
-from typing import Callable, Dict, Iterable, Iterator, List, Optional, Set
+from typing import Callable, Container, Dict, Iterable, Iterator, List, Optional, Set
 
 from record.make.asked import EARLIER, EVERYTHING, MAGIC, NAMED, ODD, SIGN, UNKNOWN, Asked, parts_of, pieces
+from record.make.references import COMPUTED as COMPUTED_CALL, joined
 from record.tools.shelltext import loose
 
 CALL = re.compile(r"\$([({])wildcard[ \t]+")
@@ -16,11 +17,15 @@ ARGUMENT = re.compile(r"\$(?:\d|\(\d+\)|\{\d+\})")
 ASSIGNED = re.compile(r"(?m)^[ \t]*([\w.-]+)[ \t]*(?:\?|::?:?)?=((?:[^\n]*\\\n)*[^\n]*)")
 HEAD = re.compile(r"(?<![\w$({.%/-])([\w.-]+)[ \t]*(?:[+?!]|::?:?)?=")  # of an assignment, anywhere in a line
 VALUE = re.compile(r"(?:[^\n]*\\\n)*[^\n]*")
-BINDS = re.compile(r"\b(?:define|undefine|foreach|let)\s")
+BINDS = re.compile(r"\b(?:(?:define|undefine)\s+[^\n]*|(?:foreach|let)\s+(?:[^,\n]*\n)*?[^,\n]*,[^\n]*)")  # to the end of the line
 REFERENCE = re.compile(r"\$(?:\(([\w.-]+)(?::[^$(){}*?\[]*)?\)|\{([\w.-]+)(?::[^$(){}*?\[]*)?\}|(\w))")
 COMPUTED = re.compile(r"\$(?:\(([\w.-]*)\$(?:\(([\w.-]+)\)|\{([\w.-]+)\}|(\w))([\w.-]*)\)|\{([\w.-]*)\$(?:\(([\w.-]+)\)|\{([\w.-]+)\}|(\w))([\w.-]*)\})")  # a name with one macro in it
+# A loop that may give any macro a value: its name is put together, or `call` calls it; and one that stands there as it is.
+LOOSE_LOOP = re.compile(r"\$[({](?:foreach|let)\s+[^,]*\$[^,]*,|\$[({]call\s+(?:foreach|let)\s*,")
+LOOP = re.compile(r"\$[({](?:foreach|let)\s")
+WORD_LOOP = re.compile(r"(?<![\w.-])(?:foreach|let)(?![\w.-])")
 # What gives a value to a name of a target or to an argument: a loop over such a name, or one that is computed, and an assignment.
-BOUND = re.compile(r"\$[({](?:foreach|let)[ \t]+(?:[^,\n]*[^\w.,\s-]|(?:[^,\n]*\s)?\d)[^,\n]*,"
+BOUND = re.compile(r"\$[({](?:foreach|let)\s+(?:[^,]*[^\w.,\s-]|(?:[^,]*\s)?\d)[^,]*,"
                    r"|(?m:^)(?!\t)(?:[^\n;#=]*:)?[ \t]*(?:(?:override|export|private|define)[ \t]+)*(?:\d+|[@<^+*?|%][DF]?)[ \t]*(?:[+?!]|::?:?)?="
                    r"|(?m:^)[ \t]*(?:(?:override|export|private)[ \t]+)*define[ \t]+(?:\d+|[@<^+*?|%][DF]?)[ \t]*(?:[+?!]|::?:?)?\n")
 # What calls `eval`, or may hand its name to `call`. A shell's own `eval` stands in a recipe, and files may be called eval.c.
@@ -45,6 +50,7 @@ INNERMOST = re.compile(r"\$\([^(){}]*\)|\$\{[^(){}]*\}")
 NAMES = re.compile(r"\$(?:[({](?:(?:call|value)[ \t]+)?([\w.-]*)(?:(\$)(?:(?:\w|\([\w.-]+\)|\{[\w.-]+\})([\w.-]*)(?=[,)}\s]))?)?|(\w))")
 BRACKETS = {"(": ")", "{": "}"}
 PLAIN_NAME = re.compile(r"[\w./+-]+")
+OUTSIDE = "$(shell other)"  # for a text that no makefile has
 PLAIN = re.compile(r"\$(?:[({]([\w.-]+)[)}]|(\w))")
 DEPTH = 8  # how often macros are put in the places of their names
 # Functions whose text has no pattern where their arguments have none.
@@ -55,12 +61,13 @@ QUIET = re.compile(r"\$[({](?:dir|notdir|basename|suffix|addprefix|addsuffix|joi
 class Macros:
     """What makefiles and the data base of make say of macros."""
 
-    def __init__(self, text: str, values: Dict[str, str], names: Iterable[str] = ("*",)) -> None:
-        self.text, self.values = text, values
-        self.is_bound_otherwise = BOUND.search(text) is not None
+    def __init__(self, text: str, values: Dict[str, str], names: Iterable[str] = ("*",), environment: Container[str] = ()) -> None:
+        self.text, self.values, self.environment = text, values, environment
+        self.binds_any = binds_any(text)
+        self.is_bound_otherwise = self.binds_any or BOUND.search(text) is not None
         self.target = UNKNOWN if self.is_bound_otherwise or any(MAGIC.search(name) for name in names) else NAMED  # what stands for a target's name
         self.is_open = "eval" in text if ".RECIPEPREFIX" in text else EVALS.search(text) is not None
-        self.bound = "\n".join(text[found.end():].partition("\n")[0] for found in BINDS.finditer(text))  # lines of names that have a value from there
+        self.bound = "\n".join(BINDS.findall(text))  # lines of names that have a value from there
         self.plain: Dict[str, bool] = {}
         self.are_plain: Optional[bool] = None  # whether no argument of a function is a pattern
 
@@ -85,14 +92,16 @@ class Macros:
             if head.group() == name + "=" and self.text.startswith(("$(%s)" % name, "${%s}" % name), head.end()):
                 continue  # of a shell: a macro of make cannot ask for itself
             if head.start() >= ends.get(name, 0):
-                value = VALUE.match(self.text, head.end())
-                found.setdefault(name, []).append(value.group() if value else "")
+                value, sign = VALUE.match(self.text, head.end()), head.group()[-2:-1]
+                found.setdefault(name, []).append(OUTSIDE if sign == "!" else value.group() if value else "")
+                if name in self.environment and sign != "?":  # before this line it has what make found there
+                    found[name].append(OUTSIDE)
                 ends[name] = value.end() if value else head.end()
         return found
 
     def is_bound(self, name: str) -> bool:
         """Whether lines or a loop give a macro its value."""
-        return bool(self.bound) and bool(re.search(r"\b%s\b" % re.escape(name), self.bound))
+        return self.binds_any or bool(self.bound) and bool(re.search(r"\b%s\b" % re.escape(name), self.bound))
 
     def has_no_pattern(self, name: str) -> bool:
         """Whether no value that a macro may have holds a pattern."""
@@ -171,6 +180,12 @@ class Macros:
         return not MAGIC.search(rest) and "$" not in rest.replace("$$", "") and all(self.has_no_pattern(name) for name in names)
 
 
+def binds_any(text: str) -> bool:
+    """Whether a loop may give a value to a macro that the text does not name there."""
+    is_named = COMPUTED_CALL.search(text) is not None and (len(WORD_LOOP.findall(text)) > len(LOOP.findall(text)) or composes(text, "foreach") or composes(text, "let"))
+    return is_named or LOOSE_LOOP.search(text) is not None
+
+
 def outside(text: str) -> str:
     """A text without its references."""
     count = 1
@@ -193,12 +208,13 @@ def with_values(text: str, values: Dict[str, str]) -> str:
     return text
 
 
-def patterns(texts: List[str], values: Dict[str, str], names: Iterable[str] = ("*",)) -> Set[Asked]:
+def patterns(texts: List[str], values: Dict[str, str], names: Iterable[str] = ("*",), environment: Container[str] = ()) -> Set[Asked]:
     """The patterns of one part of a path that makefiles look for, and in which folders; everything where they cannot be known.
 
-    `values` has macros with the text that make had for them at its end, and `names` are all targets that it considered.
+    `values` has macros with the text that make had for them at its end, `names` are all targets that it considered, and `environment` has the names of
+    the macros that it found there.
     """
-    macros = Macros("\n".join(texts), values, names)
+    macros = Macros("\n".join(map(joined, texts)), values, names, environment)
     found: Set[Asked] = set()
     calls = list(arguments(macros.text))
     for words in calls:
@@ -208,12 +224,13 @@ def patterns(texts: List[str], values: Dict[str, str], names: Iterable[str] = ("
     return found
 
 
-def listed(texts: List[str], values: Dict[str, str], names: Iterable[str] = ("*",), asked: Callable[[], Set[str]] = lambda: {"*"}) -> Set[Asked]:
+def listed(texts: List[str], values: Dict[str, str], names: Iterable[str] = ("*",), asked: Callable[[], Set[str]] = lambda: {"*"},
+           environment: Container[str] = ()) -> Set[Asked]:
     """The patterns in rules and in lines that include makefiles, and in macros that stand there; everything where one of these may hold any.
 
     `asked` gives all names that make has considered, or may have looked for to find an implicit rule.
     """
-    macros = Macros("\n".join(texts), values, names)
+    macros = Macros("\n".join(map(joined, texts)), values, names, environment)
     found: Set[Asked] = set()
     if any(macros.may_be_rule(line.group()) for line in LINE.finditer(macros.text)):
         found.add(EVERYTHING)

@@ -8,11 +8,11 @@ from typing import TYPE_CHECKING, Dict, Iterable, Iterator, List, Optional, Set
 
 from record.make.asked import MAGIC
 from record.make.database import Base
-from record.make.globs import BOUND, WORD_EVAL, arguments, composes, with_values
+from record.make.globs import BOUND, WORD_EVAL, arguments, binds_any, composes, with_values
 from record.make.graph import Node
 from record.make.macros import Macros
 from record.make.owners import Make, Work
-from record.make.references import ANY, evals
+from record.make.references import ANY, evals, with_functions
 from record.make.words import LATER, numbers_of
 from record.trace.events import ASKS, LISTED, MAKE_LISTED, MAKE_OPENED, MODE_CHANGED, ORDER_SEEN, SEEN
 from record.trace.names import Names
@@ -69,7 +69,7 @@ def own_folders(builder: "Builder", node: Node) -> Optional[Set[str]]:
     text = "\n".join(base.recipes.get(node.name, ()))
     if ".SECONDEXPANSION" in base.prerequisites or any(may_list(known, one) for one in (text, *map(known.text_of, known.answers.of_recipe(node.name)))):
         return None
-    return folders_listed(known, builder.names, node)
+    return folders_listed(builder, node)
 
 
 def may_list(known: Macros, text: str) -> bool:
@@ -89,7 +89,7 @@ def share_listings(builder: "Builder") -> None:
     late = {folder: first for folder, (first, last) in builder.listed.items() if last > began}
     lists = Lists(make)
     for node in builder.graph.nodes.values() if late else ():
-        asked = folders_listed(builder.known, builder.names, node) if node.jobs or node.must and node.has_recipe else set()
+        asked = folders_listed(builder, node) if node.jobs or node.must and node.has_recipe else set()
         born = births(builder, node)
         for folder, place in late.items():
             if place < max(born) and (asked is None or folder in asked) and lists.has(folder, min(born)):
@@ -127,11 +127,12 @@ def births(builder: "Builder", node: Node) -> List[int]:
 def words_asked(known: Macros, node: Node) -> Optional[List[str]]:
     """The words of `wildcard` in the recipe of a target; None where nobody can say them."""
     base = known.base
-    text = "\n".join(base.recipes.get(node.name, ()))
+    text = with_functions("\n".join(base.recipes.get(node.name, ())))
     reached = known.answers.of_recipe(node.name)
-    texts = [text, *map(known.text_of, reached)]
+    texts = [text, *known.answers.texts_of_recipe(node.name)]
+    whole = "\n".join(texts)
     calls = [call for one in texts for call in arguments(one)]
-    if ANY in reached or composes("\n".join(texts), "wildcard") or sum(one.count("wildcard") for one in texts) > len(calls) or None in calls or BOUND.search("\n".join(texts)):
+    if ANY in reached or composes(whole, "wildcard") or whole.count("wildcard") > len(calls) or None in calls or binds_any(whole) or BOUND.search(whole):
         return None
     own = [with_prerequisites(with_target(call or "", node.name), node.name, base) for call in calls]
     if "@D" in base.bodies or not known.reached("\n".join(own)).isdisjoint({*base.bodies, *(name for one in texts for name in looped(one))}):
@@ -154,11 +155,17 @@ def folders_asked(known: Macros, names: Names, node: Node) -> Optional[Set[str]]
     return None if words is None else folders_of(known, names, words)
 
 
-def folders_listed(known: Macros, names: Names, node: Node) -> Optional[Set[str]]:
-    """Those of them that make lists for that; None where nobody can say which. For a name without a sign of a pattern it asks the disk itself, where the
-    trace shows that, and lists no folder."""
-    words = words_asked(known, node)
-    return None if words is None else folders_of(known, names, (word for word in words if MAGIC.search(word) or not is_asked(known.make, names, word)))
+def folders_listed(builder: "Builder", node: Node) -> Optional[Set[str]]:
+    """Those of them that make lists for that; None where nobody can say which. For a name without a sign of a pattern it asks the disk itself, and lists no folder."""
+    words = words_asked(builder.known, node)
+    return None if words is None else folders_of(builder.known, builder.names, (word for word in words if MAGIC.search(word) or not asks_disk(builder)))
+
+
+@lru_cache(maxsize=4)
+def asks_disk(builder: "Builder") -> bool:
+    """Whether the trace shows that of one such name of some recipe: then make has not come to those of which it shows no look."""
+    words = (word for node in builder.graph.nodes.values() if node.jobs for word in words_asked(builder.known, node) or ())
+    return any(is_asked(builder.make, builder.names, word) for word in words if not MAGIC.search(word))
 
 
 def is_asked(make: Make, names: Names, name: str) -> bool:

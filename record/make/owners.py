@@ -218,12 +218,12 @@ class Owners:
         texts = {name: text for name, text in known.items() if text is not None}
         if make.stale or any(not make.never_read(name) for name in known.keys() - texts):
             return [EVERYTHING], []
-        names = [name for one in make.words.rounds for name in one.nodes]
+        names, values = [name for one in make.words.rounds for name in one.nodes], make.words.values()
         idle, own = idle_of(make.words), [make.words.args, make.words.flags]
         if idle is not None and any(map(TAKES.search, (*own, *texts.values()))):
             idle.macros.clear()
         used = own + without_defaults({name: without_idle(text, name, make.words, idle) for name, text in texts.items()}, make.words)
-        return sorted(patterns(used, make.words.values(), names)), sorted(listed(used, make.words.values(), names, lambda: asked_names(make.words)))
+        return sorted(patterns(used, values, names, make.words.environment)), sorted(listed(used, values, names, lambda: asked_names(make.words), make.words.environment))
 
     def match_jobs(self, make: Make) -> None:
         """Make names the processes of its jobs in the order in which it starts them. Others that it starts may have had their numbers: in a

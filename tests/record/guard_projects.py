@@ -227,7 +227,7 @@ PROJECT_GUARDS: List[Guard] = [
     Guard("wildcard: arguments that a loop names", "make/globs.py", "is_known and not self.is_bound_otherwise and not self.is_open", "is_known and not self.is_open", "test_globs.Globs.test_arguments_that_have_a_value_otherwise"),
     Guard("wildcard: arguments that a text may set", "make/globs.py", "is_known and not self.is_bound_otherwise and not self.is_open", "is_known and not self.is_bound_otherwise", "test_globs.Globs.test_arguments_that_have_a_value_otherwise"),
     Guard("wildcard: functions that macros name", "make/globs.py", "is_plain_call and name.strip()", "name.strip()", "test_globs.Globs.test_arguments_that_have_a_value_otherwise"),
-    Guard("wildcard: folders of targets that a loop names", "make/memory.py", ' or BOUND.search("\\n".join(texts)):', ":", hidden("pattern_of_a_loop_over_targets"), YES),
+    Guard("wildcard: folders of targets that a loop names", "make/memory.py", ' or BOUND.search(whole):', ":", hidden("pattern_of_a_loop_over_targets"), YES),
     Guard("wrapper: makes with nowhere to print", "make/wrapper.py", "if query or is_closed(1):", "if query:", project("make_with_its_output_closed"), UNSAID),
     Guard("markers: of Perl", "tools/exists.py", "        life.acts = [act for act in life.acts if act.path not in found]\n", "", project("marker_of_two_makes"), FALSE_RACE, ("tools/exists.py", "return not is_read and", "return False and")),
     Guard("markers: makes that would make the folder", "importing.py", "    credit_makes(owners, markers)\n", "", project("marker_of_two_makes"), FALSE_RACE),

@@ -36,7 +36,7 @@ RARE_GUARDS: List[Guard] = [
     Guard("loops: a name beside a loop", "make/macros.py", "body, words = text[loop.end():end], self", "end = len(text)\n            body, words = text[loop.end():end], self", rare("loop_over_names_and_a_name_beside_it"), YES, SHOWN),
     Guard("functions: a name that a macro puts together", "make/globs.py", "is_open and word.strip", "False and word.strip", rare("eval_whose_name_a_macro_puts_together"), YES, SHOWN),
     Guard("functions: wildcard whose name is put together", "make/globs.py", ' or composes(macros.text, "wildcard"):', ":", rare("wildcard_whose_name_is_put_together"), YES),
-    Guard("functions: wildcard whose name is put together, beside another", "make/memory.py", ' or composes("\\n".join(texts), "wildcard")', "",
+    Guard("functions: wildcard whose name is put together, beside another", "make/memory.py", ' or composes(whole, "wildcard")', "",
           rare("wildcard_beside_one_whose_name_is_put_together"), YES),
     Guard("functions: names that no function has", "make/globs.py", "any(fnmatchcase(function, word) for", "any(True for", rare("function_whose_name_is_put_together"), FALSE_RACE),
     Guard("exported macros: what make does when a recipe starts", "make/build.py", "self.known.works_late() or ", "", rare("exported_macro_that_reads_a_file"), YES),

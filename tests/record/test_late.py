@@ -31,6 +31,10 @@ LATER = "D = d1\nall: a c b.q\na: ; touch d2/n.x a\nc: ; touch c\n%s\n"
 # c lists d first; d/a looks for names there, and d/b, which nothing orders with d/a, makes one.
 FIRST = "all: c d/a d/b\ns: ; touch s\nc: s ; echo $(wildcard d/*.q) > c\nd/a: s ; %s > $@\nd/b: c ; touch d/z.q $@\n"
 WITH_K = FIRST.replace("d/a: s", "d/a: s d/k")
+ASKS = "X := $(wildcard $(P))\na: ; echo $(X) > a\n"
+LOOPS = "P = k\nF = $(wildcard $(P))\n%s\na: ; echo $(X) > a; rm -f *.q\n"
+ASKED = FIRST.replace("touch s", "touch s # $(wildcard $@)")  # the trace shows that make asks the disk
+T_FOR_A_WHILE = "T := v\n" + FIRST.replace("s: ;", "s: ; $(F)").replace("d/b\n", "d/b e\n", 1) % "echo $(T)" + "e: d/a d/b ; touch e $(eval T := x)\n"
 FOLDERS = "mkdir d1 d2 'd 2'"
 SEES = "who lists the processes that run"
 READ = "who asks when a file was read last"
@@ -62,6 +66,23 @@ LATE: Dict[str, Small] = {
     "line_that_says_something": Small("safe", INSIDE, {"in.mk": "X = a: *.x\n$(info $(X))\n" + TAKES}),
     "line_that_says_a_rule": Small("safe", INSIDE, {"in.mk": "$(info a: *.x)\n${warning $(X) a: *.x} # z\n" + TAKES}),
     "line_that_says_something_before_a_rule": Small("race", INSIDE, {"in.mk": "X = a: *.x\n$(info x)$(X)\n" + TAKES, "z.x": ""}),
+    # what goes on in the next line
+    "loop_that_goes_on": Small("race", INSIDE, {"in.mk": "P = k\nX := $(foreach \\\n P,*.x,$(wildcard $(P)))\na: ; echo $(X) > a\n"}),
+    "loop_in_lines_of_a_macro": Small("race", INSIDE, {"in.mk": "P = k\ndefine X\n$(foreach\n\nP,*.x,$(wildcard $(P)))\nendef\nY := $(X)\na: ; echo $(Y) > a\n"}),
+    "loop_over_a_macro_that_another_names": Small("race", INSIDE, {"in.mk": LOOPS % "V = P\nX := $(foreach $(V),*.x,$(F))"}),
+    "loop_that_call_calls": Small("race", INSIDE, {"in.mk": LOOPS % "X := $(call foreach,P,*.x,$$(F))"}),
+    "loop_that_a_macro_names": Small("race", INSIDE, {"in.mk": LOOPS % "X = $(call $(L),P,*.x,$$(F))\nL = foreach"}),
+    "loop_that_a_macro_puts_together": Small("race", INSIDE, {"in.mk": LOOPS % "L = each\nX := $(call for$(L),P,*.x,$$(F))"}),
+    "loop_that_call_calls_in_a_recipe": Small("race", "P = d/k\nF = $(wildcard $(P))\n" + ASKED % "echo $(call foreach,P,d/*.q,$$(F))", {"d/k": ""}, says="RACE  d/b"),
+    "loop_that_is_not_called": Small("safe", INSIDE, {"in.mk": LOOPS % "f = $1\nX := $(call f,let) $(foreach Q,k,$(Q))"}),
+    "macro_that_gets_a_pattern_in_the_next_line": Small("race", INSIDE, {"in.mk": "P \\\n = *.x\nX := $(wildcard $(P))\nP = k\na: ; echo $(X) > a\n"}),
+    "loop_over_its_target_that_goes_on": Small("race", ASKED % "echo $(foreach \\\n @,d/*.q,$(wildcard $@))", {"d/k": ""}),
+    "loop_over_its_target_in_lines_of_a_macro": Small("race", "define T\n$(foreach\n@,d/*.q,$(wildcard $@))\nendef\n" + ASKED % "echo $(T)", {"d/k": ""}),
+    "loop_that_names_no_other_macro": Small("safe", INSIDE, {"in.mk": "P = z\nX := $(foreach \\\n Q,k,$(Q))\nY := $(wildcard $(P))\na: ; echo $(Y) > a; rm -f *.q\n"}),
+    # what a macro has before a makefile sets it, and what a command gives it
+    "macro_that_a_command_gives_a_pattern": Small("race", INSIDE, {"in.mk": "P != cat f\n%sP := k\n" % ASKS, "f": "*.x\n"}),
+    "macro_that_the_environment_gives_a_pattern": Small("race", "export P = *.x\n" + INSIDE, {"in.mk": "%sP := k\n" % ASKS}),
+    "macro_that_the_environment_gives_for_good": Small("safe", "export P = z\n" + INSIDE, {"in.mk": "P ?= k\n%s" % ASKS.replace("> a", "> a; rm -f *.q")}),
     # where a recipe looks for names
     "wildcard_of_a_macro_in_a_loop": Small("race", LATER % "b.q: c ; echo $(foreach D,d2,$(wildcard $(D)/*.x)) > b.q", setup=FOLDERS),
     "wildcard_of_a_macro_of_a_pattern": Small("race", LATER % "%.q: D = d2\n%.q: c ; echo $(wildcard $(D)/*.x) > b.q", setup=FOLDERS),
@@ -77,10 +98,17 @@ LATE: Dict[str, Small] = {
     "wildcard_of_its_prerequisites_and_a_pattern": Small("race", WITH_K % "echo $(wildcard $^ d/*.q)", {"d/k": ""}),
     "wildcard_of_a_name": Small("safe", "N = d/k\n" + FIRST % "echo $(wildcard $(N))", {"d/k": ""}),
     "wildcard_of_a_name_that_another_makes": Small("race", FIRST % "echo $(wildcard d/z.q)", {"d/k": ""}),
+    "wildcard_of_a_name_in_a_branch_that_is_not_taken": Small("safe", WITH_K % "echo $(if $(wildcard $^),yes,$(wildcard $@))", {"d/k": ""}),
+    "wildcard_of_a_name_that_another_recipe_has_asked": Small("safe", ASKED % "echo $(if $(N),$(wildcard $@))", {"d/k": ""}),
+    "wildcard_of_a_pattern_in_a_branch_that_is_not_taken": Small("race", WITH_K % "echo $(if $(wildcard $^),yes,$(wildcard d/*.q))", {"d/k": ""}),
+    "wildcard_of_names_that_are_not_asked": Small("race", WITH_K % "echo $(if $(N),$(wildcard $@))", {"d/k": ""}),  # where make may have found another way
     "wildcard_of_a_name_and_a_pattern": Small("race", FIRST % "echo $(wildcard d/k d/*.q)", {"d/k": ""}),
     "wildcard_of_a_pattern_in_a_macro": Small("race", "N = d/[z].q\n" + FIRST % "echo $(wildcard $(N))", {"d/k": ""}),
     "wildcard_of_a_macro_that_may_be_a_pattern": Small("race", "N = d/k\n" + FIRST.replace("s: ;", "s: ; $(eval N := d/*.q)") % "echo $(wildcard $(N))", {"d/k": ""}),
     "wildcard_of_a_folder_that_is_a_pattern": Small("race", FIRST % "echo $(wildcard ?/z.q)", {"d/k": ""}),
+    "wildcard_that_was_asked_when_the_makefile_was_read": Small("safe", "HOME := $(CURDIR)/v\nT := $(wildcard ~/*.q)\n" + FIRST % "echo $(wildcard $@) $(T)", {"d/k": ""}),
+    "wildcard_that_is_asked_later": Small("race", "T := $(wildcard v/*.q)\nT = $(wildcard d/*.q)\n" + FIRST % "echo $(wildcard $@) $(T)", {"d/k": ""}),
+    "wildcard_that_a_recipe_gives_a_macro_for_a_while": Small("race", T_FOR_A_WHILE, {"d/k": ""}, says="RACE  d/z.q"),
     # processes of other recipes
     "signal_for_another_recipe": Small("safe", "all: b\na: ; sleep 9 > /dev/null 2>&1 & echo $$! > a\nb: a ; kill `cat a`; touch b\n", says=SEES),
     "signal_for_its_own_process": Small("safe", "all: ; sleep 9 & kill $$!; touch all\n", lacks=SEES),

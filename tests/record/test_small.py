@@ -312,6 +312,7 @@ SMALL: Dict[str, Small] = {
 COMMANDS: Dict[str, List[str]] = {
     "double_colon_that_is_a_goal": ["make", "x", "u"],
     "value_that_looks_like_one_job": ["make", "X=-v -j1"],
+    "wildcard_that_a_recipe_gives_a_macro_for_a_while": ["env", "F=$(eval T = $$(wildcard d/*.q))", "make"],
     "make_by_its_path": [str(shutil.which("make"))],
     "script_of_make": ["./rules", "all"],
     "jobs_of_a_makefile_and_one_job": ["make", "-j1"],
