@@ -13,7 +13,7 @@ from record.tools.pynames import STANDARD, modules_of, tree_of
 from record.tools.texts import text_of
 
 # Words by which a text gets ages or numbers of files, or another text or a name that nobody has read.
-ASKS = re.compile(r"stats?\b|stat_|st_\w|[acm]time|birthtime|ino(?:de)?\b|archive|getattr|attrgetter|methodcaller|Formatter|get_field|importlib|importer|meta_path|path_hooks|breakpoint"
+ASKS = re.compile(r"stats?\b|stat_|\bst_\w|[acm]time|birthtime|inode|archive|getattr|attrgetter|methodcaller|Formatter|get_field|importlib|importer|meta_path|path_hooks|breakpoint"
                   r"|globals|locals|builtins|frame|\bimport\s*\*|get_type_hints|ForwardRef|singledispatch|read_(?:file|module)|(?<!\bre\.)\bcompile\b|\b(?:exec|eval|vars|modules)\b"
                   r"|__(?!(?:name|main|file|init|doc|future|str|repr|enter|exit|eq|hash|lt|len|iter|next|version|author)__)\w+__")
 COOKIE = re.compile(r"(?:.*\n)?[ \t\f]*#.*?coding[:=](?![ \t]*utf-?8\b)")  # a line that says that a text is not what it looks like

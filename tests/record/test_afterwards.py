@@ -17,7 +17,7 @@ TWO = "all: r2\nr2: r1 ; %s && touch r2\nr1: ; $(MAKE) -f 1.mk && touch r1\n"
 NINJA = "rule g\n  command = echo ran >> log; touch $out\n  generator = 1\nbuild y: g x\n"
 SAYS = "which of y and x is newer"
 ASSUMED = "interpreters, programs that nobody knows"
-PYTHON = {"look.py": "import os\nprint(os.path.exists('x'), os.path.exists('y'))\n"}
+PYTHON = {"look.py": "import os\nprint(os.stat('x').st_size, os.stat('y').st_size)\n"}
 
 AFTERWARDS: Dict[str, Small] = {
     # another make or ninja
