@@ -92,7 +92,7 @@ class Place:
 
     def command(self, words: List[str]) -> List[str]:
         """The command that is built, and recorded: one whose output is closed needs a shell, as the recorder prints its answer there.
-        A pipe is closed at its beginning: `cat` cannot write to a closed output, and ends, so how far make comes would hang on the time."""
+        A pipe is closed at its beginning: `cat` cannot write to a closed output, and ends, so how far make comes would depend on the time."""
         closed = ["sh", "-c", 'exec "$@" >&-', "sh"] if self.outputs == "no output" else []
         caller = shlex.split(self.call)
         return [*caller, *closed, *words] if "|" in self.call else [*closed, *caller, *words]
