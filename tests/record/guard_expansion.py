@@ -85,5 +85,5 @@ EXPANSION_GUARDS: List[Guard] = [
     Guard("data base: recipes that it does not show", "make/words.py", "if unread is not None else []", "if False else []", call("target_that_begins_like_a_remark"), LOST_HOLE),
     Guard("macros: set in a way that nobody knows", USED, "        use.writes |= unwritten\n", "", values("who_sets_a_macro_in_a_way_that_nobody_knows")),
     Guard("data base: a macro without an end", "make/words.py", "if found.is_open else []", "if False else []", "test_words.Holes.test_macro_without_an_end"),
-    Guard("calls: lists of folders", MEMORY, "reached = known.answers.of_recipe(node.name)", "reached = known.reached(text)", call("list_beside_a_call"), FALSE_RACE),
+    Guard("calls: lists of folders", MEMORY, "*known.answers.texts_of_recipe(node.name)]", "*map(known.text_of, known.reached(text))]", call("list_beside_a_call"), FALSE_RACE),
 ]

@@ -2,7 +2,7 @@
 
 from typing import List
 
-from guard_table import FALSE_RACE, LOST_HOLE, UNSAID, YES, Guard, warm
+from guard_table import EARLIER, FALSE_RACE, LOST_HOLE, UNSAID, YES, Guard, warm
 
 
 def hidden(name: str) -> str:
@@ -45,9 +45,9 @@ HIDDEN_GUARDS: List[Guard] = [
     Guard("makes inside: folders of patterns by their names", "make/asked.py", '    return "/".join([begin, *names]) if', '    return begin if begin == ANY else "/".join([begin, *names]) if', hidden("pattern_of_a_folder_of_another_name_inside"), FALSE_RACE),
     Guard("makes inside: folders by way of others", "make/asked.py", "os.path.normpath(os.path.join(glob.escape(own), pattern))", "os.path.join(glob.escape(own), pattern)", hidden("pattern_of_a_folder_by_another_inside"), YES),
     Guard("makes inside: folders by links", "make/asked.py", "if by_links or fnmatchcase", "if fnmatchcase", hidden("pattern_of_a_folder_by_a_link_inside"), YES),
-    Guard("makes inside: folders by macros", "make/asked.py", "        if FLOATS.search(part) or part.startswith", "        if part.startswith", hidden("pattern_of_a_folder_by_a_macro_inside"), YES),
-    Guard("makes inside: patterns behind macros", "make/asked.py", "or ODD.search(word) or FLOATS.search(part)  #", "or ODD.search(word)  #", hidden("pattern_behind_a_macro_inside"), YES),
-    Guard("makes inside: patterns in each word of a macro", "make/globs.py", 're.sub(r"(\\S+)", EARLIER + r"\\1" + EARLIER, fixed)', "fixed", hidden("pattern_in_a_macro_of_words_inside"), YES),
+    Guard("makes inside: folders by macros", "make/asked.py", "        if FLOATS.search(part) or part.startswith", "        if part.startswith", hidden("pattern_of_a_folder_by_a_macro_inside"), YES, EARLIER),
+    Guard("makes inside: patterns behind macros", "make/asked.py", "or ODD.search(word) or FLOATS.search(part)  #", "or ODD.search(word)  #", hidden("pattern_behind_a_macro_inside"), YES, EARLIER),
+    Guard("makes inside: patterns in each word of a macro", "make/globs.py", 're.sub(r"(\\S+)", EARLIER + r"\\1" + EARLIER, fixed)', "fixed", hidden("pattern_in_a_macro_of_words_inside"), YES, EARLIER),
     Guard("makes inside: patterns with a stem", "make/asked.py", 'FLOATS = re.compile("[%', 'FLOATS = re.compile("[', hidden("pattern_with_a_stem_inside"), YES),
     Guard("recipes: folders of patterns", "make/memory.py", "    patterns = make.patterns_in(folder)\n", "    patterns = [one.part for one in make.globs]\n", hidden("pattern_of_another_folder_in_a_recipe"), FALSE_RACE),
     Guard("makes inside: lines that include makefiles", "make/globs.py", ", *INCLUDE.findall(macros.text)]", "]", hidden("pattern_of_an_include_in_a_make_inside"), YES),

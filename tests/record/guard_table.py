@@ -54,6 +54,9 @@ SHOWN = ("make/used.py", "    if seen:\n", "    if False:\n")
 # The same of a make in which no text says that recipes change any.
 SAID = ("make/macros.py", "self.is_used or bool(self.steady.set_by_recipes)", "self.is_used")
 
+# What turns off that a macro which a makefile sets had the value of the environment before.
+EARLIER = ("make/globs.py", 'if name in self.environment and sign != "?":', "if False:")
+
 # What turns off that texts are worked out (guard_expansion.py), for guards of what counts where they cannot be.
 COARSE = ("make/expansion.py", "if known.is_lost or ANY in known.changed:", "if True:")
 

@@ -128,7 +128,7 @@ SMALL: Dict[str, Small] = {
     "folder_that_is_listed_first_and_there": Small("safe", "all: a b c\na: b ; ls p > a; mkdir -p p/q\nb: ; mkdir -p p/q; touch b\nc: ; mkdir -p p/q; touch c\n", {"p/k": ""}),
     "folder_that_is_listed_later": Small("safe", "all: a b\na: ; mkdir -p p/q; ls p > a\nb: ; mkdir -p p/q; touch b\n", {"p/k": ""}),
     "folder_that_is_listed_for_modules_first": Small("safe", "all: a b\na b: ; python3 -S gen.py $@\n", {
-        "gen.py": "import json, os, sys\nos.makedirs('out', exist_ok=True)\nopen('out/' + sys.argv[1], 'w').close()\nopen(sys.argv[1], 'w').close()\n"}),
+        "gen.py": "import email, os, sys\nos.makedirs('out', exist_ok=True)\nopen('out/' + sys.argv[1], 'w').close()\nopen(sys.argv[1], 'w').close()\n"}),
     "folder_of_two_modes": Small("race", "all: a b\na: ; mkdir -p -m 700 d; touch a\nb: ; mkdir -p d; touch b\n"),
     "folder_of_one_mode": Small("safe", "all: a b\na: ; umask 022; mkdir -p -m 755 d; touch a\nb: ; umask 022; mkdir -p d; touch b\n"),
     # ages that are taken over
