@@ -38,6 +38,7 @@ exit 0
 """
 # The shortest delay in seconds: one on an idle machine, and the part of a serial build that it is on a busy one.
 DELAY, PART = 0.01, 0.025
+SLOW = 0.02  # seconds: more than a file system takes for one and the same time
 JOBS = 16  # enough for all recipes at once
 OWN = (".ninja_log", ".ninja_deps", ".ninja_lock")
 USUAL = Place(outputs="joined")
@@ -152,6 +153,13 @@ class Builder:
         self.delay = max(DELAY, found.seconds * PART)
         return found
 
+    def slow(self) -> Outcome:
+        """A serial build in which each step takes a while, as where it is recorded: files have other times then, and a recipe may compare them."""
+        path = self.room / "slow"
+        path.write_text("#!/bin/sh\nsleep %.3f\n" % SLOW)
+        path.chmod(0o755)
+        return self.run(self.place.command(self.project.serial()), str(path))
+
     def nap(self) -> str:
         """A program that delays, at random."""
         path = self.room / ("nap%d" % self.builds)
@@ -233,9 +241,11 @@ def judge(project: Project, room: Path, runs: int, recorder: Path = RECORDER, sh
         return Result(project.seed, "crash", about=recorded.output[-1500:])
     result = Result(project.seed, "", VERDICTS[recorded.status], assumed=assumptions(recorded.output))
     holds = list(schedules(builder.folder / ".race")) if result.verdict == "race" else []
-    changed = differences(serial[0], Outcome(serial[0].status, recorded.tree)) or plain and said_otherwise(plain, recorded)
+    left = Outcome(serial[0].status, recorded.tree)
+    changed = differences(serial[0], left) or plain and said_otherwise(plain, recorded)
     if changed and not is_known(project, recorded.output) and not is_spoken(result):
-        result.kind, result.about = "changed", changed
+        is_timed = differences(serial[0], left) and not differences(builder.slow(), left)
+        result.kind, result.about = "unstable" if is_timed else "changed", changed
     elif serial[0].status:
         result.kind, result.about = "serial fails", serial[0].output[-300:]
     elif result.verdict == "no verdict":

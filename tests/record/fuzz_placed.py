@@ -76,7 +76,8 @@ class PlacedDraw(GadgetDraw):
         steps = [self.random.choice(reads if is_reader else ASKS), self.random.choice(ASKS)]
         text = self.plain("NAME", " ".join(self.prerequisites()), steps[0]) + self.plain("NAME.b", self.unless("NAME"), steps[1] + "; cat NAME >> $@ 2> /dev/null || true")
         self.done.append(name)
-        breaks = {name: "serial", name + ".b": "serial"} if is_reader or "/dev/tty" in text else {}
+        has_terminal = "/dev/tty" in text or "test -t 0" in text and self.place.stdin == "terminal"  # of several jobs one has it
+        breaks = {name: "serial", name + ".b": "serial"} if is_reader or has_terminal else {}
         return Block(self.pair(name, name + ".b"), text.replace("NAME", name), {}, breaks)
 
     def odd(self, name: str) -> Block:

@@ -66,6 +66,11 @@ class Judges(unittest.TestCase):
     def test_changed_build(self) -> None:
         self.assertEqual("changed", self.result(SAFE, "echo x >> a\n").kind)
 
+    def test_build_that_depends_on_the_time(self) -> None:
+        """What a serial build leaves too, where each step takes a while, the recording has not changed."""
+        timed = Project(1, [Block(["a"], "a: ; @test '$N' = : && echo quick > a || echo slow > a\n")])
+        self.assertEqual(["unstable", "changed"], [self.result(timed, "echo %s > a\n" % word).kind for word in ("slow", "other")])
+
     def test_recorder_that_stops(self) -> None:
         self.assertEqual(["crash", "no verdict"], [self.result(SAFE, "exit %d\n" % status).kind for status in (3, 2)])
 
