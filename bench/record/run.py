@@ -6,9 +6,10 @@
     bench/record/run.py --only c-files --runs 1     one project, once
     bench/record/run.py --part 0.1                  each project that is made a tenth as large
 
-Projects that are made here: c-files (200 C files, 40 headers, one of them generated, four libraries, a program), recipes
-(1,500 recipes that share 55 prerequisites), inner (40 makes inside one make, 5 recipes each), ninja (the files of c-files,
-built by ninja, where that is there). Projects of this machine: the examples of Debian's liblzma-dev and libxmlsec1-dev, where they are there. Seconds are those of the clock, and of the
+Projects that are made here: lua-like, zlib-like and musl-like (10, 50 and 1,500 recipes of a library in C: a file takes 0.2 s
+in the first two, and 0.03 s in the last, where each needs 66 headers), c-files (200 C files, 40 headers, one of them generated,
+four libraries, a program), recipes (1,500 recipes that share 55 prerequisites), inner (40 makes inside one make, 5 recipes each),
+ninja (the files of c-files, built by ninja, where that is there). Projects of this machine: the examples of Debian's liblzma-dev and libxmlsec1-dev, where they are there. Seconds are those of the clock, and of the
 processors in parentheses; the best of N runs (three). Nothing here is a test.
 """
 
@@ -33,6 +34,19 @@ from record.judge import judge  # noqa: E402
 RECORDER = TOP / "record" / "race-record"
 STAND_IN = TOP / "tests" / "record" / "race_tasks.py"
 EXAMPLES = {"liblzma": "/usr/share/doc/liblzma-dev/examples", "xmlsec": "/usr/share/doc/libxmlsec1-dev/examples"}
+# A function that takes a compiler a hundredth of a second: the numbers of its file and its own, and two that make it another one.
+FUNCTION = """int f%d_%d(const char *s, int *a, int n) {
+    int i, t = %d;
+    for (i = 0; i < n && s[i]; i++)
+        switch (s[i] & 7) {
+        case 0: t += a[i]; break;
+        case 1: t ^= a[n - i] << 3; break;
+        case 2: if (t > %d) t /= 3; else t = s[t & 7]; break;
+        default: t = t * 31 + s[i];
+        }
+    return t;
+}
+"""
 # The Makefile of liblzma's examples names a program whose source Debian leaves out.
 GOALS = {"liblzma": ["01_compress_easy", "02_decompress", "03_compress_custom", "04_compress_easy_mt"]}
 
@@ -92,6 +106,24 @@ def ninja(folder: Path, part: float) -> None:
     (folder / "build.ninja").write_text("\n".join(lines) + "\n")
 
 
+def library(count: int, functions: int, heads: int) -> Callable[[Path, float], None]:
+    """A library in C and a program: so many files, each with so many functions, whose rules name so many headers."""
+
+    def make(folder: Path, part: float) -> None:
+        files = max(2, int(count * part))
+        for n in range(heads):
+            (folder / ("h%d.h" % n)).write_text("#ifndef H%d\n#define H%d %d\n#include <stddef.h>\n#endif\n" % (n, n, n))
+        for n in range(files):
+            first = "".join("#include <%s.h>\n" % name for name in ("stdio", "stdlib", "string")[:functions]) + '#include "h%d.h"\n' % (n % heads)
+            (folder / ("f%d.c" % n)).write_text(first + "".join(FUNCTION % (n, k, k, k * 7) for k in range(functions)))
+        (folder / "main.c").write_text("int main(void) { return 0; }\n")
+        objects = " ".join("f%d.o" % n for n in range(files))
+        (folder / "Makefile").write_text("CFLAGS = -O2\nmain: main.c lib.a ; $(CC) $(CFLAGS) -o $@ main.c lib.a\nlib.a: %s ; $(AR) rcs $@ $?\n%s: %s\n" % (
+            objects, objects, " ".join("h%d.h" % n for n in range(heads))))
+
+    return make
+
+
 def recipes(folder: Path, part: float) -> None:
     """Many short recipes with many edges."""
     count = int(1500 * part)
@@ -124,7 +156,9 @@ def example(path: str) -> Callable[[Path, float], None]:
     return make
 
 
-PROJECTS: Dict[str, Callable[[Path, float], None]] = {"c-files": c_files, "recipes": recipes, "inner": inner, **{k: example(v) for k, v in EXAMPLES.items() if os.path.isdir(v)}}
+PROJECTS: Dict[str, Callable[[Path, float], None]] = {
+    "lua-like": library(8, 15, 5), "zlib-like": library(48, 12, 5), "musl-like": library(1498, 1, 66),
+    "c-files": c_files, "recipes": recipes, "inner": inner, **{k: example(v) for k, v in EXAMPLES.items() if os.path.isdir(v)}}
 if shutil.which("ninja"):
     PROJECTS["ninja"] = ninja
 
