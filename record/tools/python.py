@@ -17,7 +17,7 @@ from record.trace.lives import Life
 
 PYTHON = re.compile(r"(?:.*/)?python[\d.]*$")
 CACHE = "__pycache__"
-LISTS = re.compile(r"listdir|scandir|glob|walk|iterdir|\bPath\b|pathlib|\bexec\b|\beval\b|__import__|importlib|pkgutil|runpy|copytree|rmtree|archive|zip|tarfile"
+LISTS = re.compile(r"listdir|scandir|glob|walk|iterdir|\bPath\b|pathlib|\bexec(?:file)?\b|\beval\b|__import__|importlib|pkgutil|runpy|copytree|rmtree|archive|zip|tarfile"
                    r"|filecmp|mailbox|tabnanny|modulefinder|pydoc|lib2to3|addsitedir|logging.handlers|compileall|unittest|pytest|setuptools|distutils|pkg_resources|metadata|ctypes|\bstat\b|getmtime"
                    r"|pickle|marshal|shelve|timeit|doctest|zoneinfo|codeop|Interactive|\bvars\b|__dict__|__builtins__|getattr\(\s*(?:os|posix|sys)\b")
 SYSTEM = re.compile(r"/etc/|(?:/usr)?/lib(?:32|64)?/(?!python)")
@@ -163,10 +163,10 @@ def settle_lists(life: Life, sources: Dict[str, int], own: List[str], written: D
 
 
 def settle_looks(life: Life, texts: List[str], begun: int, written: Dict[str, int]) -> None:
-    """Looks of a program whose texts ask for no age."""
+    """Looks of a program whose texts ask for no age; those of Python 2 have other words for that."""
     text = given_text(life)
     looks = [(kind, path) for (kind, path), place in life.events.items() if kind == AGE_SEEN and place > begun]
-    if not looks or any(written.get(path, 0) > begun for path in texts) or pyages.may_ask([text], texts):
+    if not looks or not pynames.PROGRAM.match(life.program) or any(written.get(path, 0) > begun for path in texts) or pyages.may_ask([text], texts):
         return
     for event in looks:
         del life.events[event]

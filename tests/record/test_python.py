@@ -7,7 +7,7 @@ from typing import Dict
 
 import support
 from record.tools import pyages, pynames, pystart
-from record.tools.python import given_text, is_of_python, lists_folders, own_sources, settle, settle_lists, sources_of
+from record.tools.python import given_text, is_of_python, lists_folders, own_sources, settle, settle_lists, settle_looks, sources_of
 from record.trace.lives import Life
 
 HELPER = {"t/lib.py": "def text():\n    return 'x'\n"}
@@ -81,6 +81,12 @@ class Python(unittest.TestCase):
         self.of(SIDES.replace("t/gen.py", "-c 'import os; print(os.path.isfile(\"x\"), os.path.isfile(\"y\"))'"), "", 0)
         self.of(SIDES.replace("python3 -S t/gen.py", "cat t/gen.py | PYTHONPATH=t python3 -S -"), "import lib\n" + script, 1)
 
+    def test_looks_of_python_2(self) -> None:
+        for program, is_left in (("/usr/bin/python3.11", False), ("/usr/bin/python2.7", True)):
+            life = Life(1, argv=["python", "-c", "import os; os.path.exists('x')"], program=program, events={("A", "/w/x"): 5})
+            settle_looks(life, [], 0, {})
+            self.assertEqual(is_left, ("A", "/w/x") in life.events, program)
+
     def test_texts_that_ask_for_no_age(self) -> None:
         for text, wanted in (("import os, json\nfrom pathlib import Path\nos.path.isfile('x'), Path('x').exists()", False), ("import lib, os.path", sys.version_info < (3, 10)), ("import shutil, datetime; shutil.copy2('x', 'y')", False),
                              ("from . import x", False), ("import os; os.stat('x')", True), ("os.path.getctime('x')", True), ("next(os.scandir()).inode()", True), ("x.st_mtime_ns", True), ("import zipfile", True), ("import xml.etree", True),
@@ -105,7 +111,7 @@ class Python(unittest.TestCase):
         self.of(TWO + "all: z\nz: t/x.c t/y.c ; echo > t/gen.py; touch z\n", listing, 1)
 
     def test_script_that_hides_what_it_lists(self) -> None:
-        for text, is_one in (("getattr(os, 'list' + 'dir')('.')", True), ("os.__dict__[n]('.')", True), ("getattr(self, name)", False), ("code = re.compile('x')", False)):
+        for text, is_one in (("getattr(os, 'list' + 'dir')('.')", True), ("execfile('x')", True), ("os.__dict__[n]('.')", True), ("getattr(self, name)", False), ("code = re.compile('x')", False)):
             with support.Project({"x.py": text}) as project:
                 self.assertEqual(is_one, lists_folders(str(project.folder / "x.py")), text)
 
