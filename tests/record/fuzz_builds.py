@@ -41,6 +41,7 @@ DELAY, PART = 0.01, 0.025
 SLOW = 0.02  # seconds: more than a file system takes for one and the same time
 JOBS = 16  # enough for all recipes at once
 OWN = (".ninja_log", ".ninja_deps", ".ninja_lock")
+SHOWN = "nohup.out"  # what make prints where `nohup` calls it from a terminal: its commands show who delays them
 USUAL = Place(outputs="joined")
 AHEAD = re.compile(rb"[0-9.e+]+ s in the future")  # what passes meanwhile
 KNOWN = ("asks for several jobs", "prints the recorder's words")
@@ -279,7 +280,7 @@ def said_otherwise(plain: List[Outcome], recorded: Outcome) -> str:
 
 def shake(builder: Builder, serial: Outcome, result: Result, builds: Iterable[Outcome]) -> None:
     """Parallel builds, until one differs in more than files of an assumption that was printed."""
-    others = granted(builder.project, result.assumed)
+    others = [*granted(builder.project, result.assumed), SHOWN]
     is_safe, is_broken = result.verdict == "safe", False
     for parallel in builds:
         about = differences(serial, parallel, others)
