@@ -284,7 +284,7 @@ def shake(builder: Builder, serial: Outcome, result: Result, builds: Iterable[Ou
     is_safe, is_broken = result.verdict == "safe", False
     for parallel in builds:
         about = differences(serial, parallel, others)
-        is_broken = is_broken or bool(differences(serial, parallel))
+        is_broken = is_broken or bool(differences(serial, parallel, [SHOWN]))
         if about:
             result.differed, result.about = result.differed + 1, about
             break
