@@ -9,7 +9,7 @@ import re
 from functools import lru_cache
 from typing import FrozenSet, Iterable
 
-from record.tools.pynames import STANDARD, modules_of, tree_of
+from record.tools.pynames import LARGE, STANDARD, modules_of, tree_of
 from record.tools.texts import text_of
 
 # Words by which a text gets ages or numbers of files, or another text or a name that nobody has read.
@@ -36,11 +36,10 @@ def name_of(path: str) -> str:
     return os.path.basename(os.path.dirname(path)) if name == "__init__" else name
 
 
-@lru_cache(1024)
 def asks(text: str, own: FrozenSet[str]) -> bool:
     """Whether a text has such a word, or takes in a module that is neither one of the project's `own`, which is read too, nor ageless. Python takes other
-    letters than those of ASCII for these."""
-    if not text.isascii() or COOKIE.match(text) or ASKS.search(text):
+    letters than those of ASCII for these; a large text may have any word."""
+    if len(text) >= LARGE or not text.isascii() or COOKIE.match(text) or ASKS.search(text):
         return True
     tree = tree_of(text)
     return tree is None or not all(is_ageless(name, own) for name in modules_of(tree))
@@ -50,7 +49,7 @@ def asks(text: str, own: FrozenSet[str]) -> bool:
 def asks_in(path: str, own: FrozenSet[str]) -> bool:
     """Whether a module does so; one that is no text, or that is gone, may."""
     try:
-        return not path.endswith(".py") or asks(text_of(path), own)
+        return not path.endswith(".py") or asks(text_of(path, LARGE), own)
     except OSError:
         return True
 

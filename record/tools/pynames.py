@@ -89,7 +89,6 @@ def said_by(path: str) -> Optional[Text]:
         return None
 
 
-@lru_cache(KEPT)
 def said_in(text: str) -> Optional[Text]:
     """The same of a text itself."""
     if len(text) >= LARGE or MADE.search(text) or any(map(CODING.search, text.split("\n", 2)[:2])):

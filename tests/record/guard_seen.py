@@ -66,6 +66,7 @@ SEEN_GUARDS: List[Guard] = [
     Guard("Python: ages: modules that are no texts", "tools/pyages.py", "not path.endswith(\".py\") or ", "", python("texts_that_ask_for_no_age")),
     Guard("Python: ages: words", "tools/pyages.py", "COOKIE.match(text) or ASKS.search(text)", "COOKIE.match(text)", python("texts_that_ask_for_no_age")),
     Guard("Python: ages: other codes", "tools/pyages.py", "COOKIE.match(text) or ", "", python("texts_that_ask_for_no_age")),
+    Guard("Python: ages: large texts", "tools/pyages.py", "len(text) >= LARGE or ", "", python("texts_that_ask_for_no_age")),
     Guard("Python: ages: other letters", "tools/pyages.py", "not text.isascii() or ", "", python("texts_that_ask_for_no_age")),
     Guard("Python: ages: its own modules", "tools/pyages.py", "name in AGELESS or bool(STANDARD)", "True or bool(STANDARD)", python("texts_that_ask_for_no_age")),
     Guard("Python: ages: its own modules by a name of the project", "tools/pyages.py", " and first not in STANDARD", "", python("texts_that_ask_for_no_age")),

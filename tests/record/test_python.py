@@ -92,7 +92,7 @@ class Python(unittest.TestCase):
                              ("from . import x", False), ("import os; os.stat('x')", True), ("os.path.getctime('x')", True), ("next(os.scandir()).inode()", True), ("x.st_mtime_ns", True), ("import zipfile", True), ("import xml.etree", True),
                              ("from os import *", True), ("from zipfile import ZipFile", True), ("import more", True), ("getattr(os, 's' + 'tat')", True), ("exec('x')", True), ("sys.modules['os']", True), ("__loader__.path(x)", True),
                              ("shutil.make_archive('x', 'tar')", True), ("type(f)(compile(x, '', 'eval'), {})()", True), ("re.compile('x')", False), ("import os; os.makedirs('d', exist_ok=True); last_of = first_of = []", False), ("sys.settrace(lambda x, *_: x.f_builtins)", True), ("values.read_file('x')", True), ("print 1", True), ("os.\uff53tat('x')", True), ("# coding: unicode_escape\nx", True), ("#!/x\n# -*- coding: utf-7 -*-", True), ("# coding=utf-8", False),
-                             ("if __name__ == '__main__': x()", False), ("print(datetime.now(), statistics, 'status')", False)):
+                             ("x = 1\n" * 50000, True), ("if __name__ == '__main__': x()", False), ("print(datetime.now(), statistics, 'status')", False)):
             self.assertEqual(wanted, pyages.asks(text, frozenset(("lib", "zipfile"))), text)
         with support.Project({"x.py": "x = 1\n", "x.so": "x = 1\n"}) as project:
             self.assertEqual([False, True, True], [pyages.asks_in(str(project.folder / name), frozenset()) for name in ("x.py", "x.so", "gone.py")])
