@@ -79,13 +79,13 @@ def to_end(strace: "subprocess.Popen[bytes]", room: str) -> List[int]:
 
 
 def have_ended(strace: "subprocess.Popen[bytes]", room: str) -> bool:
-    """Whether strace, and all processes of the build that it does not follow any more, end in time."""
-    until = time.monotonic() + PATIENCE
-    while time.monotonic() < until:
-        if strace.poll() is not None and not any(left_of(room)):
-            return True
+    """Whether strace, and all processes of the build that it does not follow any more, end in time. Two looks have to show none: one that
+    becomes another program has no environment for a moment."""
+    until, looks = time.monotonic() + PATIENCE, 0
+    while looks < 2 and time.monotonic() < until:
+        looks = looks + 1 if strace.poll() is not None and not any(left_of(room)) else 0
         time.sleep(0.02)
-    return False
+    return looks == 2
 
 
 def end_traced(strace: "subprocess.Popen[bytes]", room: str) -> None:

@@ -18,7 +18,7 @@ from unittest import mock
 import forked
 import support
 from record import folder as places
-from record.entry import STOPPING, end_traced, printable, reason
+from record.entry import STOPPING, end_traced, have_ended, printable, reason
 from record.folder import Taken, alone as alone_at, aside, come_back, move
 from record.trace.pipe import Pipe
 
@@ -105,6 +105,14 @@ class Signals(unittest.TestCase):
                 status = left.poll()
                 left.kill()
         self.assertEqual(-signal.SIGKILL, status)
+
+    def test_what_becomes_another_program(self) -> None:
+        """It has no environment for a moment, by which it would be found."""
+        for shown, looks in (((False, True, False, False), 4), ((False, False), 2)):
+            found = [iter((1,) if is_there else ()) for is_there in shown]
+            with subprocess.Popen(["true"]) as strace, mock.patch("record.entry.left_of", side_effect=found) as left:
+                strace.wait()
+                self.assertEqual((True, looks), (have_ended(strace, ""), left.call_count))
 
     def test_terminated(self) -> None:
         self.stopped(signal.SIGTERM)

@@ -169,7 +169,8 @@ class Projects(unittest.TestCase):
         self.assertEqual([one.place for one in drawn], [PlacedDraw(seed).draw().place for seed in range(300)])
         self.assertEqual([GadgetDraw(seed).draw() for seed in range(50) if drawn[seed].place is None], [one for one in drawn[:50] if one.place is None])
         places = [draw_place(seed, True, True) for seed in range(600)]
-        self.assertEqual(({*INPUTS} - ({"terminal"} if not has_terminals() else set()), {*OUTPUTS}, {*FOLDERS}, {*VARIABLES}),
+        lacks = {"terminal"} if not has_terminals() else set()
+        self.assertEqual(({*INPUTS} - lacks, {*OUTPUTS} - lacks, {*FOLDERS}, {*VARIABLES}),
                          ({p.stdin for p in places}, {p.outputs for p in places}, {p.folder for p in places}, {name for p in places for name in p.env}))
         self.assertTrue(all(any(getattr(p, name) for p in places) for name in ("open", "linked", "mask", "nice", "files", "user", "ignored", "above")))
         text = "".join(one.makefile() for one in placed)
