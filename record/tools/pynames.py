@@ -14,6 +14,7 @@ from typing import Dict, FrozenSet, Iterator, NamedTuple, Optional, Sequence, Se
 
 from record.tools.shelltext import KEPT
 from record.tools.texts import text_of
+from record.trace.events import FOLDER_KEPT, TREE_CHANGES
 from record.trace.lives import Life
 
 PROGRAM = re.compile(r"(?:.*/)?python3[\d.]*$")
@@ -126,12 +127,12 @@ def names_of(tree: ast.AST) -> Iterator[str]:
             yield node.module or ""
 
 
-def changed_in(lives: Sequence[Life], kinds: str) -> Dict[str, Set[str]]:
-    """By folder: the names that came or went there, by events of some kinds."""
+def changed_in(lives: Sequence[Life]) -> Dict[str, Set[str]]:
+    """By folder: the names that came or went there, or would go in another order of the recipes."""
     found: Dict[str, Set[str]] = {}
     for life in lives:
         for kind, path in life.events:
-            if kind in kinds:
+            if kind in TREE_CHANGES + FOLDER_KEPT:
                 folder, name = os.path.split(path.rstrip("/"))
                 found.setdefault(folder, set()).add(name)
     return found

@@ -12,7 +12,7 @@ from record.missing.looked import BYTE_CODE
 from record.tools import pyages, pynames, pystart, shelltext
 from record.tools.makedirs import settle_made
 from record.tools.texts import text_of
-from record.trace.events import ABSENT, AGE_SEEN, FOLDER_KEPT, LISTED, MADE_QUIETLY, MAKER_SEEN, READ, SEEN, STRICT, TREE_CHANGES, WAY_ABSENT
+from record.trace.events import ABSENT, AGE_SEEN, LISTED, MADE_QUIETLY, MAKER_SEEN, READ, SEEN, STRICT, WAY_ABSENT
 from record.trace.lives import Life
 
 PYTHON = re.compile(r"(?:.*/)?python[\d.]*$")
@@ -41,7 +41,7 @@ def settle(lives: List[Life], tops: Sequence[str] = ()) -> Iterator[Tuple[str, s
     for path, place in ((path, place) for life in lives for path, place in life.changed.items() if path.endswith(".py")) if known else ():
         written[path] = max(place, written.get(path, 0))
     others = {cache_of(path) for life in lives if not is_python(life) for _, path in life.events if CACHE in path}
-    changed = pynames.changed_in(lives, TREE_CHANGES + FOLDER_KEPT) if known else {}
+    changed = pynames.changed_in(lives) if known else {}
     for life in known:
         names = [path for _, path in life.events if CACHE in path and cache_of(path) not in others and not is_of_system(path, tops)]
         sources = sources_of(life)

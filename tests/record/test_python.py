@@ -154,6 +154,15 @@ class Python(unittest.TestCase):
             self.of("all: t/x.c a\na: ; %s; touch a\nt/x.c: ; python3 -S t/gen.py $@\n" % made, script, status)
         self.of("all: a b\na: ; mkdir build; touch a\nb: ; python3 -S -c 'import json; print(1)' > b\n", SCRIPT, 0)
 
+    def test_which_names_may_be_modules(self) -> None:
+        for name, wanted in (("lib", True), ("lib.py", True), ("lib.abi3.so", True), ("lib.o", False), ("x", False), ("x-y", False), ("x.pth", True), ("\u00fc", True), ("org", True),
+                             ("_x", True), ("__pycache__", False), ("json.py", bool(pynames.STANDARD))):
+            self.assertEqual(wanted, pynames.may_be(name, frozenset(("lib",))), name)
+
+    def test_names_that_come_or_go(self) -> None:
+        life = Life(1, events={(kind, "/w/" + kind): 1 for kind in "WCDFMTXxRSNL"})
+        self.assertEqual({"/w": {*"WCDFMTXx"}}, pynames.changed_in([life]))
+
     def test_whose_names_are_known(self) -> None:
         for text, words, wanted in (("import json, os.path\nfrom . import a\nfrom lib import b as c\n", [], {"json", "os", "path", "a", "lib", "b", ""}), ("import json", ["-Eu"], {"json"}), ("import json", ["-W", "error::x.Y"], None),
                                     ("import other", [], None), ("from logging import INFO, config", [], None), ("import xml.sax", [], None), ("print 1", [], None), ("# coding: utf-7\n", [], None), ("# coding: utf-8\n", [], set()),
