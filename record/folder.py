@@ -33,6 +33,16 @@ class NotWhole(Exception):
     """A record of which a file is cut, changed or of another kind."""
 
 
+def top_of(folder: str) -> str:
+    """The project's top: the work tree of git that a folder lies in, or the folder itself."""
+    return next((str(one) for one in (Path(folder), *Path(folder).parents) if (one / ".git").exists()), folder)
+
+
+def name_from(top: str, path: str) -> str:
+    """A whole path from the project's top on, wherever that stands; one that has no folder in common with it stays whole."""
+    return path if os.path.commonpath([top, path]) == "/" else os.path.relpath(path, top)
+
+
 @contextmanager
 def reading(folder: Path) -> Iterator[None]:
     """What is wrong with the files of a record, in one sentence."""
@@ -67,6 +77,7 @@ class Record:
         found: Dict[str, Any] = {"version": VERSION, **asdict(self)}
         alone = found.pop("stands_alone")
         del found["configured"]
+        found["top"] = shown(top_of(self.folder))
         if self.missing is None:
             del found["missing"]
         found["warm"] = {"count": len(self.warm), "example": shown(self.warm[0]) if self.warm else "", "names": [shown(name) for name in self.warm[:NAMES]], "alone": alone}
@@ -115,6 +126,7 @@ def write_record(folder: Path, record: Record, builds: "List[Build]", assumed: "
     if folder.exists():
         shutil.rmtree(folder)
     (folder / "builds").mkdir(parents=True)
+    (folder / ".gitignore").write_text("*\n")
     within = callers(builds)
     for number, build in enumerate(builds, 1):
         record.builds.append("%03d" % number)

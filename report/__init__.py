@@ -1,3 +1,3 @@
 """Reports for people and CI over a record of `race-record`: text, json, sarif, github, html."""
 
-VERSION = "1"
+VERSION = "2"

@@ -18,12 +18,15 @@ def judge(folder: Path, program: Path) -> Report:
     if record.get("version") != VERSION:
         raise BadRecord(f"{folder} is of another version of race-record: record again")
     project = shown(record.get("folder", ""))
-    report = Report(record.get("folder", ""), [*map(shown, record.get("words", []))], "safe", is_fixed=True, holes=[*record.get("holes", [])],
+    top = record.get("top", project)
+    report = Report(record.get("folder", ""), top, [*map(shown, record.get("words", []))], "safe", is_fixed=True, holes=[*record.get("holes", [])],
                     hints=[*record.get("hints", [])])
     report.assumptions = [Assumption(it["text"], it["count"], it["example"]) for it in record.get("assumptions", [])]
     report.is_of_ninja = bool(record.get("builds"))
     for number in record.get("builds", []):
-        build = read_build(folder / "builds" / number, number, project)
+        build = read_build(folder / "builds" / number, number, project, top)
+        for label, it in build.about["labels"].items():
+            (report.ran if it.get("kind") == "recipe" else report.considered).add(build.name(it.get("target") or label))
         verdict = ask(str(program), folder / "builds" / number / "tasks", build.folder)
         races = [build.race(it.path, (it.first, it.first_does), (it.second, it.second_does)) for it in verdict.races]
         changes = {it.edge: "" if it.instead else it.change for it in races}
@@ -36,6 +39,7 @@ def judge(folder: Path, program: Path) -> Report:
         report.pairs += verdict.pairs
         report.recipes += build.about.get("counts", {}).get("recipes", 0)
     report.fixes = [*dict.fromkeys(report.fixes or [it.change for it in report.races if not it.instead])]
+    report.considered |= report.ran
     report.missing = Question.of(folder, str(program)) if "missing" in record else None
     report.verdict = "none" if report.holes or not report.builds else "race" if report.races else "safe"
     return report

@@ -11,6 +11,7 @@ from dataclasses import dataclass
 from pathlib import Path
 from typing import Any
 
+from record.folder import top_of
 from record.judge import RACE_LINE, explained, unshown
 from record.pages import page
 from report.model import Assumption, BadRecord, Build, Report
@@ -106,16 +107,18 @@ def graph_of(order: str, given: Inputs) -> Build:
         about = labels.get(os.path.normpath(target))
         if about and (recipe or "line" not in about):
             about.update(file=os.path.abspath(given.makefile), line=line, recipe=recipe)
-    return Build("makefile", given.root, given.root, {"labels": labels, "counts": {}, "meanings": {}}, after)
+    return Build("makefile", given.root, given.root, top_of(given.root), {"labels": labels, "counts": {}, "meanings": {}}, after)
 
 
 def judge_makefile(given: Inputs, program: Path) -> Report:
     """The report of a makefile: what `race list` and `race fix` say of it."""
-    report = Report(given.root, ["race", *given.words("list")], "safe", is_fixed=True, builds=1, is_direct=True)
+    report = Report(given.root, top_of(given.root), ["race", *given.words("list")], "safe", is_fixed=True, builds=1, is_direct=True)
     order, listed = asked(program, given.words("order")), asked(program, given.words("list"))
     report.holes = [*filter(None, [refusal(order, "order") or refusal(listed, "list")])]
     report.assumptions = [Assumption(it, 1, "") for it in PREMISES]
     build = graph_of(order.stdout, given)
+    report.ran = {build.name(it) for it, about in build.about["labels"].items() if about["kind"] != "plain"}
+    report.considered = {build.name(it) for it in build.about["labels"]}
     for line in listed.stdout.split("\n"):
         word, _, rest = line.partition(" ")
         if found := RACE_LINE.match(line):

@@ -4,17 +4,15 @@ from __future__ import annotations
 
 import json
 import os
-from pathlib import Path
 from typing import Any
 from urllib.parse import quote
 
 from report import VERSION
-from record.entry import reason
 from record.missing.inputs import Found
 from record.missing.report import Judged, Question
 from record.tasks import shown
-from report.kinds import KINDS
-from report.model import BadRecord, Race, Recipe, Report, Side
+from record.kinds import KINDS
+from report.model import Race, Recipe, Report, Side
 from report.plain import summary
 
 SCHEMA = "https://json.schemastore.org/sarif-2.1.0.json"
@@ -23,33 +21,39 @@ SCHEMA = "https://json.schemastore.org/sarif-2.1.0.json"
 def side(it: Side) -> dict[str, Any]:
     """One of the two recipes of a race as the schema has it."""
     recipe = it.recipe
-    return {"target": recipe.target, "does": it.does, "file": recipe.file, "line": recipe.line, "recipe": recipe.text}
+    return {"target": recipe.target, "name": recipe.name, "ran": not recipe.is_look, "does": it.does, "file": recipe.file, "line": recipe.line, "recipe": recipe.text}
+
+
+def standing(fingerprint: str, report: Report) -> dict[str, Any]:
+    """How a race or a missing input is known again, and how it stands."""
+    return {"fingerprint": fingerprint, "state": report.state(fingerprint), "reason": report.ignored.get(fingerprint, "")}
 
 
 def race_object(race: Race, report: Report) -> dict[str, Any]:
     """A race as the schema has it; docs/REPORT.md says what each key means."""
     return {
-        "fingerprint": race.fingerprint, "known": race.fingerprint in report.known, "kind": race.kind.name,
+        **standing(race.fingerprint, report), "kind": race.kind.name,
         "build": race.build, "path": race.path, "meaning": race.meaning,
         "first": side(race.first), "second": side(race.second), "fix": race.fix, "in_project": race.in_project, "advice": race.advice,
     }
 
 
-def input_object(judged: Judged, it: Found, known: set[str]) -> dict[str, Any]:
+def input_object(judged: Judged, it: Found, report: Report) -> dict[str, Any]:
     """A missing input as the schema has it."""
     file, line = judged.rule(it.reader)
+    target, maker = judged.target(it.reader), judged.target(it.writer) if it.writer else ""
     return {
-        "fingerprint": judged.fingerprint(it), "known": judged.fingerprint(it) in known, "kind": it.kind, "build": judged.number,
-        "path": judged.name(it.path), "target": judged.target(it.reader), "file": file, "line": line,
-        "maker": judged.target(it.writer) if it.writer else "", "add": f"{judged.late(it)}: {judged.early(it)}" if judged.early(it) else "",
+        **standing(judged.fingerprint(it), report), "kind": it.kind, "build": judged.number,
+        "path": judged.name(it.path), "target": target, "name": judged.from_top(target), "file": file, "line": line,
+        "maker": maker, "maker_name": judged.from_top(maker) if maker else "", "add": f"{judged.late(it)}: {judged.early(it)}" if judged.early(it) else "",
     }
 
 
-def missing_object(missing: Question, known: set[str]) -> dict[str, Any]:
+def missing_object(missing: Question, report: Report) -> dict[str, Any]:
     """What a record with --missing says of missing inputs."""
     about = missing.record["missing"]
     return {
-        "verdict": missing.verdict(), "judged": about["judged"], "inputs": [input_object(*it, known) for it in missing.all()],
+        "verdict": missing.verdict(), "judged": about["judged"], "inputs": [input_object(*it, report) for it in missing.all()],
         "assumptions": [{key: it[key] for key in ("text", "count", "example")} for it in about["premises"]], "holes": missing.holes(),
     }
 
@@ -63,26 +67,12 @@ def as_json(report: Report) -> str:
         "races": [race_object(it, report) for it in report.races],
         "fixes": {"lines": report.fixes if report.races else [], "checked": report.is_checked},
         "assumptions": [{"text": it.text, "count": it.count, "example": it.example} for it in report.assumptions],
-        "holes": report.holes, "hints": report.hints, "gone": report.gone,
-        **({"missing": missing_object(report.missing, report.known)} if report.missing else {}),
+        "holes": report.holes, "hints": report.hints, "standing": report.standing(),
+        "fixed": [it.text for it in report.gone if it.is_fixed], "not_seen": [it.text for it in report.gone if not it.is_fixed],
+        "unmet": report.unmet,
+        **({"missing": missing_object(report.missing, report)} if report.missing else {}),
     }
     return json.dumps(text, indent=1, ensure_ascii=True) + "\n"
-
-
-def read_baseline(path: Path) -> dict[str, str]:
-    """The races and missing inputs of a baseline, which is a report in JSON: their fingerprints, each with what to call it."""
-    how = f"to make it anew: race-report --format json -o {path}"
-    try:
-        found = json.loads(path.read_text(encoding="utf-8"))
-        if found["schema"] != "race-report" or found["version"] != VERSION:
-            raise BadRecord(f"the baseline {path} is a {found['schema']} of version {found['version']}, and version {VERSION} is read here; {how}")
-        races = {it["fingerprint"]: f"{it['path']}: {it['first']['target']} and {it['second']['target']}" for it in found["races"]}
-        inputs = found.get("missing", {}).get("inputs", [])
-        return {**races, **{it["fingerprint"]: f"{it['target']}: {it['path']} was missing" for it in inputs}}
-    except OSError as error:
-        raise BadRecord(f"the baseline {reason(error)}; {how}") from error
-    except (AttributeError, KeyError, TypeError, ValueError) as error:
-        raise BadRecord(f"the baseline {path} is no report in JSON ({type(error).__name__}: {error}); {how}") from error
 
 
 def location(recipe: Recipe, message: str, number: int | None = None) -> dict[str, Any]:
@@ -111,7 +101,8 @@ def result(race: Race, report: Report) -> dict[str, Any]:
         "locations": [location(late.recipe, f"{late.recipe.target} {late.does} {race.path}")],
         "relatedLocations": [location(it.recipe, f"{it.recipe.target} {it.does} {race.path}", at) for at, it in enumerate((early, late))],
         "partialFingerprints": {"race/v1": race.fingerprint},
-        "baselineState": "unchanged" if race.fingerprint in report.known else "new",
+        "baselineState": "unchanged" if race.fingerprint in (report.known or ()) else "new",
+        **({"suppressions": [{"kind": "external", "justification": report.ignored[race.fingerprint]}]} if race.fingerprint in report.ignored else {}),
     }
 
 

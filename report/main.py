@@ -14,10 +14,11 @@ from record.folder import NotWhole, reading
 from record.judge import find_race, no_race
 from report.asking import judge
 from report.direct import inputs, judge_makefile
-from report.machine import as_json, as_sarif, read_baseline
+from report.machine import as_json, as_sarif
 from report.model import BadRecord, Report
 from report.page import as_html
 from report.plain import github, text
+from report.standing import hold_against, ignore, read_baseline
 
 FORMS = {"text": text, "json": as_json, "sarif": as_sarif, "github": github, "html": as_html}
 USAGE = """race-report [DIR] [options]
@@ -68,15 +69,6 @@ def read(args: argparse.Namespace, program: Path) -> Report:
     return judge(Path(*(args.words or [".race"])), program)
 
 
-def hold_against(report: Report, baseline: Path) -> None:
-    """Marks the races that a baseline has, and notes those of it that are gone."""
-    known = read_baseline(baseline)
-    report.known = set(known)
-    there = {it.fingerprint for it in report.races}
-    there |= {judged.fingerprint(it) for judged, it in report.missing.all()} if report.missing else set()
-    report.gone = [what for fingerprint, what in known.items() if fingerprint not in there and report.verdict != "none"]
-
-
 def stop(why: object) -> int:
     """Says why there is no report; the status."""
     print(f"race-report: {why}", file=sys.stderr)
@@ -96,7 +88,8 @@ def main(words: list[str] | None = None) -> int:
         with contextlib.nullcontext() if args.makefile else reading(Path(*(args.words or [".race"]))):
             report = read(args, Path(program))
             if args.baseline:
-                hold_against(report, args.baseline)
+                hold_against(report, read_baseline(args.baseline))
+            ignore(report)
             shown, status = printable(FORMS[args.format](report)).encode("utf-8", "backslashreplace"), report.status()
         write(shown, args.output)
     except (BadRecord, NotWhole) as error:

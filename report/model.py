@@ -6,6 +6,7 @@ import hashlib
 import json
 import os
 import re
+from collections import Counter
 from collections.abc import Iterator
 from dataclasses import dataclass, field
 from pathlib import Path
@@ -13,10 +14,11 @@ from typing import Any
 
 from record.entry import reason
 from record.fixes import in_project
+from record.folder import name_from
 from record.missing.report import Question
 from record.report import verb, without_line
 from record.tasks import file_of
-from report.kinds import Kind, kind_of
+from record.kinds import Kind, kind_of
 
 # What a path ends with that stands for something else than a file, and for two tasks by their numbers.
 NUMBERS = re.compile(r"(/\d+)+$")
@@ -28,11 +30,12 @@ class BadRecord(Exception):
 
 @dataclass(frozen=True)
 class Recipe:
-    """A recipe: its label in the tasks, its target, the place of its rule from the project's folder, its first line, and
-    whether it is none: only what `make` itself looks at to decide about the target."""
+    """A recipe: its label in the tasks, its target as it is spelled and by its name from the project's top on, the place of its rule from the
+    project's folder, its first line, and whether it is none: only what `make` itself looks at to decide about the target."""
 
     label: str
     target: str
+    name: str
     file: str
     line: int
     text: str
@@ -61,6 +64,7 @@ class Race:
 
     build: str
     path: str
+    name: str  # of the path, from the project's top on
     meaning: str
     first: Side
     second: Side
@@ -105,9 +109,9 @@ class Race:
 
     @property
     def fingerprint(self) -> str:
-        """What stays the same where lines move: the kind, the path without numbers of tasks, and the two targets."""
-        path = NUMBERS.sub("", self.path) if self.meaning else self.path
-        parts = (self.kind.name, path, *sorted((self.first.recipe.target, self.second.recipe.target)))
+        """What stays the same where lines move and where the project does: the path, without numbers of tasks, and the two targets."""
+        path = NUMBERS.sub("", self.name) if self.meaning else self.name
+        parts = (path, *sorted((self.first.recipe.name, self.second.recipe.name)))
         return hashlib.sha256("\0".join(parts).encode(errors="surrogateescape")).hexdigest()[:32]
 
 
@@ -120,11 +124,24 @@ class Assumption:
     example: str
 
 
+@dataclass(frozen=True)
+class Gone:
+    """What a baseline has and the report has not: what to call it, and whether its recipes ran, so that it is fixed."""
+
+    text: str
+    is_fixed: bool
+
+
+# What makes a race or a missing input another one: its fingerprint, and by their names from the project's top on its file and two targets.
+Item = tuple[str, str, tuple[str, str]]
+
+
 @dataclass
 class Report:
     """All that the forms show. `verdict` is safe, race or none."""
 
     folder: str
+    top: str  # of the project, from which names count
     words: list[str]
     verdict: str
     races: list[Race] = field(default_factory=list)
@@ -136,8 +153,12 @@ class Report:
     builds: int = 0
     recipes: int = 0
     pairs: int = 0
-    known: set[str] = field(default_factory=set)
-    gone: list[str] = field(default_factory=list)
+    ran: set[str] = field(default_factory=set)  # the names of targets whose recipes ran
+    considered: set[str] = field(default_factory=set)  # and of those that make or ninja looked at
+    known: set[str] | None = None  # the fingerprints of a baseline
+    gone: list[Gone] = field(default_factory=list)  # what the baseline has alone
+    ignored: dict[str, str] = field(default_factory=dict)  # by fingerprint: why race-ignore hides it
+    unmet: list[str] = field(default_factory=list)  # entries of race-ignore that are about nothing
     is_direct: bool = False  # of a makefile, without a record
     is_of_ninja: bool = False  # no make ran in it
     missing: Question | None = None  # of a record with --missing: what recipes read and make does not know of
@@ -147,9 +168,29 @@ class Report:
         """Whether the build was found safe with the fixes; never where the record has a hole."""
         return bool(self.races) and self.is_fixed and self.verdict != "none"
 
-    def fresh(self) -> list[Race]:
-        """The races that the baseline has not."""
-        return [it for it in self.races if it.fingerprint not in self.known]
+    def items(self) -> Iterator[Item]:
+        """All races and missing inputs."""
+        for race in self.races:
+            yield race.fingerprint, NUMBERS.sub("", race.name), (race.first.recipe.name, race.second.recipe.name)
+        for judged, it in self.missing.all() if self.missing else ():
+            yield judged.fingerprint(it), judged.from_top(it.path), (judged.from_top(judged.target(it.reader)), judged.from_top(judged.target(it.writer)))
+
+    def fingerprints(self) -> list[str]:
+        """Those of all races and missing inputs."""
+        return [it[0] for it in self.items()]
+
+    def state(self, fingerprint: str) -> str:
+        """How a race or a missing input stands: `ignored`, `known` or `new`."""
+        return "ignored" if fingerprint in self.ignored else "known" if fingerprint in (self.known or ()) else "new"
+
+    def standing(self) -> str:
+        """How many there are of each state, in one line; nothing where nobody knows or ignores any."""
+        if self.known is None and not self.ignored:
+            return ""
+        counts = Counter(map(self.state, self.fingerprints()))
+        fixed = sum(it.is_fixed for it in self.gone)
+        parts = [f"{counts['new']} new", f"{counts['known']} known", f"{fixed} fixed", f"{len(self.gone) - fixed} not seen"]
+        return ", ".join(parts + [f"{counts['ignored']} ignored"] * bool(self.ignored))
 
     def by_path(self) -> Iterator[tuple[str, list[Race]]]:
         """The races in groups by their path, in the order in which paths come first."""
@@ -161,11 +202,7 @@ class Report:
     def status(self) -> int:
         """0 safe or nothing new, 1 races or missing inputs, 2 no verdict on one of the two."""
         missing = self.missing.verdict() if self.missing else "nothing"
-        return 2 if "none" in (self.verdict, missing) else int(bool(self.fresh()) or self.has_fresh_missing())
-
-    def has_fresh_missing(self) -> bool:
-        """Whether an input is missing that the baseline has not."""
-        return self.missing is not None and any(judged.fingerprint(it) not in self.known for judged, it in self.missing.all())
+        return 2 if "none" in (self.verdict, missing) else int("new" in map(self.state, self.fingerprints()))
 
 
 def read_json(path: Path) -> dict[str, Any]:
@@ -190,6 +227,7 @@ class Build:
     number: str
     folder: str
     project: str
+    top: str
     about: dict[str, Any]
     after: dict[str, list[str]]
     users: dict[str, list[str]] = field(default_factory=dict)
@@ -198,6 +236,10 @@ class Build:
         for label, after in self.after.items():
             for it in after:
                 self.users.setdefault(it, []).append(label)
+
+    def name(self, path: str) -> str:
+        """A path or a target of the build from the project's top on."""
+        return name_from(self.top, os.path.normpath(os.path.join(self.folder, path)))
 
     def recipe(self, label: str) -> Recipe:
         """What a label stands for; its place is relative to the project's folder if it is below it."""
@@ -208,7 +250,8 @@ class Build:
             below = os.path.relpath(path, self.project)
             file = path if below.startswith("..") else below
         is_look = found.get("kind") in ("decision", "look", "first")
-        return Recipe(label, found.get("target") or label, file, found.get("line", 0), found.get("recipe", "").strip(), is_look)
+        spelled = found.get("target") or label
+        return Recipe(label, spelled, self.name(spelled), file, found.get("line", 0), found.get("recipe", "").strip(), is_look)
 
     def targets(self, labels: list[str]) -> tuple[str, ...]:
         """The targets of some labels, each once. Where make only looks at a target, before it runs the recipe, the target is not made yet."""
@@ -227,10 +270,10 @@ class Build:
         kind = kind_of(path, targets, (first[1], second[1]))
         change = in_project(self.about, first[0], second[0], path)
         instead = without_line({"meanings": {}, **self.about}, path, first[0], second[0])
-        return Race(self.number, path, self.about.get("meanings", {}).get(path, ""), early, late, kind, change, instead)
+        return Race(self.number, path, self.name(path), self.about.get("meanings", {}).get(path, ""), early, late, kind, change, instead)
 
 
-def read_build(folder: Path, number: str, project: str) -> Build:
+def read_build(folder: Path, number: str, project: str, top: str) -> Build:
     """One build of a record."""
     about = read_json(folder / "build.json")
     after = {}
@@ -243,4 +286,4 @@ def read_build(folder: Path, number: str, project: str) -> Build:
         raise BadRecord(f"{reason(error)}; if the record is broken, record again") from error
     except (ValueError, KeyError, TypeError) as error:
         raise BadRecord(f"{folder / 'tasks'} cannot be read ({error}): record again") from error
-    return Build(number, about.get("folder", project), project, about, after)
+    return Build(number, about.get("folder", project), project, top, about, after)

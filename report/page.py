@@ -9,7 +9,7 @@ from pathlib import PurePath
 from record.missing.report import missing_text
 from record.report import Colours
 from record.tasks import shown
-from report.kinds import FORGOTTEN
+from record.kinds import FORGOTTEN
 from report.model import Race, Report
 from report.pictures import graph, schedule
 from report.plain import HEADLINES, counted, summary
@@ -84,7 +84,9 @@ def to_do(race: Race, known: str) -> str:
 
 def card(race: Race, number: int, report: Report, is_drawn: bool) -> str:
     """One race: who does what and where, what it is, the line that fixes it, and its pictures."""
-    known = ' <span class="tag">known</span>' if race.fingerprint in report.known else ""
+    state = report.state(race.fingerprint)
+    why = f" {escape(report.ignored[race.fingerprint])}" if state == "ignored" else ""
+    known = f' <span class="tag">{state}</span>{why}' if state != "new" else ""
     return (f'<div class="card" id="race-{number}"><h4>Race {number}</h4>{sides(race)}'
             f'{to_do(race, known)}{figures(race) if is_drawn else ""}</div>')
 
@@ -168,10 +170,11 @@ def missing(report: Report) -> str:
 def as_html(report: Report) -> str:
     """The whole page."""
     body = [
-        f'<header class="verdict {report.verdict}"><h1>{HEADLINES[report.verdict]}</h1><p>{escape(summary(report))}</p>'
+        f'<header class="verdict {report.verdict}"><h1>{HEADLINES[report.verdict]}</h1><p>{escape(" ".join(filter(None, (summary(report), report.standing()))))}</p>'
         f'<div class="where"><code>{escape(" ".join(report.words))}</code> in <code>{escape(shown(report.folder))}</code></div></header>',
         listed("Why there is no verdict", [escape(it) for it in report.holes]), listed("What to try", [escape(it) for it in report.hints]), fixes(report), *races(report),
-        listed("Fixed since the baseline", [escape(it) for it in report.gone]), assumptions(report), missing(report),
+        *(listed(title, [escape(it.text) for it in report.gone if it.is_fixed == side]) for title, side in (("Fixed since the baseline", True), ("Not seen in this build", False))),
+        listed("Lines of race-ignore that no race meets", [escape(it) for it in report.unmet]), assumptions(report), missing(report),
     ]
     return ('<!DOCTYPE html><html lang="en"><head><meta charset="utf-8"/><meta name="viewport" content="width=device-width,initial-scale=1"/>'
             f'<meta name="color-scheme" content="light dark"/><title>{escape(title(report))}</title><style>{STYLE}</style></head>'

@@ -14,6 +14,7 @@ MISSING = {
     "missing": "{0} reads {1}, and is not made again when it changes", "late": "{0} reads {1}, and who writes that need not come first",
     "shared": "{0} writes {1}, and so does a recipe that need not run then", "present": "{0} was there before the build",
 }
+LEVELS = {"new": "error", "known": "warning", "ignored": "notice"}
 HEADLINES = {"safe": "SAFE", "race": "RACE", "none": "NO VERDICT"}
 
 
@@ -43,10 +44,24 @@ def side_rows(race: Race) -> Iterator[str]:
         yield f"  {recipe.target:{wide[0]}}  {recipe.place or '-':{wide[1]}}  {verb}"
 
 
+def race_line(race: Race, number: int, report: Report) -> str:
+    """A race that is known or ignored, in one line."""
+    reason = report.ignored.get(race.fingerprint, "")
+    return f"{report.state(race.fingerprint)} {number}  {race.shown}: {race.first.recipe.target} and {race.second.recipe.target}" + (f"  # {reason}" if reason else "")
+
+
+def standing_lines(report: Report) -> Iterator[str]:
+    """What is known or ignored, what of the baseline is gone, the counts, and what of race-ignore is about nothing."""
+    old = [race_line(it, at, report) for at, it in enumerate(report.races, 1) if report.state(it.fingerprint) != "new"]
+    old += [f"{'fixed' if it.is_fixed else 'not seen'}  {it.text}" for it in report.gone]
+    yield from [*old, ""] if old else []
+    yield from [report.standing(), ""] if report.standing() else []
+    yield from [f"note: no race meets this line: {it}" for it in report.unmet] + [""] * bool(report.unmet)
+
+
 def race_lines(race: Race, number: int, report: Report) -> Iterator[str]:
     """One race: its number, the path, both recipes with their places, and the line that orders them."""
-    known = "" if race.fingerprint not in report.known else "  (known)"
-    yield f"RACE {number}  {race.shown}{f'  ({race.meaning})' if race.meaning else ''}{known}"
+    yield f"RACE {number}  {race.shown}{f'  ({race.meaning})' if race.meaning else ''}"
     yield from side_rows(race)
     yield from [] if race.instead else [f"  {race.kind.advice}"]
     yield f"  fix: {race.change}"
@@ -56,14 +71,14 @@ def race_lines(race: Race, number: int, report: Report) -> Iterator[str]:
 def text(report: Report) -> str:
     """The whole report, the verdict first."""
     lines = [f"{HEADLINES[report.verdict]}  {summary(report)}", ""]
-    lines += [line for at, race in enumerate(report.races, 1) for line in race_lines(race, at, report)]
+    lines += [line for at, race in enumerate(report.races, 1) if report.state(race.fingerprint) == "new" for line in race_lines(race, at, report)]
+    lines += standing_lines(report)
     if report.fixes:
         checked = "with these lines the build is safe (checked)" if report.is_checked else "not checked"
         lines += [f"All fixes, {checked}:", *(f"    {it}" for it in report.fixes), ""]
     what_to_do = [] if report.is_direct else [after_no_verdict()]
     lines += ["Why there is no verdict:", *(f"  - {it}" for it in report.holes), *what_to_do, ""] if report.holes else []
     lines += [*(f"HINT  {it}" for it in report.hints), ""] if report.hints else []
-    lines += ["Fixed since the baseline:", *(f"  - {it}" for it in report.gone), ""] if report.gone else []
     if report.assumptions:
         lines.append("safe, if:" if report.verdict == "safe" else "Assumed:")
     for it in report.assumptions:
@@ -93,7 +108,7 @@ def missing_annotations(report: Report) -> list[str]:
     for judged, it in report.missing.all() if report.missing else ():
         add = f"\nAdd: {judged.late(it)}: {judged.early(it)}" if judged.early(it) else ""
         message = f"{MISSING[it.kind].format(judged.target(it.reader), judged.name(it.path))}, so make may leave an old file behind.{add}"
-        level = "warning" if judged.fingerprint(it) in report.known else "error"
+        level = LEVELS[report.state(judged.fingerprint(it))]
         lines.append(annotation(level, f"missing input {judged.name(it.path)}", message, *judged.rule(it.reader)))
     return lines + [annotation("error", "race: no verdict on missing inputs", it) for it in (report.missing.holes() if report.missing else ())]
 
@@ -105,11 +120,13 @@ def github(report: Report) -> str:
         late, early = race.second.recipe, race.first.recipe
         message = (f"{late.target} and {early.target} both use {race.shown}, one of them writes it, and nothing orders the two. "
                    f"{early.target}: {early.place or 'no place known'}.\nFix: {race.change}")
-        level = "warning" if race.fingerprint in report.known else "error"
+        level = LEVELS[report.state(race.fingerprint)]
         lines.append(annotation(level, f"race on {race.shown}", message, late.file, late.line))
     lines += missing_annotations(report)
     lines += [annotation("error", "race: no verdict", it) for it in report.holes]
     lines += [annotation("notice", "race: hint", it) for it in report.hints]
-    lines += [annotation("notice", "race: fixed since the baseline", it) for it in report.gone]
-    lines.append(annotation("notice", f"race: {HEADLINES[report.verdict].lower()}", summary(report)))
+    lines += [annotation("notice", f"race: {'fixed' if it.is_fixed else 'not seen'}", it.text) for it in report.gone]
+    lines += [annotation("warning", "race: no race meets this line", it) for it in report.unmet]
+    whole = " ".join(filter(None, (summary(report), report.standing())))
+    lines.append(annotation("notice", f"race: {HEADLINES[report.verdict].lower()}", whole))
     return "\n".join(lines) + "\n"

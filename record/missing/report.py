@@ -8,6 +8,7 @@ from pathlib import Path
 from typing import Any, Dict, Iterator, List, Tuple
 
 from record.judge import explained
+from record.folder import name_from
 from record.missing.inputs import Answer, Found, judge_missing
 from record.pages import after_no_verdict
 from record.report import Colours, listed, place, plural, read_json, target
@@ -26,12 +27,17 @@ class Judged:
     about: Dict[str, Any]
     answer: Answer
     project: str  # the folder that was recorded
+    top: str  # of the project
 
     def in_project(self, path: str) -> str:
         """A path from the folder that was recorded; whole where it is not below it."""
         whole = os.path.normpath(os.path.join(self.about["folder"], path))
         below = os.path.relpath(whole, self.project)
         return whole if below.startswith("..") else below
+
+    def from_top(self, path: str) -> str:
+        """A path or a target from the project's top on."""
+        return name_from(self.top, os.path.normpath(os.path.join(self.about["folder"], path)))
 
     def rule(self, label: str) -> Tuple[str, int]:
         """The makefile and the line of a recipe."""
@@ -60,7 +66,7 @@ class Judged:
 
     def fingerprint(self, one: Found) -> str:
         """What stays the same where lines move: the kind, the path and the targets."""
-        parts = (one.kind, self.in_project(one.path), self.in_project(self.target(one.reader)), self.target(one.writer) if one.writer else "")
+        parts = (one.kind, *map(self.from_top, (one.path, self.target(one.reader))), self.from_top(self.target(one.writer)) if one.writer else "")
         return hashlib.sha256("\0".join(parts).encode("utf-8", "surrogateescape")).hexdigest()[:32]
 
 
@@ -79,7 +85,7 @@ class Question:
         judged = []
         for number in record["builds"]:
             about = read_json(out / "builds" / number / "build.json")
-            judged.append(Judged(number, about, judge_missing(race, out / "builds" / number, about["folder"]), shown(record["folder"])))
+            judged.append(Judged(number, about, judge_missing(race, out / "builds" / number, about["folder"]), shown(record["folder"]), record.get("top", shown(record["folder"]))))
         return Question(record, judged, out)
 
     def holes(self) -> List[str]:

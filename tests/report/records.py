@@ -3,6 +3,7 @@
 from __future__ import annotations
 
 import json
+import os
 from pathlib import Path
 
 ASSUMED = [{"kind": "serial", "count": 1, "example": "", "text": "recipes do not look at MAKEFLAGS or the number of processors"},
@@ -13,20 +14,20 @@ def task(label: str, after: tuple = (), reads: tuple = (), writes: tuple = ()) -
     return {"task": label, "after": [*after], "reads": [*reads], "writes": [*writes]}
 
 
-def write(folder: Path, tasks: list, places: dict, holes: tuple = (), meanings: dict | None = None) -> Path:
-    """A record of one build; `places` has a file and a line for each label that has a place."""
-    build = folder / "builds" / "001"
+def write(record: Path, tasks: list, places: dict, holes: tuple = (), meanings: dict | None = None, folder: str = "/home/dev/shell", inner: str = ".") -> Path:
+    """A record of one build in a folder of a project; `places` has a file and a line for each label that has a place."""
+    build = record / "builds" / "001"
     build.mkdir(parents=True)
     (build / "tasks").write_text("".join(json.dumps(it) + "\n" for it in tasks), encoding="utf-8")
     labels = {it["task"]: {"target": it["task"], "kind": "recipe", "file": places.get(it["task"], ("", 0))[0],
                            "line": places.get(it["task"], ("", 0))[1], "recipe": f"make-it {it['task']}"} for it in tasks}
-    about = {"folder": "/home/dev/shell", "words": "", "round": "goals", "labels": labels, "meanings": meanings or {},
+    about = {"folder": os.path.normpath(os.path.join(folder, inner)), "words": "", "round": "goals", "labels": labels, "meanings": meanings or {},
              "counts": {"considered": len(tasks), "tasks": len(tasks), "edges": 0, "recipes": len(tasks), "paths": 0}}
     (build / "build.json").write_text(json.dumps(about), encoding="utf-8")
-    record = {"version": "1", "words": ["make", "all"], "folder": "/home/dev/shell", "status": 0, "seconds": 2.5,
+    whole = {"version": "1", "words": ["make", "all"], "folder": folder, "top": folder, "status": 0, "seconds": 2.5,
               "tools": {"make": "4.3"}, "holes": [*holes], "assumptions": ASSUMED, "builds": ["001"]}
-    (folder / "record.json").write_text(json.dumps(record), encoding="utf-8")
-    return folder
+    (record / "record.json").write_text(json.dumps(whole), encoding="utf-8")
+    return record
 
 
 def labelled(record: Path, label: str, **about: str) -> None:
@@ -37,7 +38,7 @@ def labelled(record: Path, label: str, **about: str) -> None:
     path.write_text(json.dumps(found), encoding="utf-8")
 
 
-def header(folder: Path, is_fixed: bool = False, **more: object) -> Path:
+def header(record: Path, is_fixed: bool = False, **more: object) -> Path:
     """A generated header that one of two objects forgets to name; with its fix it is safe."""
     tasks = [
         task("build/keywords.h", (), ("keywords.txt", "tools/table.awk"), ("build/keywords.h",)),
@@ -46,7 +47,7 @@ def header(folder: Path, is_fixed: bool = False, **more: object) -> Path:
         task("shell", ("main.o", "lex.o"), ("main.o", "lex.o"), ("shell",)),
     ]
     places = {"build/keywords.h": ("Makefile", 26), "main.o": ("Makefile", 18), "lex.o": ("src/rules.mk", 23), "shell": ("Makefile", 3)}
-    return write(folder, tasks, places, **more)
+    return write(record, tasks, places, **more)
 
 
 def of_ninja(folder: Path, is_fixed: bool = False) -> Path:
