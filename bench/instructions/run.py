@@ -8,9 +8,8 @@
     bench/instructions/run.py --times 5 --peers       all columns: counts, times and memory, of the peers too
     bench/instructions/run.py --keep-counts           all inputs, and their counts into the file
 
-PROGRAM is the built program (crates/race/out/race), and a proved one: valgrind cannot run one that was built without its
-proof, since that one checks pointers as it runs. Times differ by half from one minute to the next on a busy machine;
-an instruction count is the same in each run of one program on one input. `counts` beside this script has a line for each
+PROGRAM is the built program (crates/race/out/race). Times differ by half from one minute to the next on a busy machine; an
+instruction count is the same in each run of one program on one input. `counts` beside this script has a line for each
 input: its name and its count in millions. The script runs valgrind's callgrind (Debian's package `valgrind`) on each
 input, prints the count, the one in the file and the change, and ends with status 1 where a count moved by more than two
 percent, and 3 where valgrind is missing. Run it before a change that claims speed lands. Nothing here is a test.

@@ -26,7 +26,7 @@ OUTPUTS = ("apart", "apart", "joined", "files", "no errors", "no output", "termi
 LIMITS = ("-s 256", "-s unlimited", "-f 200000", "-c 0", "-c unlimited", "-t 600", "-p 600", "-l 64", "-r 0")
 # How the command is called: words before it, and what a caller such as cron sets.
 CALLS = ("sh -c '\"$@\"' sh", "env", "timeout 100", "bash -c '\"$@\"; exit $?' bash", "sh -c '\"$@\" | cat' sh", "sh -c '\"$@\" & wait $!' sh", "xargs -a /dev/null", "nohup", "stdbuf -oL")
-OURS = ("N", "J", "RACE", "ASAN_OPTIONS")  # of the fuzzer
+OURS = ("N", "J", "RACE")  # of the fuzzer
 CRON = {"PATH": "/usr/bin:/bin", "SHELL": "/bin/sh", "LOGNAME": "x"}
 USER = 1000
 TEXT = b"one\ntwo\n"

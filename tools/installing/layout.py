@@ -26,8 +26,6 @@ WRAPPER = """#!/bin/sh
 # Runs race, which was built here without a proof: --version says so.
 {here}
 program=$here/../{unproved}
-ASAN_OPTIONS=${{ASAN_OPTIONS:-detect_leaks=0}}
-export ASAN_OPTIONS
 case ${{1-}} in
   -V|--version) ;;
   *) exec "$program" "$@" ;;

@@ -36,7 +36,7 @@ class Help:
 
 def help_of(program: Path, command: str) -> Help:
     words = [str(program), *[command] * bool(command), "--help"]
-    ran = subprocess.run(words, capture_output=True, check=True, env={"ASAN_OPTIONS": "detect_leaks=0"})
+    ran = subprocess.run(words, capture_output=True, check=True, env={})
     return Help(command, ran.stdout.decode())
 
 

@@ -61,7 +61,7 @@ def wrong(commands: list[Command], folder: Path, path: str) -> Iterator[str]:
     script = "".join(f"{it.text}\nprintf '\\n%s\\n' '{MARK}'\n" for it in commands)
     words = ["sh", "-c", script]
     with tempfile.TemporaryDirectory(prefix="pages-home-") as home:
-        env = {"PATH": path, "HOME": home, "LC_ALL": "C.UTF-8", "ASAN_OPTIONS": "detect_leaks=0"}
+        env = {"PATH": path, "HOME": home, "LC_ALL": "C.UTF-8"}
         try:
             ran = subprocess.run(words, cwd=folder, env=env, capture_output=True, timeout=SECONDS, check=False)
         except subprocess.TimeoutExpired:
