@@ -41,7 +41,7 @@ done
 
 
 def link_all(source: Path, to: Path, leave: tuple[str, ...]) -> None:
-    """Makes a folder with a link to each thing of another folder, but for those to leave out."""
+    """Makes a folder with a link to each thing of another folder, except those to leave out."""
     to.mkdir()
     for it in source.iterdir():
         if it.name not in leave:
