@@ -1,11 +1,11 @@
 """Names that have the time in them, such as `out.$(date +%s)`: with one job each recipe has another second, with several jobs two may have one."""
 
 import re
-import time
 from datetime import datetime, timezone
 from itertools import combinations
 from typing import Dict, Iterator, List, Optional, Pattern, Set, Tuple
 
+from record import machine
 from record.make.graph import Build
 
 DAYS = 3  # how long a recording may have taken
@@ -29,7 +29,7 @@ def named_by_time(builds: List[Build]) -> Iterator[str]:
         for path, writers in build.writers.items():
             if not NUMBER.search(path):
                 continue
-            found = found or clock(time.time())
+            found = found or clock(machine.time())
             bare = found.sub("@", path)
             if bare != path:
                 alike.setdefault(bare, []).append((path, writers))

@@ -10,6 +10,7 @@ import re
 from dataclasses import dataclass, field
 from typing import Dict, Iterator, List, Optional, Set
 
+from record import machine
 from record.make.owners import Make
 from record.make.words import makefiles
 from record.missing.looked import CHANGES
@@ -91,8 +92,7 @@ def is_configured(status: Status, changed: Dict[str, int], readers: List[int]) -
 def status_of(path: str) -> Optional[Status]:
     """What a `config.status` says of itself; nothing where its text is not of autoconf."""
     try:
-        with open(path, encoding="utf-8", errors="surrogateescape") as file:
-            text = file.read()
+        text = machine.opened(path).read()
     except OSError:
         return None
     found = SOURCES.search(text)
@@ -100,14 +100,14 @@ def status_of(path: str) -> Optional[Status]:
         return None
     folder = os.path.dirname(path)
     sources = os.path.join(folder, found.group(1))
-    status = Status(path, {path, *(os.path.realpath(os.path.join(sources, name)) for name in ("configure", "aclocal.m4"))})
+    status = Status(path, {path, *(machine.realpath(os.path.join(sources, name)) for name in ("configure", "aclocal.m4"))})
     for kind, words in LISTS.findall(text):
         for name, *templates in (word.split(":") for word in words.split()):
-            made = os.path.realpath(os.path.join(folder, name))
+            made = machine.realpath(os.path.join(folder, name))
             if kind != "commands" or name == "libtool":  # others are names of commands, and need not be files
                 status.made.add(made)
             if kind in ("files", "headers"):
-                status.made.update(os.path.realpath(os.path.join(sources, one)) for one in templates or [name + ".in"])
+                status.made.update(machine.realpath(os.path.join(sources, one)) for one in templates or [name + ".in"])
             if kind == "headers":
                 status.stamps.update(stamps(os.path.dirname(made)))
     status.made |= status.stamps
@@ -117,6 +117,6 @@ def status_of(path: str) -> Optional[Status]:
 def stamps(folder: str) -> Iterator[str]:
     """The stamps of headers in a folder."""
     try:
-        yield from (os.path.join(folder, name) for name in os.listdir(folder) if STAMP.fullmatch(name))
+        yield from (os.path.join(folder, name) for name in machine.listdir(folder) if STAMP.fullmatch(name))
     except OSError:
         return

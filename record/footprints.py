@@ -1,10 +1,10 @@
 """A record as what `race check --makefile` reads: the listing of the tree before the build, and a footprint for each recipe."""
 
 import json
-import os
 from pathlib import Path
 from typing import Dict, Iterator, List, Set
 
+from record import machine
 from record.make.graph import Build, Task
 from record.tasks import relative, shown
 from record.trace.events import CREATED, REMOVED, WRITTEN
@@ -22,7 +22,7 @@ def listing(build: Build, names: Names, out: str) -> List[str]:
     found = {path for path in names.before if path != root and not is_below(path, out)}
     for node in build.graph.nodes.values():
         is_foreign = not any(is_below(node.path, top) for top in names.tops)
-        if is_foreign and not node.jobs and not node.phony and os.path.lexists(node.path):
+        if is_foreign and not node.jobs and not node.phony and machine.lexists(node.path):
             found.add(node.path)
     return sorted(relative(root, path) for path in found)
 

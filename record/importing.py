@@ -5,17 +5,18 @@ These modules are loaded while the build runs (main.py): that takes as long as P
 
 import argparse
 import gc
-import os
 import sys
 from dataclasses import dataclass
 from itertools import chain
 from pathlib import Path
 from typing import List, Set
 
+from record import machine
 from record.assumptions import Assumptions
 from record.cleaned import Cleaned
 from record.clock import named_by_time
 from record.configured import find_configured
+from record.facts import Facts
 from record.failed import explained, failures, lacked, tried
 from record.folder import Record, write_record
 from record.footprints import write_footprints
@@ -30,7 +31,6 @@ from record.make.words import read_logs
 from record.missing.inputs import write_missing
 from record.ninja.builds import add_granted_by_ninjas, beside, find_ninjas, import_ninjas
 from record.ninja.builds import versions as ninja_versions
-from record.ninja.log import Kept
 from record.ninja.runs import Ninja
 from record.progress import watched
 from record.tools.caches import settle_caches
@@ -42,7 +42,7 @@ from record.tools.scripts import settle_scripts
 from record.tools.tex import settle_tex
 from record.trace.calls import Calls
 from record.trace.lives import Life
-from record.trace.names import Names, mount_points
+from record.trace.names import Names, mounts_below
 from record.trace.past import Past, beginning
 from record.trace.skips import SYSTEM, unseen_changes
 from record.trace.spelling import twice
@@ -53,12 +53,11 @@ from record.warm import did_nothing, made_unseen, stand_alone, warm_names
 IDLE = "nothing was to be done, so nothing was seen: record a clean tree (make clean, or --fresh for ninja)"
 
 
-def replay_trace(spool: Path, names: Names, real: str, folder: str, tops: List[str]) -> Calls:
+def replay_trace(facts: Facts, folder: str) -> Calls:
     """The trace, played in the name space."""
-    mask = os.umask(0)
-    os.umask(mask)
-    real, ran = os.path.realpath(real), copy_of(spool)
-    replay = Calls(names, str(spool), ran or real, folder, tops, mask)
+    spool, names = facts.spool, facts.names
+    real, ran = machine.realpath(facts.real), copy_of(spool)
+    replay = Calls(names, facts.place, ran or real, folder, names.tops, machine.mask())
     replay.covered = real if ran else ""
     trace = spool / ("sifted" if (spool / "sifted").exists() and not names.leads_to(SYSTEM) else "trace")
     with open(trace, encoding="latin-1", newline="\n") as lines:
@@ -84,9 +83,9 @@ class Imported:
     configured: Set[str]  # what configuring made
 
 
-def settle_all(replay: Calls, spool: Path, assumed: Assumptions) -> Owners:
+def settle_all(replay: Calls, facts: Facts, assumed: Assumptions) -> Owners:
     """Puts what is meant in the place of what known programs did; who did what."""
-    logs = list(read_logs(spool))
+    logs = list(read_logs(facts.spool, facts.place))
     settle_scripts(replay.lists, replay.all, logs)
     for kind, example in chain(settle(replay.all, replay.tops), settle_modules(replay.all)):
         assumed.add(kind, example)
@@ -111,7 +110,7 @@ def cut_words(spool: Path, lives: List[Life]) -> List[str]:
 def note_holes(spool: Path, replay: Calls, owners: Owners, names: Names, record: Record) -> None:
     """The holes of the trace itself, and of makes that ran past the recorder."""
     record.holes += ["a limit on the size of files (ulimit -f) cuts what a make says: " + one for one in cut_words(spool, replay.all)]
-    record.holes += replay.holes + owners.holes + names.mounted(mount_points()) + names.too_long() + twice(names, replay.all, owners.makes)
+    record.holes += replay.holes + owners.holes + names.mounted({*mounts_below(*names.tops)}) + names.too_long() + twice(names, replay.all, owners.makes)
     record.holes += ["--fresh copied %s, which has a name outside of the folder too, and the build writes it" % path for path in replay.hard_links if path in names.shared]
     record.holes += ["nobody knows who started a process: " + one for one in replay.strays()]
     record.holes += ["a make ran past the recorder: " + p for p in replay.past + replay.without_program()]
@@ -147,16 +146,16 @@ def builds_of_makes(owners: Owners, elsewhere: Elsewhere, past: Past, names: Nam
     return builds
 
 
-def import_record(spool: Path, names: Names, kept: Kept, real: str, folder: str, record: Record) -> Imported:
+def import_record(facts: Facts, record: Record) -> Imported:
     """Of a trace and make's words: the builds, the holes, and what was taken for granted."""
-    assumed = Assumptions()
-    replay = replay_trace(spool, names, real, folder, names.tops)
-    owners = settle_all(replay, spool, assumed)
+    names, folder, assumed = facts.names, record.folder, Assumptions()
+    replay = replay_trace(facts, folder)
+    owners = settle_all(replay, facts, assumed)
     if owners.makes:
         assumed.add("serial", "")
-    note_holes(spool, replay, owners, names, record)
+    note_holes(facts.spool, replay, owners, names, record)
     elsewhere = Elsewhere(owners, names)
-    ninjas, ties, holes = find_ninjas(replay.all, owners, names, kept, record.status == 0)
+    ninjas, ties, holes = find_ninjas(replay.all, owners, names, facts.kept, record.status == 0)
     add_granted_by_ninjas(ninjas, ties, owners, assumed)
     elsewhere.ninjas = ninjas
     of_ninja, more = import_ninjas(ninjas, replay.all, elsewhere, names, assumed, Past(names.before, replay.changes))
@@ -173,8 +172,8 @@ def import_record(spool: Path, names: Names, kept: Kept, real: str, folder: str,
     for name in unasked(owners.makes, ninjas):
         assumed.add("unasked", name)
     add_seen(replay, assumed)
-    add_granted(owners, assumed, str(spool))
-    named_by_ninja(ninjas, assumed, str(spool))
+    add_granted(owners, assumed, facts.place)
+    named_by_ninja(ninjas, assumed, facts.place)
     past = Past(names.before, replay.changes)
     builds = builds_of_makes(owners, elsewhere, past, names, assumed, record)
     for path in made_unseen(owners.makes, ninjas, names, past.until(sys.maxsize)):
@@ -206,17 +205,17 @@ def finish(record: Record, found: Imported, names: Names, warm: bool) -> None:
         record.notes += ["ninja -t missingdeps, of earlier builds: %s reads %s, and waits for nobody who makes it" % (m.user, m.path) for m in beyond if record.warm]
 
 
-def complete(record: Record, spool: Path, names: Names, kept: Kept, real: str, out: Path, options: argparse.Namespace) -> Imported:
+def complete(record: Record, facts: Facts, out: Path, options: argparse.Namespace) -> Imported:
     """Writes the record of a build that has ended."""
     gc.disable()  # what is read is needed to the end: a search for garbage takes time and finds none
-    found = import_record(spool, names, kept, real, record.folder, record)
+    found = import_record(facts, record)
     gc.enable()
-    finish(record, found, names, options.warm)
+    finish(record, found, facts.names, options.warm)
     record.holes = list(dict.fromkeys(record.holes))
     write_record(out, record, found.builds, found.assumed)
     for number, build in zip(record.builds, found.builds if options.footprints else ()):
         if build.tool == "make":
-            write_footprints(out / "builds" / number, build, names, str(out))
+            write_footprints(out / "builds" / number, build, facts.names, str(out))
     if options.missing:
-        record.missing = write_missing(out, record, found.builds, names, found.lives, spool)
+        record.missing = write_missing(out, record, found.builds, facts.names, found.lives, facts.spool)
     return found

@@ -19,8 +19,9 @@ from itertools import islice
 from pathlib import Path
 from typing import Dict, List, Optional, Set, Tuple, cast
 
-from record import RELEASE, VERSION
+from record import RELEASE, VERSION, machine
 from record.entry import STOPPING, UNHEARD, Stopped, end_traced, interpreter, printable
+from record.facts import Facts, begun, first_tree
 from record.folder import NO_ROOM, NotWhole, Record, Taken, accept_warm, alone, aside, is_record, reading, rewrite, room_of_programs, rooms_of_programs, what_stands
 from record.judge import find_race, judge, no_race
 from record.make.cover import Cover
@@ -29,11 +30,9 @@ from record.make.outputs import note_output
 from record.make.unwrapped import name_real_makes
 from record.ninja.again import JOBS, TRIES, by_hand, by_name, hints, tops_of, undo, with_jobs
 from record.ninja.fresh import CannotClean, cold_copy, fresh_folder, saved_name
-from record.ninja.log import Kept
 from record.report import Judged, colours, read_json, report
 from record.standstill import Standstill
 from record.trace.classes import traced
-from record.trace.names import Names
 from record.trace.newer import Older
 from record.trace.pipe import Pipe
 from record.trace.skips import sift
@@ -259,12 +258,9 @@ def judge_record(out: Path, race: str) -> Tuple[int, List[Judged]]:
 def attempt(options: argparse.Namespace, words: List[str], tools: Dict[str, str], out: Path, is_last: bool = False) -> Tuple[Record, bool]:
     """One recorded build, and whether it failed in a way that another may not: then it is undone, except after the last one."""
     real, folder = shutil.which("make") or "make", os.path.realpath(".")
-    names = Names()
-    for top in tops_of(words, options.top):
-        names.walk(top)
-    for path in options.linked:
-        names.share(path)
-    kept = Kept.of(names)
+    before, after = (machine.Answers(), machine.Answers()) if options.keep_trace else (None, None)
+    with machine.answering(before):
+        names, kept = first_tree(tops_of(words, options.top), options.linked)
     rooms = room_of_programs(names.tops)
     if rooms is None:
         raise Missing(NO_ROOM % ", ".join(rooms_of_programs()))
@@ -277,14 +273,13 @@ def attempt(options: argparse.Namespace, words: List[str], tools: Dict[str, str]
         if options.missing:
             (spool / "again").touch()
         status, seconds = run_build(by_name(words, real, is_covered=cover.can_be_laid), spool, names.tops, cover)
-        record = Record(options.words, folder, status, round(seconds, 2), dict(tools))
-        if status != 0:
-            record.holes.append("the build ended with status %d" % status + (": signal %d stopped it" % -status if status < 0 else ""))
+        record, facts = begun(options.words, folder, status, round(seconds, 2), dict(tools)), Facts(spool, str(spool), real, names, kept)
         from record.importing import complete  # it was loaded while the build ran
-        found = complete(record, spool, names, kept, real, out, options)
+        with machine.answering(after):
+            found = complete(record, facts, out, options)
         record.notes += name_real_makes(found.lives, str(spool / "bin"), names.tops)
-        if options.keep_trace:
-            shutil.copytree(spool, out / "trace", ignore=shutil.ignore_patterns("bin", "wrapper", "real", "outputs", "again", "*.start", "*.read", "stop.mk", "sifted*"))
+        if before is not None and after is not None:
+            facts.keep(record, options, before, after, out / "trace")
         if status != 1 or not any(stage.jobs for ninja in found.ninjas for stage in ninja.stages):
             return record, False
         record.hints += hints(found.ninjas, names)

@@ -4,6 +4,7 @@ import os
 import re
 from typing import Dict, Iterator, List, Set
 
+from record import machine
 from record.cleaned import Cleaned
 from record.make.graph import Build, Graph, Node, Task
 from record.make.inner import DEFAULTS
@@ -88,12 +89,12 @@ def made_unseen(makes: List[Make], ninjas: List[Ninja], names: Names, now: Dict[
             found.update(names.find(make.folder, one.vpath.get(n, n), True).path for n in one.nodes if recipes.get(n) and n not in one.must and n not in ran)
     for ninja in ninjas:
         found.update(targets_of(ninja, names) - made_by(ninja, names))
-    return sorted(path for path in found if path not in now and os.path.isfile(path) and any(is_below(path, top) for top in names.tops))
+    return sorted(path for path in found if path not in now and machine.isfile(path) and any(is_below(path, top) for top in names.tops))
 
 
 def is_beyond(path: str, names: Names) -> bool:
     """Whether a file is there outside of the project: the tree before the build does not say so."""
-    return not any(is_below(path, top) for top in names.tops) and os.path.isfile(path)
+    return not any(is_below(path, top) for top in names.tops) and machine.isfile(path)
 
 
 def left_folders(build: Build, builds: List[Build], names: Names) -> Iterator[str]:
@@ -126,7 +127,7 @@ def is_new_link(build: Build, node: Node, names: Names) -> bool:
 
 def is_made_link(path: str, names: Names) -> bool:
     """Whether there is a link at this path that was not there before."""
-    return os.path.islink(path) and path not in names.before
+    return machine.islink(path) and path not in names.before
 
 
 def output_path(ninja: Ninja, path: str, names: Names) -> str:

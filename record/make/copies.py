@@ -4,11 +4,13 @@ import filecmp
 import os
 from functools import lru_cache
 
+from record import machine
 from record.tools.shelltext import KEPT, first_words
 
 MAKES = ("make", "gmake", "remake")
 
 
+@machine.asked
 @lru_cache(KEPT)
 def is_other_make(path: str, real: str) -> bool:
     """Whether a program is a make beside the one that the recorder knows: a copy of it under another name, or another of its name."""

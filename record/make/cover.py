@@ -13,6 +13,7 @@ import tempfile
 from pathlib import Path
 from typing import List, Sequence
 
+from record import machine
 from record.tools.shelltext import first_words
 
 OWN_MOUNTS = 0x20000  # for unshare
@@ -95,9 +96,10 @@ def copy_of(spool: Path) -> str:
         path = (spool / "real").read_text()
     except FileNotFoundError:
         return ""
-    return os.path.realpath(path) if os.path.basename(os.path.dirname(path)).startswith(ROOM) else ""
+    return machine.realpath(path) if os.path.basename(os.path.dirname(path)).startswith(ROOM) else ""
 
 
+@machine.asked
 def works(option: str) -> bool:
     """Whether this user gets mounts of its own by an option of unshare."""
     return shutil.which("unshare") is not None and subprocess.run(["unshare", option, "true"], capture_output=True, check=False).returncode == 0
@@ -107,6 +109,6 @@ def way_to_cover(words: Sequence[str], real: str) -> List[str]:
     """What to do where nothing lay over the make, and a build of these words called it by its whole path; nothing where that may not help."""
     if first_words(real):
         return [SCRIPT % real]
-    if os.geteuid() == 0:
+    if machine.geteuid() == 0:
         return [] if works("-m") else [CONTAINER]
     return [BY_NAMES % shlex.join(words) if works("-rm") else BY_ROOT]

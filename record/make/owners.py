@@ -8,6 +8,7 @@ from dataclasses import dataclass, field
 from functools import cached_property
 from typing import TYPE_CHECKING, Container, Dict, Iterable, List, Optional, Set, Tuple
 
+from record import machine
 from record.make.asked import EVERYTHING, Asked, asked_in, is_of_linker
 from record.make.database import Base
 from record.make.globs import listed, patterns
@@ -97,7 +98,7 @@ class Make:
         """Whether it looked for a makefile, as for `-include`, and found none: that one says nothing."""
         path = os.path.normpath(os.path.join(self.folder, name))
         kinds = self.kinds.get(path, set())
-        return ABSENT in kinds and READ not in kinds and not os.path.lexists(path)
+        return ABSENT in kinds and READ not in kinds and not machine.lexists(path)
 
     def begin(self, start: int) -> int:
         """When it began, or began again: then it knows nothing of what it has listed."""

@@ -6,6 +6,7 @@ Where such a folder has a relative name, a program there may be a target: then t
 import os
 from typing import TYPE_CHECKING, Iterable, Set
 
+from record import machine
 from record.make.globs import with_values
 
 if TYPE_CHECKING:
@@ -43,7 +44,7 @@ def path_of(base: "Base") -> Set[str]:
 def are_inside(base: "Base", where: str, tops: Iterable[str]) -> bool:
     """Whether PATH may lead into the folders that the build works in, for a make in a folder."""
     below = tuple(top.rstrip("/") + "/" for top in tops)
-    return any("$" in folder or (os.path.realpath(os.path.join(where, folder)) + "/").startswith(below) for folder in path_of(base))
+    return any("$" in folder or (machine.realpath(os.path.join(where, folder)) + "/").startswith(below) for folder in path_of(base))
 
 
 def names_in(base: "Base") -> Set[str]:

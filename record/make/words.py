@@ -353,13 +353,13 @@ def read_words(pid: int, life: int, lines: Iterable[str], place: str = "") -> Wo
     return words
 
 
-def read_logs(spool: Path) -> List[Words]:
-    """The words of all makes of a recorded build."""
+def read_logs(spool: Path, place: str) -> List[Words]:
+    """The words of all makes of a recorded build. `place` is where their folder was then."""
     logs = []
     for path in sorted(spool.glob("*.make")):
         pid, life, _ = path.name.split(".")
         with open(path, encoding="utf-8", errors="surrogateescape", newline="\n") as lines:
-            logs.append(read_words(int(pid), int(life), lines, str(path)[:-len("make")]))
+            logs.append(read_words(int(pid), int(life), lines, "%s/%s" % (place, path.name[:-len("make")])))
     return logs
 
 

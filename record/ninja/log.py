@@ -2,12 +2,11 @@
 
 import os
 import re
-import subprocess
 from collections import Counter
 from dataclasses import dataclass, field
-from pathlib import Path
 from typing import Dict, List, Set, Tuple
 
+from record import machine
 from record.trace.names import Names
 
 HEAD, SIZE = 16, (1 << 31) - 1  # of the log of headers
@@ -32,7 +31,7 @@ class Kept:
 
 def text_of(path: str) -> str:
     """A file's text; bytes that are none are kept."""
-    return Path(path).read_bytes().decode("utf-8", "surrogateescape")
+    return machine.read(path).decode("utf-8", "surrogateescape")
 
 
 def read_deps(path: str) -> Dict[str, List[str]]:
@@ -42,7 +41,7 @@ def read_deps(path: str) -> Dict[str, List[str]]:
     the number of the output, its time, and the numbers of its inputs.
     """
     try:
-        data = Path(path).read_bytes()
+        data = machine.read(path)
     except OSError:
         return {}
     names: List[str] = []
@@ -102,15 +101,13 @@ def read_missing(text: str) -> Set[Missing]:
 
 def ask_missing(program: str, folder: str, file: str) -> "Set[Missing] | None":
     """Runs `-t missingdeps`; None where this ninja has none."""
-    words = [program, "-C", folder, "-f", file, "-t", "missingdeps"]
-    ran = subprocess.run(words, capture_output=True, text=True, errors="surrogateescape", stdin=subprocess.DEVNULL, check=False)
-    return read_missing(ran.stdout) if "Processed" in ran.stdout else None
+    found = machine.printed(program, "-C", folder, "-f", file, "-t", "missingdeps")
+    return read_missing(found) if "Processed" in found else None
 
 
 def version_of(program: str) -> str:
     """What a ninja says of its version."""
-    ran = subprocess.run([program, "--version"], capture_output=True, text=True, errors="replace", stdin=subprocess.DEVNULL, check=False)
-    return ran.stdout.strip()
+    return machine.printed(program, "--version").strip()
 
 
 def ends(log: List[str]) -> Dict[str, Tuple[int, int]]:

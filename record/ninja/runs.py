@@ -7,6 +7,7 @@ from collections import Counter
 from dataclasses import dataclass, field
 from typing import Callable, Dict, Iterator, List, Optional, Set, Tuple
 
+from record import machine
 from record.make.owners import Owners, Work
 from record.ninja.dyndep import read_dyndep
 from record.ninja.log import Kept, ends, new_outputs, text_of
@@ -108,7 +109,7 @@ def is_unknown(life: Life) -> bool:
 def is_tried(ninja: Ninja) -> bool:
     """Whether CMake itself ran a ninja to find out whether something compiles, in a folder of its own that is gone now."""
     above = ninja.life.parent
-    return bool(TRIED.search(ninja.folder)) and above is not None and os.path.basename(above.program) in CMAKES and not os.path.exists(os.path.join(ninja.folder, ninja.file))
+    return bool(TRIED.search(ninja.folder)) and above is not None and os.path.basename(above.program) in CMAKES and not machine.exists(os.path.join(ninja.folder, ninja.file))
 
 
 class Runs:
@@ -225,7 +226,7 @@ class Runs:
             name = "" if edge.is_phony else edge.path("dyndep")
             path = os.path.join(manifest.folder, name)
             real = self.names.find("/", path, True).path
-            if not name or real not in reads and not os.path.isfile(path):
+            if not name or real not in reads and not machine.isfile(path):
                 continue
             try:
                 for one in read_dyndep(self.texts_at(reads.get(real, NEVER - 1))(path)):

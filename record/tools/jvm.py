@@ -7,6 +7,7 @@ import os
 import re
 from typing import Iterable, List
 
+from record import machine
 from record.tools.modules import is_machine, parts_of
 from record.trace.lives import Life
 
@@ -32,4 +33,4 @@ def settle_machines(lives: List[Life]) -> None:
 
 def machine_of(life: Life) -> Iterable[Life]:
     """A process with its threads, if it is such a machine."""
-    return parts_of(life) if life.program and is_machine(os.path.dirname(os.path.dirname(os.path.realpath(life.program)))) else ()
+    return parts_of(life) if life.program and is_machine(os.path.dirname(os.path.dirname(machine.realpath(life.program)))) else ()

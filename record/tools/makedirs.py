@@ -12,6 +12,7 @@ from dataclasses import dataclass
 from functools import lru_cache
 from typing import Dict, Iterable, Iterator, List, Optional
 
+from record import machine
 from record.trace.events import ABSENT, AGE_SEEN, MADE_QUIETLY, MAKER_SEEN, SEEN, STRICT, WAY_ABSENT
 from record.trace.lives import Life
 
@@ -104,8 +105,9 @@ def has(call: List[str], word: str) -> bool:
 def forms_in(path: str) -> Forms:
     """What a module says; one that is no text is not quiet."""
     try:
-        with tokenize.open(path) as file:
-            return forms_of(file.read())
+        text = machine.read(path)
+        encoding = tokenize.detect_encoding(io.BytesIO(text).readline)[0]
+        return forms_of(io.TextIOWrapper(io.BytesIO(text), encoding).read())
     except (OSError, SyntaxError, ValueError):
         return Forms(False)
 

@@ -11,6 +11,7 @@ from dataclasses import dataclass, field
 from functools import lru_cache
 from typing import Dict, Iterable, Iterator, List, Optional, Set, Tuple
 
+from record import machine
 from record.trace.events import (
     ABSENT, AGE_SEEN, AGE_UNKNOWN, CREATED, FOLDER_REMOVED, LISTED, MADE_QUIETLY, MAKES, READ, REMOVED, SEEN, STRICT, WAY_ABSENT, WRITTEN,
 )
@@ -81,7 +82,7 @@ def settle_modules(lives: List[Life]) -> Iterator[Tuple[str, str]]:
     for life in found:
         parts = list(parts_of(life))
         texts = read_by(parts, disk)
-        if all(os.path.isfile(text) for text in texts) and not (kind_of(life) == "java" and is_open(life, parts)):
+        if all(machine.isfile(text) for text in texts) and not (kind_of(life) == "java" and is_open(life, parts)):
             listed = {path.partition("\0")[0] for part in parts for kind, path in part.events if kind == LISTED}
             lists = whole_lists(parts)
             for part in parts:
@@ -110,7 +111,7 @@ def look_for(life: Life, part: Life, folder: str, place: int, texts: List[str], 
 def fills(folder: str, texts: List[str], disk: Disk) -> bool:
     """Whether any class in a folder may count, as where a text asks for a whole package: it must not be without classes."""
     try:
-        others = {*os.listdir(folder)} - disk.names.get(folder, set())
+        others = {*machine.listdir(folder)} - disk.names.get(folder, set())
     except OSError:
         others = set()
     if any(name.endswith((".java", ".class")) for name in others):
@@ -124,7 +125,7 @@ def words_of(life: Life) -> Optional[List[str]]:
     """The words of javac, and those in files that they name; nothing where such a file is gone."""
     words = list(life.argv[1:])
     for word in life.argv[1:]:
-        if word.startswith("@") and not os.path.isfile(os.path.join(life.folder, word[1:])):
+        if word.startswith("@") and not machine.isfile(os.path.join(life.folder, word[1:])):
             return None
         if word.startswith("@"):
             words += contents(os.path.join(life.folder, word[1:]), False).decode("utf-8", "replace").replace('"', " ").replace("'", " ").split()
@@ -142,7 +143,7 @@ def is_open(life: Life, parts: List[Life]) -> bool:
     if words is None or any(OPEN.match(word) for word in words):
         return True
     read = {path for part in parts for kind, path in part.events if kind == READ}
-    home = os.path.dirname(os.path.dirname(os.path.realpath(life.program or "/")))
+    home = os.path.dirname(os.path.dirname(machine.realpath(life.program or "/")))
     packed = [path for path in read if path.lower().endswith(PACKED) and not path.startswith(home + "/")]
     return "-proc:none" not in words and (any(path.endswith(SERVICE) for path in read) or any(holds(path, SERVICE, False) for path in packed))
 
@@ -174,9 +175,10 @@ def kind_of(life: Life) -> str:
     if life.cut:
         return ""
     found = "ocaml" if OCAML.match(program_of(life)) else "java" if JAVA.match(program_of(life)) else ""
-    return found if not found or not life.program or is_compiler(os.path.realpath(life.program), found) else ""
+    return found if not found or not life.program or is_compiler(machine.realpath(life.program), found) else ""
 
 
+@machine.asked
 @lru_cache(None)
 def is_compiler(path: str, kind: str) -> bool:
     """Whether a program is the compiler of its name: Java's has a machine beside it, and OCaml's was made by OCaml."""
@@ -189,6 +191,7 @@ def is_compiler(path: str, kind: str) -> bool:
         return False
 
 
+@machine.asked
 @lru_cache(None)
 def is_machine(folder: str) -> bool:
     """Whether the folder above a program's has a machine of Java."""
@@ -208,7 +211,7 @@ def read_by(parts: List[Life], disk: Disk) -> List[str]:
     """The files that a compiler read and has not made itself, where they are as they were then; else a name that no file has."""
     known = {id(part) for part in parts}
     own = {path for part in parts for kind, path in part.events if kind == CREATED and disk.writers.get(path, known) <= known}
-    links = {path for part in parts for kind, path in part.events if kind == READ and os.path.islink(path)}
+    links = {path for part in parts for kind, path in part.events if kind == READ and machine.islink(path)}
     found = {path: place for part in parts for (kind, path), place in part.events.items() if kind == READ and path not in own | links and may_name(path)}
     is_same = all(disk.written.get(path, 0) <= place for path, place in found.items())
     return sorted(found) if is_same else [""]
@@ -256,8 +259,7 @@ def is_word(name: str, text: bytes) -> bool:
 @lru_cache(KEPT)
 def contents(path: str, is_bare: bool) -> bytes:
     """The bytes of a file, those of a source without its comments if these say nothing."""
-    with open(path, "rb") as file:
-        text = file.read(LARGE + 1)
+    text = machine.read(path, LARGE + 1)
     if path.endswith(".java"):
         text = LETTER.sub(lambda found: bytes([int(found.group(1), 16)]), text)
     if not is_bare or not path.endswith(SOURCES) or b"\\u" in text:

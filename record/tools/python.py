@@ -8,6 +8,7 @@ import os
 import re
 from typing import Dict, Iterator, List, Mapping, Optional, Sequence, Set, Tuple
 
+from record import machine
 from record.missing.looked import BYTE_CODE
 from record.tools import pyages, pynames, pystart, shelltext
 from record.tools.makedirs import settle_made
@@ -174,7 +175,7 @@ def settle_looks(life: Life, texts: List[str], begun: int, written: Dict[str, in
 
 def library_of(life: Life) -> str:
     """How the folders of modules begin that come with this Python."""
-    return os.path.join(os.path.dirname(os.path.dirname(os.path.realpath(life.program or "/"))), "lib", "python")
+    return os.path.join(os.path.dirname(os.path.dirname(machine.realpath(life.program or "/"))), "lib", "python")
 
 
 def is_of_python(path: str, library: str) -> bool:

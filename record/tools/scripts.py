@@ -8,6 +8,7 @@ import os
 import re
 from typing import Dict, Iterable, List, NamedTuple, Optional, Sequence, Set, Tuple
 
+from record import machine
 from record.make.words import Words
 from record.tools import shelltext
 from record.tools.accounted import accounted, may_be_read
@@ -40,8 +41,8 @@ class Scripts:
         self.around = Surroundings(lives, logs, changed)
         self.known: Dict[int, Optional[Said]] = {}
         self.runs: Dict[int, Dict[str, int]] = {}
-        self.has_functions = any(name.startswith(FUNCTION) for name in os.environ)
-        self.has_traces = re.search(r"[`$]", os.environ.get("PS4", "")) is not None  # what `set -x` prints may run commands
+        self.has_functions = any(name.startswith(FUNCTION) for name in machine.variables())
+        self.has_traces = re.search(r"[`$]", machine.variable("PS4") or "") is not None  # what `set -x` prints may run commands
 
     def patterns(self, one: Listed, lists: Sequence[Listed]) -> List[str]:
         """The patterns of names that a list is about; none where they are not known. `lists`: all of this folder by the same process."""

@@ -6,6 +6,7 @@ import re
 from functools import lru_cache
 from typing import Iterable, List, Optional, Set, Tuple
 
+from record import machine
 from record.tools.golang import output_folder
 from record.tools.texts import script_text, text_of
 from record.trace.system import OF_SYSTEM
@@ -104,6 +105,7 @@ def script_of(argv: List[str]) -> str:
     return shell_words(argv)[1]
 
 
+@machine.asked
 def first_words(path: str) -> List[str]:
     """The words of a script's first line: the interpreter that the kernel runs, by its own look, and a word for it."""
     try:

@@ -10,6 +10,7 @@ from functools import lru_cache
 from itertools import product
 from typing import Callable, FrozenSet, Iterable, Iterator, List, NamedTuple, Optional, Set, Tuple, Type
 
+from record import machine
 from record.tools import shelltext
 from record.tools.scriptcut import DEFAULT
 from record.tools.shellcut import UNSET, Cutter, Piece, Unread
@@ -62,7 +63,7 @@ def patterns_in(life: Life, where: str) -> List[str]:
 
 def parts_in(life: Life, where: str, asked: Iterable[Asked]) -> List[str]:
     """Those of some patterns that a shell may ask for in a folder."""
-    links = {os.path.basename(path) for kind, path in life.events if kind == READ and not OF_SYSTEM.match(path) and (os.path.islink(path) or not os.path.lexists(path))}
+    links = {os.path.basename(path) for kind, path in life.events if kind == READ and not OF_SYSTEM.match(path) and (machine.islink(path) or not machine.lexists(path))}
     return sorted({one.part for one in asked if not one.folder or fnmatchcase(where, "*/" + one.folder) or goes_by(one.folder, links)})
 
 

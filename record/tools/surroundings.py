@@ -8,6 +8,7 @@ import re
 from functools import lru_cache
 from typing import Dict, Iterator, List, Optional, Sequence, Set, Tuple
 
+from record import machine
 from record.make.database import BEGINS, Base
 from record.make.globs import composes, with_values
 from record.make.macros import CHANGES
@@ -104,7 +105,8 @@ class Surroundings:
             if life.parent is None and life is not self.first:
                 return None
             place, life = life.born, life.parent
-        return [*found, os.environ.get(name, UNSET)]
+        value = machine.variable(name)
+        return [*found, UNSET if value is None else value]
 
     def set_by(self, program: Program, name: str) -> Optional[List[str]]:
         """The values that a program gives a macro for what it starts; None where nobody knows."""
@@ -171,7 +173,7 @@ class Surroundings:
         for name in makefiles(words):
             path, copies = os.path.normpath(os.path.join(folder, name)), words.copies_of(name)
             read, later = life.events.get((READ, path), 0), self.changed.get(path, 0)
-            is_other = not copies and (not os.path.isfile(path) and read or read < later and not path.endswith(WRITTEN_AGAIN))
+            is_other = not copies and (not machine.isfile(path) and read or read < later and not path.endswith(WRITTEN_AGAIN))
             yield ANYTHING if is_other else "\n".join(map(shelltext.contents, copies or [path]))
         yield " ".join((words.args, words.flags))
 
@@ -202,8 +204,7 @@ def expanded(base: Base, name: str, changing: Set[str]) -> Optional[str]:
 def whole_text(path: str) -> str:
     """The text of a file as it is; nothing where it cannot be read."""
     try:
-        with open(path, encoding="utf-8", errors="replace", newline="") as file:
-            return file.read(shelltext.LARGE)
+        return machine.opened(path, "replace", "").read(shelltext.LARGE)
     except OSError:
         return ""
 

@@ -10,6 +10,7 @@ import re
 from functools import lru_cache
 from typing import List
 
+from record import machine
 from record.tools.modules import parts_of
 from record.trace.events import LISTED
 from record.trace.lives import Life
@@ -47,10 +48,11 @@ def in_any_letters(name: str) -> str:
 
 def is_engine(life: Life) -> bool:
     """Whether a process runs such a program of the system."""
-    program = os.path.realpath(life.program) if life.program and not life.cut else ""
+    program = machine.realpath(life.program) if life.program and not life.cut else ""
     return bool(ENGINES.fullmatch(os.path.basename(program)) and OF_SYSTEM.match(program) and has_library(program))
 
 
+@machine.asked
 @lru_cache(None)
 def has_library(program: str) -> bool:
     """Whether a program looks for files by that library."""

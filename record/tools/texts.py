@@ -4,21 +4,22 @@ to open it may wait for ever, or gives what is the recorder's own."""
 import errno
 import os
 
+from record import machine
+
 OF_PROCESS = ("/dev/fd/", "/dev/std", "/proc/")  # how names begin that lead each process elsewhere
 BINARY = "\x7fELF"  # how programs and libraries begin
 
 
 def is_plain(path: str) -> bool:
     """Whether a file can be read again."""
-    return os.path.isfile(path) and not os.path.normpath(path).startswith(OF_PROCESS)
+    return machine.isfile(path) and not os.path.normpath(path).startswith(OF_PROCESS)
 
 
 def text_of(path: str, limit: int = -1) -> str:
     """The text of a file, or its beginning; an error where it is gone, or cannot be read again."""
     if not is_plain(path):
         raise OSError(errno.EINVAL, "is no plain file", path)
-    with open(path, errors="replace") as file:
-        return file.read(limit)
+    return machine.opened(path, "replace", size=max(-1, 4 * limit)).read(limit)  # a sign has four bytes at most
 
 
 def script_text(path: str, limit: int = -1) -> str:

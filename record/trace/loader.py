@@ -3,6 +3,7 @@
 import struct
 from typing import List, NamedTuple
 
+from record import machine
 from record.tools.shelltext import first_words
 
 INTERPRETER = 3  # the kind of a segment that names one
@@ -28,6 +29,7 @@ def interpreter_words(path: str) -> List[str]:
     return first_words(path) or loader_of(path)
 
 
+@machine.asked
 def loader_of(path: str) -> List[str]:
     """The dynamic loader of a binary file, as it is spelled there."""
     try:

@@ -12,6 +12,7 @@ from dataclasses import dataclass, field
 from pathlib import Path
 from typing import Dict, Iterable, Iterator, List, Optional, Sequence, Set, Tuple
 
+from record import machine
 from record.trace.spelling import folds, has_two_names
 
 LINK_LIMIT = 40
@@ -45,19 +46,21 @@ class Inode:
         return "/" + "/".join(reversed(parts))
 
 
-def mount_points() -> Set[str]:
-    """Where file systems, or folders of them, are mounted."""
+@machine.asked
+def mounts_below(*tops: str) -> List[str]:
+    """Where file systems, or folders of them, are mounted: some folders, or what is below them."""
     try:
         lines = Path("/proc/self/mountinfo").read_text(errors="surrogateescape").split("\n")
     except OSError:
-        return set()
-    return {MOUNT_ESCAPE.sub(lambda found: chr(int(found.group(1), 8)), line.split(" ")[4]) for line in lines if line}
+        return []
+    found = {MOUNT_ESCAPE.sub(lambda found: chr(int(found.group(1), 8)), line.split(" ")[4]) for line in lines if line}
+    return sorted(path for path in found if (path + "/").startswith(tuple(top.rstrip("/") + "/" for top in tops)))
 
 
 def number_of(path: str) -> Tuple[str, Optional[os.stat_result]]:
     """A file with its device and number; none where it is gone."""
     try:
-        return path, os.lstat(path)
+        return path, machine.lstat(path)
     except OSError:
         return path, None
 
@@ -113,9 +116,9 @@ class Names:
         """Takes in the tree below a real path, as it is now. A folder that is not there yet is empty, and made by the build."""
         self.tops.append(top)
         above = [str(path) for path in Path(top).parents][::-1]
-        self.above.update(path for path in above if os.path.isdir(path))
-        if not os.path.isdir(top):
-            self.absent.add(next(path for path in [*above, top] if not os.path.isdir(path)))
+        self.above.update(path for path in above if machine.isdir(path))
+        if not machine.isdir(top):
+            self.absent.add(next(path for path in [*above, top] if not machine.isdir(path)))
             return
         node = self.folder(top)
         self.folds = self.folds or has_two_names(top)
@@ -137,13 +140,13 @@ class Names:
     def entries_of(self, path: str) -> Iterator[Tuple[str, os.stat_result]]:
         """The names in a folder of the disk, and what stands there. What is too long to be asked for is noted; what the user may not see is left out."""
         try:
-            entries = list(os.scandir(path))
+            names = machine.listdir(path)
         except OSError as error:
             self.long += [path] * (error.errno == errno.ENAMETOOLONG)
             return
-        for entry in entries:
+        for name in names:
             try:
-                yield entry.name, entry.stat(follow_symlinks=False)
+                yield name, machine.lstat(join(path, name))
             except (FileNotFoundError, PermissionError):
                 continue
             except OSError as error:
@@ -175,7 +178,7 @@ class Names:
         if stat.S_ISDIR(found.st_mode):
             return Inode("d")
         if stat.S_ISLNK(found.st_mode):
-            return Inode("l", os.readlink(path))
+            return Inode("l", machine.readlink(path))
         if found.st_nlink > 1:
             key = (found.st_dev, found.st_ino)
             if key not in self.files:
@@ -217,7 +220,7 @@ class Names:
 
     def is_link(self, path: str) -> bool:
         """Whether a name is a link, or was one at some time."""
-        return path in self.links or os.path.islink(path)
+        return path in self.links or machine.islink(path)
 
     def take(self, folder: Inode, name: str) -> Optional[Inode]:
         """Takes a name away."""
@@ -246,7 +249,7 @@ class Names:
         if path in self.absent:
             return None
         try:
-            child = self.made_of(os.lstat(path), path)
+            child = self.made_of(machine.lstat(path), path)
         except OSError:
             return None
         self.put(folder, name, child)
@@ -340,7 +343,7 @@ class Names:
     def leads_to(self, folders: Iterable[str]) -> bool:
         """Whether a link from before the build leads to a folder below some folders of the root: a name that begins in a top may then end there."""
         real = (self.find("/", path, True).path for path, kind in self.before.items() if kind == "l")
-        return any(path.split("/")[1] in folders and os.path.isdir(path) for path in real)
+        return any(path.split("/")[1] in folders and machine.isdir(path) for path in real)
 
     def aliases(self, inode: Optional[Inode]) -> List[str]:
         """All names of a file."""

@@ -1,12 +1,12 @@
 """What calls say of processes themselves: who starts whom, what they make names without, and what the trace does not see of them. calls.py
 says which calls each method takes."""
 
-import os
 import re
 import stat
 from functools import lru_cache
 from typing import List
 
+from record import machine
 from record.tools import shelltext
 from record.trace.events import LISTED
 from record.trace.lives import Life, Listed, Program
@@ -32,7 +32,7 @@ def first_of(life: Life) -> Life:
 def lends_rights(program: str, user: int) -> bool:
     """Whether the kernel runs a program with the rights of its owner or group. It does not where the process is traced, except for root."""
     try:
-        found = os.stat(program)
+        found = machine.stat(program)
     except OSError:
         return False
     return user != 0 and bool(found.st_mode & stat.S_ISUID and found.st_uid != user or found.st_mode & stat.S_ISGID and found.st_mode & stat.S_IXGRP)
@@ -68,7 +68,7 @@ class Processes(Moves):
 
     def note_rights(self, life: Life, program: str) -> None:
         """A program such as `sudo` has been started, and does not get the rights that it has in a build by itself."""
-        if lends_rights(program, os.geteuid()):
+        if lends_rights(program, machine.geteuid()):
             self.holes.append("a program does not get the rights of its owner while a build is recorded: " + " ".join(life.argv)[:100])
 
     def on_kill(self, life: Life, call: Call, ok: bool) -> None:

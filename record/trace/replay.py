@@ -4,6 +4,7 @@ import os
 import re
 from typing import Dict, List, Set, Tuple
 
+from record import machine
 from record.tools import shellages, shelltext
 from record.trace.events import (
     ABSENT, AGE_SEEN, AGE_UNKNOWN, CHANGES, CREATED, ENTERED, FOLDER_REMOVED, MADE, MADE_QUIETLY, MAKE_OPENED, MAKER_SEEN, READ, REMOVED, SEEN,
@@ -57,7 +58,7 @@ class Replay:
         self.changes: List[Tuple[int, str, str]] = []  # names that come and go, in order
         self.askers: List[str] = []  # who asks when a file was read last
         self.lists: List[Listed] = []  # lists of folders that may be about any name
-        self.is_open_shell = bool(shelltext.SHELL_MACROS & {*os.environ})  # shells may have other options than their words say
+        self.is_open_shell = bool(shelltext.SHELL_MACROS & {*machine.variables()})  # shells may have other options than their words say
 
     # ---------------------------------------------------------------- processes
     def life(self, pid: int) -> Life:

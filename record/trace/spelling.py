@@ -7,6 +7,7 @@ import os
 import unicodedata
 from typing import TYPE_CHECKING, Dict, Iterable, Iterator, List, Set, Tuple
 
+from record import machine
 from record.trace.events import TREE_CHANGES
 
 if TYPE_CHECKING:
@@ -26,9 +27,10 @@ def folds(folder: str, names: Iterable[str]) -> bool:
     """Whether a folder that holds some names has one of them under another spelling too."""
     held = set(names)
     name = next((name for name in sorted(held) if other_case(name) != name), "")
-    return name != "" and other_case(name) not in held and os.path.lexists(os.path.join(folder, other_case(name)))
+    return name != "" and other_case(name) not in held and machine.lexists(os.path.join(folder, other_case(name)))
 
 
+@machine.asked
 def has_two_names(folder: str) -> bool:
     """Whether a folder itself has another spelling."""
     other = os.path.join(os.path.dirname(folder), other_case(os.path.basename(folder)))

@@ -4,6 +4,7 @@ import os
 import re
 from typing import List
 
+from record import machine
 from record.make.copies import is_other_make
 from record.tools import shellages, shelltext
 from record.tools.computed import runs_unseen
@@ -15,14 +16,13 @@ from record.trace.opened import Opened
 from record.trace.processes import sets_others
 from record.trace.strace import Call, first_text, folders, is_cut, texts
 
-SH_IS_BASH = os.path.basename(os.path.realpath("/bin/sh")) == "bash"
 CHECKS = re.compile(r"\b(?:AT_EXECVE_CHECK|0x10000(?: /\* AT_\?\?\? \*/)?)$")  # flags of execveat by which nothing is run
 SCRIPTS = 5  # how many scripts may be the interpreter of one another; the kernel allows no more
 
 
 def is_bash(argv: List[str]) -> bool:
     """Whether a process runs bash, perhaps by the name `sh`."""
-    return shelltext.base_name(argv) == "bash" or SH_IS_BASH and shelltext.base_name(argv) == "sh"
+    return shelltext.base_name(argv) == "bash" or shelltext.base_name(argv) == "sh" and os.path.basename(machine.realpath("/bin/sh")) == "bash"
 
 
 class Started(Opened):
@@ -131,7 +131,7 @@ class Started(Opened):
     @staticmethod
     def is_place(life: Life, path: str) -> bool:
         """Whether a path may be what `PWD` says: the folder of who started a process, which that has left without a word to it, as `make -C` does."""
-        return bool(path) and (path == os.environ.get("PWD") or any(path == up.folder for up in life.up()))
+        return bool(path) and (path == machine.variable("PWD") or any(path == up.folder for up in life.up()))
 
     def first_words(self, path: str) -> List[str]:
         """The words of a script's first line, read once: the build has ended."""
@@ -142,7 +142,7 @@ class Started(Opened):
     def is_real_make(self, path: str) -> bool:
         """Whether a program is the make that the recorder knows."""
         if path not in self.makes_by_path:
-            self.makes_by_path[path] = path == self.real or os.path.realpath(path) == self.real
+            self.makes_by_path[path] = path == self.real or machine.realpath(path) == self.real
         return self.makes_by_path[path]
 
     def look_at_interpreters(self, life: Life, program: str) -> None:

@@ -20,7 +20,7 @@ def hole(name: str) -> str:
 
 
 ODD_GUARDS: List[Guard] = [
-    Guard("beside: a target that something else makes", "warm.py", "if path not in now and os.path.isfile(path)", "if False and os.path.isfile(path)",
+    Guard("beside: a target that something else makes", "warm.py", "if path not in now and machine.isfile(path)", "if False and machine.isfile(path)",
           "test_ends.Together.test_a_target_that_something_else_makes", "2 != 0"),
     Guard("missing: a target in a search path", "missing/anew.py", "if name in self.vpath or not (name in self.phony or name.startswith(\"/\") or self.is_there(name)):", "if name in self.vpath:",
           hole("search path of a target"), LOST_HOLE),

@@ -48,7 +48,7 @@ RARE_GUARDS: List[Guard] = [
           rare("macro_that_a_leaf_asks_for"), FALSE_RACE),
     Guard("programs: make looks for one when a recipe starts", "make/build.py", " or are_inside(self.graph.base, make.folder, names.tops)", "", rare("program_in_a_folder_of_path"), YES),
     Guard("programs: relative folders in which make looks late", "make/programs.py", 'os.path.join(where, folder)', "folder", rare("program_in_a_relative_folder_of_path"), YES),
-    Guard("programs: folders elsewhere", "make/programs.py", '"$" in folder or (os.path', 'True or (os.path', rare("program_in_a_folder_of_path_elsewhere"), FALSE_RACE),
+    Guard("programs: folders elsewhere", "make/programs.py", '"$" in folder or (machine', 'True or (machine', rare("program_in_a_folder_of_path_elsewhere"), FALSE_RACE),
     Guard("exported macros: of several lines", "make/macros.py", "for known in (self.base.values, bodies) for", "for known in (self.base.values,) for",
           rare("exported_macro_of_lines_that_reads_a_file"), YES),
     Guard("exported macros: those that set others when a recipe starts", "make/unfiled.py", "builder.acts_at.get(label, at)", "builder.look_of.get(label, at)",

@@ -272,7 +272,7 @@ OWNERS: List[Guard] = [
     Guard("failed: it lacks no file whose recipe ran", "failed.py", "for path, where in found.items() if path not in ran}", "for path, where in found.items()}", "test_failed.Failed.test_prerequisite_that_was_forgotten"),
     Guard("failed: it lacks no file that is there", "failed.py", ' if kind == "N"}) for make, job in jobs]', "}) for make, job in jobs]", "test_failed.Failed.test_prerequisite_that_was_forgotten"),
     Guard("failed: a hint where no better one is known", "main.py", "[by_hand(options.words)] if record.status != 0 else []", "[]", "test_failed.Failed.test_recipe"),
-    Guard("holes: a build that failed", "main.py", '            record.holes.append("the build ended with status %d" % status + (": signal %d stopped it" % -status if status < 0 else ""))', "            pass", small("status_of_the_command"), LOST_HOLE),
+    Guard("holes: a build that failed", "facts.py", '        record.holes.append("the build ended with status %d" % status + (": signal %d stopped it" % -status if status < 0 else ""))', "        pass", small("status_of_the_command"), LOST_HOLE),
     Guard("holes: a make that did not end", "make/owners.py", '        self.holes += ["a make did not end: make " + words.args] if words.status is None else []\n', "", "test_owners.Holes.test_make_that_did_not_end"),
     Guard("holes: jobs out of order", "make/owners.py", "elif births != sorted(births):", "elif False:", "test_owners.Holes.test_jobs_out_of_order"),
     Guard("holes: a make without words", "make/owners.py", '                    self.holes.append("a make has no words: " + " ".join(life.argv)[:100])', "                    pass", "test_owners.Holes.test_make_without_words"),

@@ -6,7 +6,9 @@ import unittest
 from typing import Dict
 
 import support
+from record.facts import Facts
 from record.importing import replay_trace
+from record.ninja.log import Kept
 from record.make.owners import Make
 from record.make.words import Words
 from record.trace.names import Names
@@ -140,7 +142,7 @@ class Traces(unittest.TestCase):
                 names = Names()
                 names.walk(top)
                 sift(project.folder / "trace", [top], project.folder / "sifted")
-                replay = replay_trace(project.folder, names, "/bin/make", top, [top])
+                replay = replay_trace(Facts(project.folder, str(project.folder), "/bin/make", names, Kept()), top)
                 self.assertEqual(wanted, any(("N", "/usr/race-test") in life.events for life in replay.all), target)
 
 

@@ -8,7 +8,9 @@ from pathlib import Path
 from typing import List
 
 import support  # noqa: F401
+from record.facts import Facts
 from record.importing import replay_trace
+from record.ninja.log import Kept
 from record.trace.names import Inode, Names
 from record.trace.skips import PIECE, Skip, pieces, sift
 from record.trace.strace import read_trace
@@ -95,11 +97,12 @@ class Skips(unittest.TestCase):
         lines = ['7 openat(AT_FDCWD</w>, "link/x", O_WRONLY|O_CREAT, 0666 <unfinished ...>', "7 <... openat resumed>) = 3</usr/lib/x>", "7 +++ exited with 0 +++"]
         with tempfile.TemporaryDirectory() as room:
             names = Names()
+            names.tops = ["/w"]
             names.folder("/w").walked = True
             names.put(names.folder("/w"), "link", Inode("l", "/usr/lib"))
             (Path(room) / "trace").write_text("\n".join(lines) + "\n")
             sift(Path(room) / "trace", ["/w"], Path(room) / "sifted")
-            self.assertEqual(["who looks at /usr/lib/x is not known, and it changed"], replay_trace(Path(room), names, "/usr/bin/make", "/w", ["/w"]).holes)
+            self.assertEqual(["who looks at /usr/lib/x is not known, and it changed"], replay_trace(Facts(Path(room), room, "/usr/bin/make", names, Kept()), "/w").holes)
 
     def test_trace_that_is_still_written(self) -> None:
         with tempfile.TemporaryDirectory() as room, open(Path(room) / "trace", "w") as file:

@@ -5,7 +5,7 @@ import os
 import unittest
 from typing import Dict
 
-from record.trace.names import Names, mount_points
+from record.trace.names import Names, mounts_below
 from test_replay import played
 from test_small import COMMANDS, Small, test_of
 
@@ -125,7 +125,7 @@ class Traces(unittest.TestCase):
         self.assertEqual([1, 1, 0], [len(names.mounted(mounts)) for mounts in ({"/w/c"}, {"/w/a", "/"}, {"/w", "/w/b"})])
 
     def test_mount_points(self) -> None:
-        self.assertIn("/proc", mount_points())
+        self.assertIn("/proc", mounts_below("/"))
 
 
 if __name__ == "__main__":

@@ -1,0 +1,70 @@
+"""What an import needs of a build that has ended, in one folder. `--keep-trace` keeps it, so that the record can be made again: elsewhere, by another version.
+
+The folder holds what strace and each make said; `before` and `after`, what the machine answered before the build and behind it (machine.py); and
+`facts.json`, how the build was called and how it ended.
+"""
+
+import argparse
+import json
+import shutil
+from dataclasses import dataclass
+from pathlib import Path
+from typing import Any, Dict, List, Sequence
+
+from record import machine
+from record.folder import Record
+from record.ninja.log import Kept
+from record.trace.names import Names
+
+OWN = ("bin", "wrapper", "outputs", "again", "*.start", "*.read", "stop.mk", "sifted.part")  # what the recorder put there to run the build; and copies, which are among the answers
+
+
+@dataclass
+class Facts:
+    """What an import needs, beside what the machine answers."""
+
+    spool: Path  # the folder in which strace and makes wrote
+    place: str  # its name while the build ran
+    real: str  # the make
+    names: Names  # the tree before the build
+    kept: Kept  # what of ninja was there before
+
+    def keep(self, record: Record, options: argparse.Namespace, before: machine.Answers, after: machine.Answers, folder: Path) -> None:
+        """Writes them, and what the machine answered."""
+        shutil.copytree(self.spool, folder, ignore=shutil.ignore_patterns(*OWN))
+        before.write(folder / "before")
+        after.write(folder / "after")
+        about = {"words": record.words, "folder": record.folder, "status": record.status, "seconds": record.seconds, "tools": record.tools,
+                 "place": self.place, "real": self.real, "tops": self.names.tops, "linked": options.linked, "warm": options.warm}
+        (folder / "facts.json").write_text(json.dumps(about, indent=1) + "\n", encoding="utf-8")
+
+
+def first_tree(tops: Sequence[str], linked: Sequence[str]) -> "tuple[Names, Kept]":
+    """The tree below some folders, and what of ninja is in it. `linked`: copies of files that have names elsewhere too."""
+    names = Names()
+    for top in tops:
+        names.walk(top)
+    for path in linked:
+        names.share(path)
+    return names, Kept.of(names)
+
+
+def begun(words: List[str], folder: str, status: int, seconds: float, tools: Dict[str, str]) -> Record:
+    """The record of a build that has ended, before anything is known of it."""
+    record = Record(words, folder, status, seconds, tools)
+    if status != 0:
+        record.holes.append("the build ended with status %d" % status + (": signal %d stopped it" % -status if status < 0 else ""))
+    return record
+
+
+def import_again(folder: Path, out: Path) -> Record:
+    """Makes the record of a build again, of what was kept of it; the machine is not asked. Not what of `--missing` and `--footprints` was in it."""
+    from record.importing import complete
+
+    about: Dict[str, Any] = json.loads((folder / "facts.json").read_text(encoding="utf-8"))
+    with machine.answering(machine.Answers.written(folder / "before")):
+        names, kept = first_tree(about["tops"], about["linked"])
+    record = begun(about["words"], about["folder"], about["status"], about["seconds"], about["tools"])
+    with machine.answering(machine.Answers.written(folder / "after")):
+        complete(record, Facts(folder, about["place"], about["real"], names, kept), out, argparse.Namespace(warm=about["warm"], footprints=False, missing=False))
+    return record
