@@ -1,0 +1,78 @@
+"""Golden traces: what the recorder kept of a build of a Debian package, and the record that came of it, each in an archive. `run` compares, `make` makes."""
+
+import difflib
+import filecmp
+import lzma
+import os
+import sys
+import tarfile
+from pathlib import Path
+from typing import List
+
+HERE = Path(__file__).resolve().parent
+TOP = HERE.parent.parent.parent
+FACTS, RECORD = ".facts.tar.xz", ".record.tar.xz"  # the ends of the names of archives
+SHOWN = 30  # so many lines of a difference
+SIGNS = 240  # so much of such a line, where it differs
+
+sys.path.insert(0, str(TOP))
+
+from record.facts import import_again  # noqa: E402
+from record.folder import rewrite  # noqa: E402
+from record.main import judge_record  # noqa: E402
+from record.report import read_json, report  # noqa: E402
+
+
+def pack(folder: Path, archive: Path) -> None:
+    """Puts what is in a folder into an archive, which depends on names and contents alone."""
+    with lzma.open(archive, "wb", preset=9) as file, tarfile.open(fileobj=file, mode="w", format=tarfile.PAX_FORMAT) as whole:
+        for path in sorted(path for path in folder.rglob("*") if path.is_file()):
+            entry = tarfile.TarInfo(str(path.relative_to(folder)))
+            entry.size, entry.mode = path.stat().st_size, 0o644
+            with open(path, "rb") as contents:
+                whole.addfile(entry, contents)
+
+
+def unpack(archive: Path, folder: Path) -> Path:
+    """The folder, with what is in an archive."""
+    folder.mkdir()
+    with lzma.open(archive, "rb") as file, tarfile.open(fileobj=file, mode="r|") as whole:
+        whole.extractall(folder)
+    return folder
+
+
+def record_of(facts: Path, out: Path, race: str) -> Path:
+    """Makes a record of what was kept, with its verdict beside it, as a person reads it."""
+    rewrite(out, import_again(facts, out))
+    status, judged = judge_record(out, race)
+    lines = report(read_json(out / "record.json"), judged, Path(".race"))
+    (out / "verdict").write_text("\n".join([*lines, "status %d" % status, ""]).replace("%s/" % TOP, ""), encoding="utf-8")
+    return out
+
+
+def files_of(folder: Path) -> List[str]:
+    """The names of all files below a folder."""
+    return sorted(str(path.relative_to(folder)) for path in folder.rglob("*") if path.is_file())
+
+
+def differences(expected: Path, found: Path) -> List[str]:
+    """What differs between two records, byte for byte: each file, with lines of the difference."""
+    lines = []
+    for name in sorted({*files_of(expected), *files_of(found)}):
+        pair = [expected / name, found / name]
+        if not all(path.exists() for path in pair):
+            lines.append("%s: %s" % (name, "is new" if pair[1].exists() else "is gone"))
+        elif not filecmp.cmp(*pair, shallow=False):
+            texts = [path.read_text(encoding="utf-8", errors="backslashreplace").split("\n") for path in pair]
+            lines += list(difflib.unified_diff(*texts, "expected/" + name, "found/" + name, n=0, lineterm=""))
+    return lines
+
+
+def shown(lines: List[str]) -> str:
+    """The first lines of a difference, from where each differs from the one beside it."""
+    found = []
+    for before, line, behind in zip(["", *lines], lines[:SHOWN], [*lines[1:], ""]):
+        other = behind if line.startswith("-") else before
+        at = max(0, len(os.path.commonprefix([line[1:], other[1:]])) - SIGNS // 3)
+        found.append(line[:1] + ".." * (at > 0) + line[1 + at:][:SIGNS])
+    return "\n".join(found + ["and %d lines more" % (len(lines) - SHOWN)] * (len(lines) > SHOWN))
