@@ -9,7 +9,7 @@ from pathlib import Path
 from confirm.schedules import Schedule
 from confirm.search import Finding
 from confirm.trial import how_ended, some
-from report.plain import counted, side_rows
+from report.plain import counted, remedy_lines
 
 SHOWN_FILES = 8
 
@@ -17,9 +17,8 @@ SHOWN_FILES = 8
 def heading(finding: Finding, of: int) -> Iterator[str]:
     """The race: its number, its file, and both recipes with their places."""
     race = finding.race.race
-    meaning = f"  ({race.meaning})" if race.meaning else ""
-    yield f"race {finding.race.number} of {of}: {race.shown}{meaning}"
-    yield from side_rows(race)
+    yield f"race {finding.race.number} of {of}: {race.about}"
+    yield from race.rows
     yield ""
 
 
@@ -65,7 +64,7 @@ def confirmed(finding: Finding, schedule: Schedule, record: Path, prepare: str |
     ready = ["--prepare", prepare] if prepare else []
     again = shlex.join([str(record), str(finding.race.number), "--schedule", str(finding.number), *ready, "--keep", "/tmp/kept"])
     yield f"  see it again: race-confirm {again}"
-    yield f"  fix: {finding.race.race.change}"
+    yield from remedy_lines(finding.race.race)
 
 
 def not_confirmed(finding: Finding) -> Iterator[str]:

@@ -1,13 +1,74 @@
-"""The fix of a race in the words of what wrote the build, where no person writes its makefile or manifest."""
+"""What ends a race: lines to write, in the words of what wrote the build, and advice in prose."""
 
+import os
 import re
-from typing import Any, Dict
+from dataclasses import dataclass
+from typing import Any, Dict, Iterable, List, Optional, Tuple
 
-from record.ninja.fix import fix_text
+from record.judge import Race, Verdict
+from record.kinds import FORGOTTEN, TEMPORARY, TWO, is_of_folder, kind_of, target
+from record.ninja.fix import by_cmake, by_meson, owner
+from record.rules import Lines, edited, logical, parts, rule_above
+from record.tasks import file_of
 
 # CMake's makefiles have a makefile for all targets, whose rules run a make for each.
 CMAKE_FILE = re.compile(r"(?:^|/)CMakeFiles/Makefile2$")
 CMAKE_TARGET = re.compile(r"(?:^|/)CMakeFiles/([^/]+)\.dir/all$")
+ONE_WRITER = "let one recipe alone write it; make asks whether it is there before that recipe has run"
+ESCAPED = re.compile(r"([ \t:#%])")
+OF_NINJA = re.compile(r"([ :$])")
+TOGETHER = 10  # so many targets stand in one line
+
+
+@dataclass(frozen=True)
+class Remedy:
+    """What ends a race. `rule`: a target and what it has to name, as a line of a makefile has them; `words`: other lines, in the words of CMake
+    or of who wrote the rule; `place`: the lines of a file that they take the place of. None where no line helps. `is_edge`: they say that the
+    second recipe waits for the first, which `race fix` checks. `advice`: what is better, or what to do where there is no line."""
+
+    rule: Optional[Tuple[str, str]] = None
+    words: Tuple[str, ...] = ()
+    place: Optional[Lines] = None
+    is_edge: bool = True
+    advice: str = ""
+
+    @property
+    def lines(self) -> Tuple[str, ...]:
+        """The lines to write, each as it has to stand."""
+        return ("%s: %s" % self.rule,) if self.rule else self.words
+
+    def note(self, folder: str) -> str:
+        """What the lines take the place of; nothing where they are new."""
+        if not self.place:
+            return ""
+        name, first, last = os.path.relpath(self.place.file, folder), self.place.first, self.place.last
+        return "in place of %s:%s" % (name, first if first == last else "%d-%d" % (first, last))
+
+
+def remedy(about: Dict[str, Any], race: Race) -> Remedy:
+    """What ends a race of a build."""
+    kind = kind_of(about, race)
+    if kind is TWO:
+        return as_one(about, race)
+    instead = without_line(about, race)
+    if instead:
+        return Remedy(is_edge=False, advice=instead)
+    own = "give each recipe a name of its own for this file, such as %s.$@" % os.path.basename(race.path)
+    advice = "" if kind is FORGOTTEN else own if kind is TEMPORARY and about.get("tool") != "ninja" else kind.fix.replace("`", "")
+    labels = about["labels"]
+    if about.get("tool") == "ninja":
+        return in_ninja(about, race, advice)
+    early, late = (cmake_target(labels.get(it, {})) for it in (race.first, race.second))
+    if early and late and early != late:
+        return Remedy(words=("add_dependencies(%s %s)" % (late, early),), advice=advice)
+    is_loose = about.get("tool") == "make" and (is_of_folder(race.path) or bool(labels.get(race.first, {}).get("order_only")))
+    needed = ("| " if is_loose else "") + in_makefile(target(about, race.first))
+    return in_colons(about, race, needed) or Remedy((in_makefile(target(about, race.second)), needed), advice=advice)
+
+
+def in_makefile(name: str) -> str:
+    """A name as a line of a makefile has it."""
+    return ESCAPED.sub(r"\\\1", name).replace("$", "$$")
 
 
 def cmake_target(found: Dict[str, Any]) -> str:
@@ -16,12 +77,71 @@ def cmake_target(found: Dict[str, Any]) -> str:
     return match.group(1) if match else ""
 
 
-def in_colons(labels: Dict[str, Any], first: str, second: str) -> str:
-    """The line of a rule with two colons that waits for `first`, with its place: a line with one colon would be an error of the makefile, and
-    one more rule with two would be another rule. Nothing where `second` is no such rule."""
-    early, late = labels.get(first, {}), labels.get(second, {})
-    place = "  (in that rule, at %s:%d)" % (late["file"], late.get("line", 0)) if late.get("file") else ""
-    return "%s:: %s%s" % (late.get("target") or second, early.get("target") or first, place) if late.get("colons") else ""
+def rule_of(about: Dict[str, Any], label: str) -> Optional[Lines]:
+    """The rule of a label, as it stands in its makefile now."""
+    found = about["labels"].get(label, {})
+    return rule_above(os.path.join(about.get("folder", ""), found["file"]), found.get("line", 0)) if found.get("file") else None
+
+
+def as_one(about: Dict[str, Any], race: Race) -> Remedy:
+    """One rule with two outputs, written so that make knows it: grouped from GNU make 4.3 on, else with an empty recipe for the others."""
+    rule, advice = rule_of(about, race.first), TWO.fix.replace("`", "")
+    names, needs, recipe = parts(rule) if rule else ([], "", "")
+    if not rule or len(names) < 2 and "$" not in names[0] or "%" in rule.text.partition(";")[0]:
+        return Remedy(is_edge=False, advice=advice)
+    if version_of(about.get("make", "")) >= (4, 3):
+        return Remedy(words=(edited(rule, colons="&:"),), place=rule, is_edge=False)
+    if any("$" in one for one in names):
+        return Remedy(is_edge=False, advice=advice)
+    empty = ("%s: %s ;" % (" ".join(names[1:]), names[0]),)
+    own = " ".join(filter(None, (names[0] + ":", needs, recipe)))
+    return Remedy(words=empty + (own,), place=rule, is_edge=False)
+
+
+def version_of(text: str) -> Tuple[int, ...]:
+    """A version as numbers."""
+    return tuple(int(part) for part in text.split(".") if part.isdigit())
+
+
+def in_colons(about: Dict[str, Any], race: Race, needed: str) -> Optional[Remedy]:
+    """The line of a rule with two colons that waits: a line with one colon would be an error of the makefile, and one more rule with two would be
+    another rule. Nothing where the second is no such rule."""
+    if not about["labels"].get(race.second, {}).get("colons"):
+        return None
+    rule = rule_of(about, race.second)
+    line = edited(rule, more=needed) if rule else "%s:: %s" % (in_makefile(target(about, race.second)), needed)
+    return Remedy(words=(line,), place=rule, advice="" if rule else "write it into that very rule")
+
+
+def in_ninja(about: Dict[str, Any], race: Race, advice: str) -> Remedy:
+    """The same for ninja, in the words of CMake, Meson or who wrote the manifest."""
+    early, late = owner(about["labels"], race.first), owner(about["labels"], race.second)
+    path = file_of(race.path) if race.path in about.get("meanings", {}) else race.path
+    if late[0] == "cmake" and late[1]:
+        words, more = by_cmake(early, late, path)
+        return Remedy(words=words, advice=more or advice)
+    if late[0] == "meson" and late[1]:
+        return Remedy(advice=by_meson(race.first, late[1]))
+    found = about["labels"].get(race.second, {})
+    statement = logical(os.path.join(about.get("folder", ""), found["file"]), found.get("line", 0), "$") if found.get("file") else None
+    if not statement or not statement.text.startswith("build "):
+        return Remedy(words=("build %s: .. || %s" % (race.second, race.first),), advice=advice)
+    text, bar, checks = statement.text.partition(" |@ ")
+    line = "%s%s %s" % (text, "" if " || " in text else " ||", OF_NINJA.sub(r"$\1", race.first)) + bar + checks
+    return Remedy(words=(line,), place=statement, advice=advice)
+
+
+def without_line(about: Dict[str, Any], race: Race) -> str:
+    """What to do where no line orders two tasks: make itself looks for a name when it first considers a target, or one is a later rule with two
+    colons. Nothing where a line does."""
+    if any(own_look(about, race.path, one) for one in (race.first, race.second)):
+        return ONE_WRITER
+    lookers = [target(about, one) for one in (race.first, race.second) if about["labels"].get(one, {}).get("kind") == "first"]
+    if lookers and race.path not in lookers:
+        name = file_of(race.path) if about.get("meanings", {}).get(race.path) else race.path
+        return ("name %s in a rule, and a library not as -lNAME; where a recipe asks for it by $(wildcard ..), let the shell list it (ls): "
+                "make looks for it when it first considers the target, and keeps what it found" % name)
+    return ONE_WRITER if lookers else later_rule(about["labels"], race.first)
 
 
 def later_rule(labels: Dict[str, Any], first: str) -> str:
@@ -30,10 +150,29 @@ def later_rule(labels: Dict[str, Any], first: str) -> str:
     return "write the rules of %s as one: what needs it is only sure to wait for the first of them" % early["target"] if early.get("colons", 0) > 1 else ""
 
 
-def in_project(about: Dict[str, Any], first: str, second: str, path: str) -> str:
-    """What to write so that `second` waits for `first`, by what is known of a build: for ninja always, for CMake's makefiles where both are
-    targets of CMake, and for a rule with two colons; else nothing, and the line of a makefile is the fix."""
-    if about.get("tool") == "ninja":
-        return fix_text(about["labels"], first, second, path)
-    early, late = (cmake_target(about["labels"].get(it, {})) for it in (first, second))
-    return "add_dependencies(%s %s)" % (late, early) if early and late and early != late else in_colons(about["labels"], first, second)
+def own_look(about: Dict[str, Any], path: str, label: str) -> bool:
+    """Whether make asks here if a target with a recipe is there, and then runs none. It asks before it waits for what the target needs."""
+    found = about["labels"].get(label, {})
+    runs = found.get("recipe", "").strip().lstrip("@+-").strip() not in ("", ":", "true")
+    return about.get("tool", "make") == "make" and found.get("kind") == "decision" and runs and path == found.get("target")
+
+
+def is_needed(verdict: Verdict, race: Race) -> bool:
+    """Whether the line of a race has to be written: not where those of others end it."""
+    return not verdict.is_fixed or "%s: %s" % (race.second, race.first) in verdict.fix
+
+
+def merged(remedies: Iterable[Remedy]) -> List[str]:
+    """The lines of some races, each once; targets that have to name the same stand in one line."""
+    targets: Dict[str, Dict[str, None]] = {}
+    found: Dict[str, List[str]] = {}
+    for one in remedies:
+        if one.rule:
+            targets.setdefault(one.rule[1], {})[one.rule[0]] = None
+            found.setdefault("\0" + one.rule[1], [])
+        for line in one.words:
+            found.setdefault(line, [line])
+    for needed, names in targets.items():
+        late = list(names)
+        found["\0" + needed] = ["%s: %s" % (" ".join(late[at:at + TOGETHER]), needed) for at in range(0, len(late), TOGETHER)]
+    return [line for lines in found.values() for line in lines]

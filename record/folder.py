@@ -94,8 +94,9 @@ def callers(builds: "List[Build]") -> Dict[int, Dict[str, str]]:
     return found
 
 
-def write_build(folder: Path, build: "Build", within: Optional[Dict[str, str]]) -> None:
-    """One round: its tasks, what its labels and names stand for, and the task `within` which it ran."""
+def write_build(folder: Path, build: "Build", within: Optional[Dict[str, str]], record: Record) -> None:
+    """One round: its tasks, what its labels and names stand for, and the task `within` which it ran. Who waits for a recipe that leaves no file
+    under its target's name does so behind `|`: make would run it again each time."""
     folder.mkdir(parents=True)
     labels = labels_of(build.tasks)
     root = build.folder
@@ -103,7 +104,9 @@ def write_build(folder: Path, build: "Build", within: Optional[Dict[str, str]]) 
     for at, (label, task) in enumerate(zip(labels, build.tasks)):
         place = {key: shown(value) if isinstance(value, str) else value for key, value in build.about(at).items()}
         lists = sorted(relative(root, path) for path in task.listed & task.reads)
-        about[label] = {"target": shown(task.node.name), "kind": task.kind, **place, **({"lists": lists} if lists else {})}
+        is_loose = task.kind == "recipe" and not os.path.isfile(os.path.join(root, task.node.name))
+        about[label] = {"target": shown(task.node.name), "kind": task.kind, **place, **({"lists": lists} if lists else {}),
+                        **({"order_only": True} if is_loose else {})}
     edges = 0
     with open(folder / "tasks", "w", encoding="utf-8", errors="backslashreplace") as file:
         for label, line in lines_of(build.tasks, root, labels):
@@ -111,12 +114,12 @@ def write_build(folder: Path, build: "Build", within: Optional[Dict[str, str]]) 
             about.setdefault(label, {"target": "", "kind": "group", "file": "", "line": 0, "recipe": ""})
             edges += len(json.loads(line)["after"])
     meanings = {relative(root, p): shown(m.replace(" %s/" % root.rstrip("/"), " ")) for p, m in build.meanings.items()}  # with names as the paths have them
-    askers = {relative(root, path): labels[at] for path, at in build.askers.items() if at >= 0}
+    askers = {relative(root, path): labels[at] if at >= 0 else "" for path, at in build.askers.items()}
     counts = {
         "considered": build.considered, "tasks": len(about), "edges": edges,
         "recipes": sum(1 for t in build.tasks if t.kind == "recipe"), "paths": sum(len(t.reads) + len(t.writes) for t in build.tasks),
     }
-    text = {"tool": build.tool, "folder": shown(root), "words": shown(build.words), "round": build.stage, "within": within,
+    text = {"tool": build.tool, "make": record.tools.get("make", ""), "folder": shown(root), "project": shown(record.folder), "top": shown(top_of(record.folder)), "words": shown(build.words), "round": build.stage, "within": within,
             "span": [build.make.life.born, build.make.life.died], "counts": counts, "labels": about, "meanings": meanings, "askers": askers}
     (folder / "build.json").write_text(json.dumps(text, indent=1, ensure_ascii=False) + "\n", encoding="utf-8")
 
@@ -130,7 +133,7 @@ def write_record(folder: Path, record: Record, builds: "List[Build]", assumed: "
     within = callers(builds)
     for number, build in enumerate(builds, 1):
         record.builds.append("%03d" % number)
-        write_build(folder / "builds" / ("%03d" % number), build, within.get(id(build.make.life)))
+        write_build(folder / "builds" / ("%03d" % number), build, within.get(id(build.make.life)), record)
     record.assumptions = [{"kind": a.kind, "count": a.count, "example": shown(a.example), "text": a.text()} for a in assumed.all()]
     rewrite(folder, record)
 

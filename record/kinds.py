@@ -2,26 +2,25 @@
 
 from __future__ import annotations
 
+import os
 import re
 from dataclasses import dataclass
+from typing import Any, Dict
+
+from record.judge import Race
 
 
 @dataclass(frozen=True)
 class Kind:
-    """A kind of race: its name in reports, what it usually is, and the fix."""
+    """A kind of race: its name in reports, what it usually is, and what to do about it."""
 
     name: str
     title: str
     fix: str
 
-    @property
-    def advice(self) -> str:
-        """What it is and what to do, for a race whose own line is shown: without the example of a line."""
-        title = self.title[0].upper() + self.title[1:]
-        return f"{title}." if self is FORGOTTEN else f"{title}: {self.fix}."
-
 
 FORGOTTEN = Kind("forgotten-prerequisite", "a prerequisite that was forgotten", "name it: `lex.o: words.h`")
+TWO = Kind("two-outputs", "one rule with two outputs, which make takes for two rules", "write it as `a b &: c` (GNU make 4.3), or as `a: c` with its recipe, and `b: a ;`")
 TEMPORARY = Kind("shared-temporary", "a temporary of a fixed name (`y.tab.c`)", "give each recipe a name of its own")
 LOG = Kind("shared-log", "a log to which both append", "give each recipe a log of its own, and let one recipe join them")
 OUTPUT = Kind("second-output", "a second output of a recipe", "let the reader need the target of the writer, such as a stamp file")
@@ -36,7 +35,7 @@ PRINTED = Kind("order-of-output", "the order of what a make prints into a file",
 WIDE = Kind("wide-footprint", "a footprint that is too wide: a tree where a few files were meant", "write down the single files")
 
 # WIDE is advice for footprints that are written by hand: nothing in a race shows it, so no race is given this kind.
-KINDS = (FORGOTTEN, TEMPORARY, LOG, OUTPUT, ARCHIVE, FOLDER, TIME, MACRO, PRINTED, WIDE)
+KINDS = (FORGOTTEN, TWO, TEMPORARY, LOG, OUTPUT, ARCHIVE, FOLDER, TIME, MACRO, PRINTED, WIDE)
 # Names that stand for something else than a file: an age, or that a folder was made.
 OF_AGE = re.compile(r"(?:^|/)@(?:time|age)(?:/|$)")
 OF_MACRO = re.compile(r"(?:^|/)@macro/")
@@ -44,20 +43,54 @@ OF_OUTPUT = re.compile(r"(?:^|/)@output(?:/|$)")
 OF_FOLDER = re.compile(r"(?:^|/)@(?:make|seen|gone|mode|links)(?:/|$)")
 
 
-def kind_of(path: str, targets: tuple[str, str], does: tuple[str, str]) -> Kind:
-    """The kind of a race on a path between recipes of these targets, of which one writes it."""
-    if OF_AGE.search(path):
+def is_of_folder(path: str) -> bool:
+    """Whether a path is about a folder, and not about its time."""
+    return bool(OF_FOLDER.search(path)) or path.endswith("/")
+
+
+def whole(about: Dict[str, Any], name: str) -> str:
+    """A name as a build spells it, whole: two spellings of one file are one."""
+    return os.path.normpath(os.path.join(about.get("folder", "/"), name))
+
+
+def target(about: Dict[str, Any], label: str) -> str:
+    """The target of a label."""
+    found: str = about["labels"].get(label, {}).get("target", "")
+    return found or label
+
+
+def targets(about: Dict[str, Any], race: Race) -> tuple[str, str]:
+    """The targets of the two, whole."""
+    return whole(about, target(about, race.first)), whole(about, target(about, race.second))
+
+
+def is_one_rule(about: Dict[str, Any], race: Race) -> bool:
+    """Whether the two have one recipe, which makes the target of both."""
+    first, second = (about["labels"].get(it, {}) for it in (race.first, race.second))
+    place = first.get("file") and all(first.get(it) == second.get(it) for it in ("file", "line"))
+    one, other = targets(about, race)
+    made = {other} if race.first_does == "writes" else set()
+    made |= {one} if race.second_does == "writes" else set()
+    return bool(place) and about.get("tool", "make") == "make" and one != other and whole(about, race.path) in made
+
+
+def kind_of(about: Dict[str, Any], race: Race) -> Kind:
+    """The kind of a race."""
+    is_writing = race.first_does == race.second_does == "writes"
+    if OF_AGE.search(race.path):
         return TIME
-    if OF_FOLDER.search(path) or path.endswith("/"):
+    if is_of_folder(race.path):
         return FOLDER
-    if OF_MACRO.search(path):
+    if OF_MACRO.search(race.path):
         return MACRO
-    if OF_OUTPUT.search(path):
+    if OF_OUTPUT.search(race.path):
         return PRINTED
-    if path.endswith(".a") and does == ("writes", "writes"):
+    if race.path.endswith(".a") and is_writing:
         return ARCHIVE
-    if path in targets:
+    if is_one_rule(about, race):
+        return TWO
+    if whole(about, race.path) in targets(about, race):
         return FORGOTTEN
-    if does == ("writes", "writes"):
-        return LOG if path.endswith(".log") else TEMPORARY
+    if is_writing:
+        return LOG if race.path.endswith(".log") else TEMPORARY
     return OUTPUT

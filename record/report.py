@@ -6,19 +6,20 @@ import sys
 import textwrap
 from dataclasses import dataclass, field
 from pathlib import Path
-from typing import Any, Dict, List, Tuple
+from typing import Any, Dict, List, Sequence, Tuple
 
-from record.fixes import in_project, later_rule
+from record.fixes import Remedy, is_needed, merged, remedy
 from record.judge import Race, Verdict, explained
+from record.kinds import kind_of, target, whole
 from record.ninja.fix import pool_text
 from record.pages import after_no_verdict
 from record.tasks import OWN_NAME, file_of, shown
 
-SHOWN_RACES, SHOWN_HOLES = 30, 20
+SHOWN_BLOCKS, SHOWN_LINES, SHOWN_FILES, SHOWN_HOLES = 10, 3, 3, 20
 SHOWN_SIGNS = 80  # of an example
 WORDS = 100  # signs of a call
 LISTS, AGES = "\0lists", "\0ages"  # what several paths have in common
-ONE_WRITER = "let one recipe alone write it; make asks whether it is there before that recipe has run"
+NOBODY = "(what runs behind this make)"  # asks for an age, and is no recipe of it
 
 
 @dataclass
@@ -47,9 +48,15 @@ def colours() -> Colours:
 
 
 def place(about: Dict[str, Any], label: str) -> str:
-    """`Makefile:26`, or nothing."""
+    """`Makefile:26`, from the folder of the recorded command; a dash where no place is known."""
     found = about["labels"].get(label, {})
-    return "%s:%d" % (found["file"], found["line"]) if found.get("file") else "-"
+    return "%s:%d" % (near(about, found["file"], about.get("project", about.get("folder", "/"))), found["line"]) if found.get("file") else "-"
+
+
+def near(about: Dict[str, Any], path: str, base: str) -> str:
+    """A path of a build from a folder on; whole where it is not in the project."""
+    name, top = whole(about, path), about.get("top", about.get("folder", "/"))
+    return os.path.relpath(name, base) if os.path.commonpath([name, top]) == top else name
 
 
 def verb(about: Dict[str, Any], label: str, does: str, path: str) -> str:
@@ -69,53 +76,50 @@ def lists(about: Dict[str, Any], label: str, path: str) -> bool:
     return path in about["labels"].get(label, {}).get("lists", ())
 
 
-def target(about: Dict[str, Any], label: str) -> str:
-    """The target of a label."""
-    return about["labels"].get(label, {}).get("target") or label
+def name_of(about: Dict[str, Any], path: str) -> str:
+    """A path as people know it: of one that stands for something else the file that it is about, and what is in the project as its makefile
+    spells it."""
+    name = file_of(path) if path in about.get("meanings", {}) else path
+    return near(about, name, about.get("folder", "/")) + "/" * name.endswith("/") if name.startswith("/") else name
 
 
-def without_line(about: Dict[str, Any], path: str, first: str, second: str) -> str:
-    """What to do where no line orders two tasks: make itself looks for a name when it first considers a target, or one is a later rule with two
-    colons. Nothing where a line does."""
-    if any(own_look(about, path, one) for one in (first, second)):
-        return ONE_WRITER
-    lookers = [target(about, one) for one in (first, second) if about["labels"].get(one, {}).get("kind") == "first"]
-    if lookers and path not in lookers:
-        name = file_of(path) if about["meanings"].get(path) else path
-        return ("name %s in a rule, and a library not as -lNAME; where a recipe asks for it by $(wildcard ..), let the shell list it (ls): "
-                "make looks for it when it first considers the target, and keeps what it found" % name)
-    return ONE_WRITER if lookers else later_rule(about["labels"], first)
-
-
-def own_look(about: Dict[str, Any], path: str, label: str) -> bool:
-    """Whether make asks here if a target with a recipe is there, and then runs none. It asks before it waits for what the target needs."""
-    found = about["labels"].get(label, {})
-    runs = found.get("recipe", "").strip().lstrip("@+-").strip() not in ("", ":", "true")
-    return about.get("tool", "make") == "make" and found.get("kind") == "decision" and runs and path == found.get("target")
-
-
-def race_text(about: Dict[str, Any], race: Race, fixes: List[str], is_fixed: bool) -> List[str]:
-    """The lines of one race."""
-    meaning = about["meanings"].get(race.path)
-    name = file_of(race.path) if meaning else race.path
-    lines = ["RACE  " + name + ("  (%s)" % meaning if meaning else "")]
-    rows = [(target(about, race.first), place(about, race.first), verb(about, race.first, race.first_does, race.path)),
-            (target(about, race.second), place(about, race.second), verb(about, race.second, race.second_does, race.path) + ", and nothing orders the two")]
+def rows(about: Dict[str, Any], race: Race) -> List[str]:
+    """The two recipes of a race with their places and what they do, and who asks where only their ages count, in columns."""
+    found = [(target(about, race.first), place(about, race.first), verb(about, race.first, race.first_does, race.path)),
+             (target(about, race.second), place(about, race.second), verb(about, race.second, race.second_does, race.path) + ", and nothing orders the two")]
     asker = about.get("askers", {}).get(race.path)
-    rows += [(target(about, asker), place(about, asker), "may ask for it")] if asker is not None else []
-    wide = [max(len(r[n]) for r in rows) for n in (0, 1)]
-    lines += ["  %s  %s  %s" % (r[0].ljust(wide[0]), r[1].ljust(wide[1]), r[2]) for r in rows]
-    own = race.path in (target(about, race.first), target(about, race.second))
-    if race.first_does == race.second_does == "writes" and not meaning and not own:
-        lines.append("  advice: give each recipe a name of its own for this file, such as %s.$@" % os.path.basename(name))
-    instead = without_line(about, race.path, race.first, race.second)
-    if instead:
-        return lines + ["  advice: " + instead]
-    fix = in_project(about, race.first, race.second, name) or "%s: %s" % (target(about, race.second), target(about, race.first))
+    found += [(target(about, asker) or NOBODY, place(about, asker), "may ask for it")] if asker is not None else []
+    wide = [max(len(row[at]) for row in found) for at in (0, 1)]
     pool = pool_text(about["labels"], race.first, race.second)
-    lines += ["  " + pool] if pool else []
-    lines.append("  fix: %s%s" % (fix, "          (checked: with all fixes the build is safe)" if is_fixed else ""))
-    return lines
+    return ["  %s  %s  %s" % (row[0].ljust(wide[0]), row[1].ljust(wide[1]), row[2]) for row in found] + (["  " + pool] if pool else [])
+
+
+def heading(about: Dict[str, Any], path: str) -> str:
+    """A path, and what it stands for if it is no file."""
+    meaning = about.get("meanings", {}).get(path)
+    return name_of(about, path) + ("  (%s)" % meaning if meaning else "")
+
+
+def remedy_text(about: Dict[str, Any], remedies: List[Remedy], is_fixed: bool) -> List[str]:
+    """What ends some races: advice, and the lines to write, with what was checked of them."""
+    lines = ["  advice: " + advice for advice in dict.fromkeys(one.advice for one in remedies if one.advice)]
+    words = merged(remedies)
+    lined = [one for one in remedies if one.lines]
+    ends = "checked: ends " + ("these races" if len(lined) > 1 else "this race")
+    checked = ends if is_fixed and all(one.is_edge for one in lined) else ""
+    for at, word in enumerate(words[:SHOWN_LINES]):
+        notes = ", ".join(filter(None, (lined[0].note(about.get("project", "/")), checked)))
+        lines.append("  fix: %s%s" % (word, "          (%s)" % notes if notes and at in (0, len(words) - 1) else ""))
+    return lines + (["  and %d more lines: race-report lists them" % (len(words) - SHOWN_LINES)] if len(words) > SHOWN_LINES else [])
+
+
+def race_text(about: Dict[str, Any], races: List[Race], verdict: Verdict) -> List[str]:
+    """The lines of some races that stand together: the first one, and what ends all of them."""
+    found = [(race, remedy(about, race)) for race in races]
+    remedies = [one for race, one in found if is_needed(verdict, race) or not one.is_edge]
+    ended = ["  the lines of other races end this one too"] if not remedies else []
+    more = [more_text(about, group_of(about, races[0]), races)] if len(races) > 1 else []
+    return ["RACE  " + heading(about, races[0].path), *rows(about, races[0]), *more, *ended, *remedy_text(about, remedies, verdict.is_fixed)]
 
 
 def short(words: str) -> str:
@@ -134,41 +138,73 @@ def in_order(count: int, word: str) -> str:
 
 
 def group_of(about: Dict[str, Any], race: Race) -> Tuple[str, str]:
-    """What stands together: races on one path by one writer, all that one task meets as it lists folders, and all ages for which one asks."""
+    """What stands together: races of one kind by one writer, all that one task meets as it lists folders, and all ages for which one asks."""
     lister = [one for one, does in ((race.first, race.first_does), (race.second, race.second_does)) if does != "writes" and lists(about, one, race.path)]
     if lister:
         return LISTS, lister[0]
     if race.path in about.get("askers", {}):
         return AGES, about["askers"][race.path]
-    return race.path, race.first if race.first_does == "writes" else race.second
+    return kind_of(about, race).name, race.first if race.first_does == "writes" else race.second
 
 
-def more_text(about: Dict[str, Any], group: Tuple[str, str], count: int) -> str:
+def more_text(about: Dict[str, Any], group: Tuple[str, str], races: List[Race]) -> str:
     """The line about the other races of a group."""
     kind, label = group
+    count = len(races) - 1
     if kind == LISTS:
         return "  and %d more on files in folders that %s lists: let it need what it lists, or write the names down" % (count, target(about, label))
     if kind == AGES:
-        return "  and %d more by ages that %s may compare" % (count, target(about, label))
-    return "  and %d more on this file by the same writer" % count
+        return "  and %d more by ages that %s may compare" % (count, target(about, label) or NOBODY)
+    files = list(dict.fromkeys(name_of(about, race.path) for race in races))
+    if len(files) == 1:
+        return "  and %d more on this file by the same writer" % count
+    others = "" if len(files) <= SHOWN_FILES + 1 else " and %d other files" % (len(files) - SHOWN_FILES - 1)
+    return "  and %d more of this kind by the same writer, also on %s%s" % (count, ", ".join(files[1:SHOWN_FILES + 1]), others)
 
 
-def races_text(judged: Judged, colour: Colours) -> Tuple[List[str], int, int]:
-    """All races of one round, in groups; the lines, the races shown, the files."""
+def groups_of(judged: Judged) -> List[List[Race]]:
+    """All races of one round, in groups."""
     groups: Dict[Tuple[str, str], List[Race]] = {}
     for race in judged.verdict.races:
         groups.setdefault(group_of(judged.about, race), []).append(race)
+    return list(groups.values())
+
+
+def races_text(judged: List[Judged], colour: Colours) -> List[str]:
+    """The races of all rounds: the first groups, and how many others there are."""
+    groups = [(one, group) for one in judged for group in groups_of(one)]
     lines: List[str] = []
-    is_fixed = judged.verdict.is_fixed and not any(without_line(judged.about, one.path, one.first, one.second) for one in judged.verdict.races)
-    for group, races in list(groups.items())[:SHOWN_RACES]:
-        text = race_text(judged.about, races[0], judged.verdict.fix, is_fixed)
-        lines += [colour.bad + text[0] + colour.end] + text[1:]
-        if len(races) > 1:
-            lines.append(more_text(judged.about, group, len(races) - 1))
-        lines.append("")
-    if len(groups) > SHOWN_RACES:
-        lines += ["%d more groups of races: race-report lists all races" % (len(groups) - SHOWN_RACES), ""]
-    return lines, len(judged.verdict.races), len({r.path for r in judged.verdict.races})
+    last = None
+    for one, group in groups[:SHOWN_BLOCKS]:
+        if len(judged) > 1 and one is not last:
+            lines.append("%s  in %s" % (short(("%s %s" % (one.about.get("tool", "make"), one.about["words"])).strip()), one.about["folder"]))
+        first, *others = race_text(one.about, group, one.verdict)
+        lines += [colour.bad + first + colour.end, *others, ""]
+        last = one
+    left = groups[SHOWN_BLOCKS:]
+    count = sum(len(group) for _, group in left)
+    return lines + ["%s in %s more: race-report lists all" % (plural(count, "race"), plural(len(left), "group")), ""] * bool(left)
+
+
+def summary(judged: List[Judged]) -> str:
+    """How many races there are, and whether all lines together end them."""
+    races = [(one, race) for one in judged for race in one.verdict.races]
+    files = len({(one.number, race.path) for one, race in races})
+    recipes = sum(one.about["counts"]["recipes"] for one in judged)
+    pairs = sum(one.verdict.pairs for one in judged) - len(races)
+    remedies = [remedy(one.about, race) for one, race in races]
+    is_whole = all(one.verdict.is_fixed and not one.verdict.refused for one in judged) and all(one.lines and one.is_edge for one in remedies)
+    return "%s on %s. %s, %s %s" % (plural(len(races), "race"), plural(files, "file"), plural(recipes, "recipe"), in_order(pairs, "other pair"), checked(remedies, is_whole))
+
+
+def checked(remedies: Sequence[Remedy], is_whole: bool) -> str:
+    """What is known of all lines together."""
+    without = sum(not one.lines for one in remedies)
+    if is_whole:
+        return "With %s the build is safe (checked)." % ("this line" if len(merged(remedies)) == 1 else "these lines")
+    if without:
+        return "No line ends %d of the races." % without if without < len(remedies) else "No line ends %s." % ("it" if without == 1 else "them")
+    return "Write the lines, and record again: they are not checked."
 
 
 def assumptions_text(record: Dict[str, Any], is_safe: bool) -> List[str]:
@@ -203,28 +239,18 @@ def no_verdict(record: Dict[str, Any], judged: List[Judged], out: Path) -> List[
 
 
 def report(record: Dict[str, Any], judged: List[Judged], out: Path) -> List[str]:
-    """The whole text of the record in a folder."""
+    """The whole text of the record in a folder: why there is no verdict, the races, and what was taken for granted."""
     colour = colours()
-    lines = warm_text(record, colour)
-    races = files = 0
-    for one in judged:
-        if one.verdict.races:
-            if len(judged) > 1:
-                lines.append("%s  in %s" % (short(("%s %s" % (one.about.get("tool", "make"), one.about["words"])).strip()), one.about["folder"]))
-            text, count, paths = races_text(one, colour)
-            lines += text
-            races, files = races + count, files + paths
-    lines += no_verdict(record, judged, out)
-    recipes = sum(j.about["counts"]["recipes"] for j in judged)
-    pairs = sum(j.verdict.pairs for j in judged)
-    is_safe = not races and not record["holes"] and not any(j.verdict.refused for j in judged)
-    if is_safe:
-        done = "  %s in %s; %s" % (plural(recipes, "recipe"), plural(len(judged), "build"), in_order(pairs, "pair"))
-        lines.append(colour.good + "SAFE" + colour.end + done)
-    elif races:
-        found = plural(races, "race") + " on " + plural(files, "file")
-        lines.append("%s. %s, %s" % (found, plural(recipes, "recipe"), in_order(pairs - races, "other pair")))
+    racing = [one for one in judged if one.verdict.races]
+    is_safe = not racing and not record["holes"] and not any(one.verdict.refused for one in judged)
+    lines = warm_text(record, colour) + no_verdict(record, judged, out)
     lines += ["HINT  " + hint for hint in record.get("hints", [])] + ["note: " + note for note in record.get("notes", [])]
+    lines += ([""] if lines and racing else []) + races_text(judged, colour)
+    if is_safe:
+        recipes, pairs = sum(one.about["counts"]["recipes"] for one in judged), sum(one.verdict.pairs for one in judged)
+        lines.append("%sSAFE%s  %s in %s; %s" % (colour.good, colour.end, plural(recipes, "recipe"), plural(len(judged), "build"), in_order(pairs, "pair")))
+    elif racing:
+        lines.append(summary(judged))
     return lines + assumptions_text(record, is_safe)
 
 

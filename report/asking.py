@@ -5,6 +5,7 @@ from __future__ import annotations
 from pathlib import Path
 
 from record import VERSION
+from record.fixes import merged
 from record.judge import explained
 from record.judge import judge as ask
 from record.missing.report import Question
@@ -28,17 +29,14 @@ def judge(folder: Path, program: Path) -> Report:
         for label, it in build.about["labels"].items():
             (report.ran if it.get("kind") == "recipe" else report.considered).add(build.name(it.get("target") or label))
         verdict = ask(str(program), folder / "builds" / number / "tasks", build.folder)
-        races = [build.race(it.path, (it.first, it.first_does), (it.second, it.second_does)) for it in verdict.races]
-        changes = {it.edge: "" if it.instead else it.change for it in races}
-        report.races += races
-        report.fixes += filter(None, (changes.get(it, it) for it in verdict.fix))
-        report.is_fixed &= verdict.is_fixed and not any(it.instead for it in races)
+        report.races += [build.race(it, verdict) for it in verdict.races]
+        report.is_fixed &= verdict.is_fixed
         report.holes += [f"build {number}: {explained(verdict.refused)}"] * bool(verdict.refused)
         report.builds += 1
         report.is_of_ninja &= build.about.get("tool") == "ninja"
         report.pairs += verdict.pairs
         report.recipes += build.about.get("counts", {}).get("recipes", 0)
-    report.fixes = [*dict.fromkeys(report.fixes or [it.change for it in report.races if not it.instead])]
+    report.fixes = merged(it.remedy for it in report.races if it.fix)
     report.considered |= report.ran
     report.missing = Question.of(folder, str(program)) if "missing" in record else None
     report.verdict = "none" if report.holes or not report.builds else "race" if report.races else "safe"

@@ -12,7 +12,8 @@ from pathlib import Path
 from typing import Any
 
 from record.folder import top_of
-from record.judge import RACE_LINE, explained, unshown
+from record.fixes import merged
+from record.judge import RACE_LINE, Race, Verdict, explained, unshown
 from record.pages import page
 from report.model import Assumption, BadRecord, Build, Report
 
@@ -107,7 +108,7 @@ def graph_of(order: str, given: Inputs) -> Build:
         about = labels.get(os.path.normpath(target))
         if about and (recipe or "line" not in about):
             about.update(file=os.path.abspath(given.makefile), line=line, recipe=recipe)
-    return Build("makefile", given.root, given.root, top_of(given.root), {"labels": labels, "counts": {}, "meanings": {}}, after)
+    return Build("makefile", given.root, top_of(given.root), {"tool": "posix", "folder": given.root, "project": given.root, "top": top_of(given.root), "labels": labels, "counts": {}, "meanings": {}}, after)
 
 
 def judge_makefile(given: Inputs, program: Path) -> Report:
@@ -119,27 +120,29 @@ def judge_makefile(given: Inputs, program: Path) -> Report:
     build = graph_of(order.stdout, given)
     report.ran = {build.name(it) for it, about in build.about["labels"].items() if about["kind"] != "plain"}
     report.considered = {build.name(it) for it in build.about["labels"]}
+    verdict = Verdict(listed.returncode)
     for line in listed.stdout.split("\n"):
         word, _, rest = line.partition(" ")
         if found := RACE_LINE.match(line):
-            path, first, does, second, also = map(unshown, found.groups())
-            report.races.append(build.race(path, (first, does), (second, also)))
+            verdict.races.append(Race(*map(unshown, found.groups())))
         elif word in ("pairs", "recipes"):
             setattr(report, word, int(rest))
-    is_whole = f"races {len(report.races)}" in listed.stdout.split("\n") and (listed.returncode == 1) == bool(report.races)
+    is_whole = f"races {len(verdict.races)}" in listed.stdout.split("\n") and (listed.returncode == 1) == bool(verdict.races)
     if not report.holes and not is_whole:
         report.holes = [f"{program} does not answer as race does: install race again, or name another by --race"]
-    fix(report, given, program)
+    lines = fixed(verdict, given, program) if verdict.races else []
+    report.races = [build.race(it, verdict) for it in verdict.races]
+    report.is_fixed, report.fixes = verdict.is_fixed, lines or merged(it.remedy for it in report.races)
     report.verdict = "none" if report.holes else "race" if report.races else "safe"
     return report
 
 
-def fix(report: Report, given: Inputs, program: Path) -> None:
-    """The lines that fix the makefile, as `race fix` checked them; else, also where `race` lacks that command, the line of each
-    race, unchecked."""
-    if not report.races:
-        return
-    fixed = run(program, given.words("fix"))
-    report.is_fixed = fixed.returncode == 0
-    lines = [it.partition(" #")[0].rstrip() for it in fixed.stdout.split("\n") if ": " in it and it[:1] != "#"]
-    report.fixes = [*dict.fromkeys(lines if report.is_fixed else (it.fix for it in report.races))]
+def fixed(verdict: Verdict, given: Inputs, program: Path) -> list[str]:
+    """The lines that fix the makefile, as `race fix` checked them; none where it has none, or `race` lacks that command. Where names are spelled
+    in another way, so that nobody knows whose line is which, each race has its own."""
+    done = run(program, given.words("fix"))
+    verdict.is_fixed = done.returncode == 0
+    lines = [it.partition(" #")[0].rstrip() for it in done.stdout.split("\n") if ": " in it and it[:1] != "#"] if verdict.is_fixed else []
+    edges = [f"{it.second}: {it.first}" for it in verdict.races]
+    verdict.fix = lines if {*lines} <= {*edges} else edges
+    return lines

@@ -13,7 +13,7 @@ from record.missing.report import Judged, Question
 from record.tasks import shown
 from record.kinds import KINDS
 from report.model import Race, Recipe, Report, Side
-from report.plain import summary
+from report.plain import asks, summary
 
 SCHEMA = "https://json.schemastore.org/sarif-2.1.0.json"
 
@@ -21,7 +21,12 @@ SCHEMA = "https://json.schemastore.org/sarif-2.1.0.json"
 def side(it: Side) -> dict[str, Any]:
     """One of the two recipes of a race as the schema has it."""
     recipe = it.recipe
-    return {"target": recipe.target, "name": recipe.name, "ran": not recipe.is_look, "does": it.does, "file": recipe.file, "line": recipe.line, "recipe": recipe.text}
+    return {**place(recipe), "name": recipe.name, "ran": not recipe.is_look, "does": it.does, "recipe": recipe.text}
+
+
+def place(recipe: Recipe) -> dict[str, Any]:
+    """A target, and where its rule stands."""
+    return {"target": recipe.target, "file": recipe.file, "line": recipe.line}
 
 
 def standing(fingerprint: str, report: Report) -> dict[str, Any]:
@@ -33,8 +38,9 @@ def race_object(race: Race, report: Report) -> dict[str, Any]:
     """A race as the schema has it; docs/REPORT.md says what each key means."""
     return {
         **standing(race.fingerprint, report), "kind": race.kind.name,
-        "build": race.build, "path": race.path, "meaning": race.meaning,
-        "first": side(race.first), "second": side(race.second), "fix": race.fix, "in_project": race.in_project, "advice": race.advice,
+        "build": race.build, "path": race.shown, "name": race.name, "meaning": race.meaning,
+        "first": side(race.first), "second": side(race.second), "asker": place(race.asker) if race.asker else None,
+        "fix": "\n".join(race.fix), "note": race.note, "advice": race.remedy.advice,
     }
 
 
@@ -93,13 +99,15 @@ def location(recipe: Recipe, message: str, number: int | None = None) -> dict[st
 def result(race: Race, report: Report) -> dict[str, Any]:
     """One race as a result, at the recipe that has to wait; both recipes are related places, the one that runs first in front."""
     late, early = race.second, race.first
-    message = (f"{late.recipe.target} {late.does} {race.path}, {early.recipe.target} {early.does} it, and nothing orders the two. "
-               f"Fix: {race.change}")
+    message = (f"{late.recipe.target} {late.does} {race.about}, {early.recipe.target} {early.does} it, and nothing orders the two.{asks(race)} "
+               f"{race.to_do}")
+    related = [*((it.recipe, f"{it.recipe.target} {it.does} {race.about}") for it in (early, late)),
+               *([(race.asker, f"{race.asker.target} may ask for it")] if race.asker else [])]
     return {
         "ruleId": race.kind.name, "ruleIndex": [it.name for it in KINDS].index(race.kind.name), "level": "error",
         "message": {"text": message},
-        "locations": [location(late.recipe, f"{late.recipe.target} {late.does} {race.path}")],
-        "relatedLocations": [location(it.recipe, f"{it.recipe.target} {it.does} {race.path}", at) for at, it in enumerate((early, late))],
+        "locations": [location(late.recipe, f"{late.recipe.target} {late.does} {race.about}")],
+        "relatedLocations": [location(recipe, text, at) for at, (recipe, text) in enumerate(related)],
         "partialFingerprints": {"race/v1": race.fingerprint},
         "baselineState": "unchanged" if race.fingerprint in (report.known or ()) else "new",
         **({"suppressions": [{"kind": "external", "justification": report.ignored[race.fingerprint]}]} if race.fingerprint in report.ignored else {}),
@@ -116,7 +124,7 @@ def as_sarif(report: Report) -> str:
     notes = [{"level": "error", "message": {"text": it}} for it in report.holes]
     run = {
         "tool": {"driver": {"name": "race", "rules": rules}},
-        "originalUriBaseIds": {"PROJECT": {"uri": "file://" + quote(os.fsencode(report.folder.rstrip("/") + "/"), safe="/")}},
+        "originalUriBaseIds": {"PROJECT": {"uri": "file://" + quote(os.fsencode(report.top.rstrip("/") + "/"), safe="/")}},
         "invocations": [{"executionSuccessful": report.verdict != "none", "toolExecutionNotifications": notes}],
         "results": [result(it, report) for it in report.races],
     }

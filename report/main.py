@@ -46,6 +46,7 @@ def parse(words: list[str] | None) -> argparse.Namespace:
     parser.add_argument("--format", choices=sorted(FORMS), default="text", help="the form (text)")
     parser.add_argument("-o", "--output", type=Path, metavar="FILE", help="write to FILE instead of standard output")
     parser.add_argument("--baseline", type=Path, metavar="FILE", help="a report in JSON: its races are known, and do not fail")
+    parser.add_argument("--all", action="store_true", help="give each race a block in the text: else the first ten groups")
     parser.add_argument("--race", metavar="PROGRAM", help="the program race (else $RACE, the checkout's, or the one on PATH)")
     parser.add_argument("-V", "--version", action="version", version=f"%(prog)s {RELEASE}", help="print the version")
     direct = parser.add_argument_group("a makefile without a record", "What `race check` takes; docs/FORMATS.md says what the files hold.")
@@ -90,6 +91,7 @@ def main(words: list[str] | None = None) -> int:
             if args.baseline:
                 hold_against(report, read_baseline(args.baseline))
             ignore(report)
+            report.shows_all = args.all
             shown, status = printable(FORMS[args.format](report)).encode("utf-8", "backslashreplace"), report.status()
         write(shown, args.output)
     except (BadRecord, NotWhole) as error:

@@ -13,12 +13,13 @@ from pathlib import Path
 from typing import Any
 
 from record.entry import reason
-from record.fixes import in_project
+from record.fixes import Remedy, is_needed, remedy
 from record.folder import name_from
+from record.judge import Race as Found
+from record.judge import Verdict
+from record.kinds import FORGOTTEN, Kind, kind_of
 from record.missing.report import Question
-from record.report import verb, without_line
-from record.tasks import file_of
-from record.kinds import Kind, kind_of
+from record.report import group_of, name_of, near, rows, verb
 
 # What a path ends with that stands for something else than a file, and for two tasks by their numbers.
 NUMBERS = re.compile(r"(/\d+)+$")
@@ -30,8 +31,8 @@ class BadRecord(Exception):
 
 @dataclass(frozen=True)
 class Recipe:
-    """A recipe: its label in the tasks, its target as it is spelled and by its name from the project's top on, the place of its rule from the
-    project's folder, its first line, and whether it is none: only what `make` itself looks at to decide about the target."""
+    """A recipe: its label in the tasks, its target as it is spelled and by its name from the project's top on, the place of its rule from there on,
+    its first line, and whether it is none: only what `make` itself looks at to decide about the target."""
 
     label: str
     target: str
@@ -60,22 +61,25 @@ class Side:
 
 @dataclass(frozen=True)
 class Race:
-    """Two recipes that nothing orders, the path on which they meet, and the line that orders them."""
+    """Two recipes that nothing orders, the path on which they meet, and what ends that. `rows` are both in words, and who asks where only ages
+    count; `is_needed`: the lines of other races do not end it; `is_fixed`: `race fix` found the build safe with all lines."""
 
     build: str
     path: str
-    name: str  # of the path, from the project's top on
+    sign: str  # what of it stays the same from build to build
+    shown: str  # the path as people know it: of one that stands for something else the file that it is about
+    name: str  # the same from the project's top on
     meaning: str
     first: Side
     second: Side
+    asker: Recipe | None
     kind: Kind
-    in_project: str = ""  # the fix in the words of what wrote the build: CMake, Meson, or build.ninja itself; nothing where it is the line of a makefile
-    instead: str = ""  # what to do where no line orders the two
-
-    @property
-    def shown(self) -> str:
-        """The path as people know it: of a path that stands for something else, the file that it is about."""
-        return file_of(self.path) if self.meaning else self.path
+    remedy: Remedy
+    rows: tuple[str, ...]
+    folder: str  # of the recorded command
+    group: tuple[str, str, str]  # its build, its kind and the writer: such races stand together
+    is_needed: bool
+    is_fixed: bool
 
     @property
     def before(self) -> tuple[str, ...]:
@@ -88,30 +92,32 @@ class Race:
         return tuple(dict.fromkeys(self.first.needed_by + self.second.needed_by))
 
     @property
-    def fix(self) -> str:
-        """The line that orders the two as the serial build did: with all such lines `race fix` found the build safe. Nothing where none does."""
-        return "" if self.instead else f"{self.second.recipe.target}: {self.first.recipe.target}"
+    def fix(self) -> tuple[str, ...]:
+        """The lines to write; none where no line ends the race, or those of other races do."""
+        return self.remedy.lines if self.is_needed or not self.remedy.is_edge else ()
 
     @property
-    def edge(self) -> str:
-        """The fix as `race fix` names it, by the labels of the tasks."""
-        return f"{self.second.recipe.label}: {self.first.recipe.label}"
+    def note(self) -> str:
+        """What the lines take the place of, and whether they were checked."""
+        checked = "checked: ends this race" if self.is_fixed and self.remedy.is_edge else ""
+        return ", ".join(filter(None, (self.remedy.note(self.folder), checked)))
 
     @property
-    def advice(self) -> str:
-        """What it usually is, and what to do."""
-        return self.instead or self.kind.fix
+    def about(self) -> str:
+        """The path, and what it stands for if it is no file."""
+        return self.shown + (f" ({self.meaning})" if self.meaning else "")
 
     @property
-    def change(self) -> str:
-        """What to do: in the words of what wrote the build, where no person did, else a line of the makefile, or what is done instead."""
-        return self.instead or self.in_project or self.fix
+    def to_do(self) -> str:
+        """What ends it, in one text: the lines, and advice."""
+        fix = [f"Fix: {'; '.join(self.fix)}"] if self.fix else []
+        ended = ["The lines of other races end this one too."] if self.remedy.lines and not self.fix else []
+        return " ".join([*fix, *ended, *([f"Advice: {self.remedy.advice}."] if self.remedy.advice else [])])
 
     @property
     def fingerprint(self) -> str:
         """What stays the same where lines move and where the project does: the path, without numbers of tasks, and the two targets."""
-        path = NUMBERS.sub("", self.name) if self.meaning else self.name
-        parts = (path, *sorted((self.first.recipe.name, self.second.recipe.name)))
+        parts = (self.sign, *sorted((self.first.recipe.name, self.second.recipe.name)))
         return hashlib.sha256("\0".join(parts).encode(errors="surrogateescape")).hexdigest()[:32]
 
 
@@ -159,19 +165,21 @@ class Report:
     gone: list[Gone] = field(default_factory=list)  # what the baseline has alone
     ignored: dict[str, str] = field(default_factory=dict)  # by fingerprint: why race-ignore hides it
     unmet: list[str] = field(default_factory=list)  # entries of race-ignore that are about nothing
+    shows_all: bool = False  # each race has a block of its own in the text
     is_direct: bool = False  # of a makefile, without a record
     is_of_ninja: bool = False  # no make ran in it
     missing: Question | None = None  # of a record with --missing: what recipes read and make does not know of
 
     @property
     def is_checked(self) -> bool:
-        """Whether the build was found safe with the fixes; never where the record has a hole."""
-        return bool(self.races) and self.is_fixed and self.verdict != "none"
+        """Whether the build was found safe with all lines; never where the record has a hole, or a line is no edge that was checked."""
+        are_edges = all(it.remedy.lines and it.remedy.is_edge for it in self.races)
+        return bool(self.races) and self.is_fixed and are_edges and self.verdict != "none"
 
     def items(self) -> Iterator[Item]:
         """All races and missing inputs."""
         for race in self.races:
-            yield race.fingerprint, NUMBERS.sub("", race.name), (race.first.recipe.name, race.second.recipe.name)
+            yield race.fingerprint, race.name, (race.first.recipe.name, race.second.recipe.name)
         for judged, it in self.missing.all() if self.missing else ():
             yield judged.fingerprint(it), judged.from_top(it.path), (judged.from_top(judged.target(it.reader)), judged.from_top(judged.target(it.writer)))
 
@@ -226,7 +234,6 @@ class Build:
 
     number: str
     folder: str
-    project: str
     top: str
     about: dict[str, Any]
     after: dict[str, list[str]]
@@ -242,13 +249,9 @@ class Build:
         return name_from(self.top, os.path.normpath(os.path.join(self.folder, path)))
 
     def recipe(self, label: str) -> Recipe:
-        """What a label stands for; its place is relative to the project's folder if it is below it."""
+        """What a label stands for; its place counts from the project's top on."""
         found = self.about["labels"].get(label, {})
-        file = found.get("file", "")
-        if file:
-            path = os.path.normpath(os.path.join(self.folder, file))
-            below = os.path.relpath(path, self.project)
-            file = path if below.startswith("..") else below
+        file = near(self.about, found["file"], self.top) if found.get("file") else ""
         is_look = found.get("kind") in ("decision", "look", "first")
         spelled = found.get("target") or label
         return Recipe(label, spelled, self.name(spelled), file, found.get("line", 0), found.get("recipe", "").strip(), is_look)
@@ -258,19 +261,23 @@ class Build:
         made = (it for it in labels if self.about["labels"].get(it, {}).get("kind") not in ("look", "first"))
         return tuple(dict.fromkeys(self.recipe(it).target for it in made))
 
-    def race(self, path: str, first: tuple[str, str], second: tuple[str, str]) -> Race:
-        """A race between two labels, each with what it does to the path."""
-        targets = (self.recipe(first[0]).target, self.recipe(second[0]).target)
+    def race(self, found: Found, verdict: Verdict) -> Race:
+        """A race that `race` found."""
+        targets = (self.recipe(found.first).target, self.recipe(found.second).target)
+        sides = ((found.first, found.first_does), (found.second, found.second_does))
 
         def others(labels: list[str]) -> tuple[str, ...]:
             return tuple(it for it in self.targets(labels) if it not in targets)
 
-        early, late = (Side(self.recipe(it), does, others(self.after.get(it, [])), others(self.users.get(it, [])), verb(self.about, it, does, path))
-                       for it, does in (first, second))
-        kind = kind_of(path, targets, (first[1], second[1]))
-        change = in_project(self.about, first[0], second[0], path)
-        instead = without_line({"meanings": {}, **self.about}, path, first[0], second[0])
-        return Race(self.number, path, self.name(path), self.about.get("meanings", {}).get(path, ""), early, late, kind, change, instead)
+        early, late = (Side(self.recipe(it), does, others(self.after.get(it, [])), others(self.users.get(it, [])), verb(self.about, it, does, found.path))
+                       for it, does in sides)
+        asker, meaning = (self.about.get(it, {}).get(found.path, "") for it in ("askers", "meanings"))
+        sign = self.name(NUMBERS.sub("", found.path) if meaning else found.path)
+        shown = name_of(self.about, found.path)
+        return Race(self.number, found.path, sign, shown, self.name(shown), meaning, early, late,
+                    self.recipe(asker) if asker else None, kind_of(self.about, found), remedy(self.about, found), tuple(rows(self.about, found)), self.about.get("project", self.folder),
+                    (self.number, *group_of(self.about, found)),
+                    is_needed(verdict, found), verdict.is_fixed)
 
 
 def read_build(folder: Path, number: str, project: str, top: str) -> Build:
@@ -286,4 +293,4 @@ def read_build(folder: Path, number: str, project: str, top: str) -> Build:
         raise BadRecord(f"{reason(error)}; if the record is broken, record again") from error
     except (ValueError, KeyError, TypeError) as error:
         raise BadRecord(f"{folder / 'tasks'} cannot be read ({error}): record again") from error
-    return Build(number, about.get("folder", project), project, top, about, after)
+    return Build(number, about.get("folder", project), top, {"project": project, "top": top, **about}, after)

@@ -9,7 +9,6 @@ from pathlib import PurePath
 from record.missing.report import missing_text
 from record.report import Colours
 from record.tasks import shown
-from record.kinds import FORGOTTEN
 from report.model import Race, Report
 from report.pictures import graph, schedule
 from report.plain import HEADLINES, counted, summary
@@ -68,18 +67,21 @@ def figures(race: Race) -> str:
 
 def sides(race: Race) -> str:
     """Both recipes as a table. Its parts say what they are, since a narrow screen shows them as blocks."""
-    rows = "".join(f'<tr role="row"><th role="rowheader" scope="row">{escape(it.recipe.target)}</th>'
-                   f'<td role="cell">{escape(it.recipe.place or "no place known")}</td><td role="cell">{it.verb}</td></tr>'
-                   for it in (race.first, race.second))
+    cells = [(it.recipe, it.verb) for it in (race.first, race.second)] + ([(race.asker, "may ask for it")] if race.asker else [])
+    rows = "".join(f'<tr role="row"><th role="rowheader" scope="row">{escape(it.target)}</th>'
+                   f'<td role="cell">{escape(it.place or "no place known")}</td><td role="cell">{verb}</td></tr>'
+                   for it, verb in cells)
     return f'<table role="table" aria-label="The two recipes">{rows}</table>'
 
 
 def to_do(race: Race, known: str) -> str:
-    """What it is, and the line that fixes it, or what to do where no line does."""
-    if race.instead:
-        return f'<p class="kind">{code(race.instead)}{known}</p>'
-    order = "Add this line:" if race.kind is FORGOTTEN else "Or put the two in order:"
-    return f'<p class="kind">{code(race.kind.advice)}{known}</p><p class="kind">{order}</p><pre>{escape(race.change)}</pre>'
+    """What it is, what is better than a line, and the lines that fix it."""
+    advice = f" Advice: {escape(race.remedy.advice)}." if race.remedy.advice else ""
+    what = f'<p class="kind">{code(race.kind.title[0].upper() + race.kind.title[1:])}.{advice}{known}</p>'
+    if not race.fix:
+        return what + ('<p class="kind">The lines of other races end this one too.</p>' if race.remedy.lines else "")
+    note = f" ({escape(race.note)})" if race.note else ""
+    return what + f'<p class="kind">Write{note}:</p><pre>{escape(chr(10).join(race.fix))}</pre>'
 
 
 def card(race: Race, number: int, report: Report, is_drawn: bool) -> str:
@@ -151,7 +153,7 @@ def fixes(report: Report) -> str:
     if not report.fixes:
         return ""
     safe = "With these lines the build is safe: <code>race fix</code> checked it."
-    checked = safe if report.is_checked else "These lines were not checked."
+    checked = safe if report.is_checked else "These lines were not checked together."
     where = "CMakeLists.txt, meson.build or build.ninja, whichever you write" if report.is_of_ninja else "the makefile"
     return (f"<h2>All fixes</h2><p>{checked} Add them to {where}.</p>"
             '<pre class="all" tabindex="0" role="region" aria-label="All lines that fix the build">'

@@ -14,6 +14,7 @@ MISSING = {
     "missing": "{0} reads {1}, and is not made again when it changes", "late": "{0} reads {1}, and who writes that need not come first",
     "shared": "{0} writes {1}, and so does a recipe that need not run then", "present": "{0} was there before the build",
 }
+SHOWN_BLOCKS, SHOWN_NUMBERS = 10, 20
 LEVELS = {"new": "error", "known": "warning", "ignored": "notice"}
 HEADLINES = {"safe": "SAFE", "race": "RACE", "none": "NO VERDICT"}
 
@@ -36,12 +37,20 @@ def summary(report: Report) -> str:
     return f"{counted(len(report.races), 'race')} on {counted(files, 'file')}. {recipes}."
 
 
-def side_rows(race: Race) -> Iterator[str]:
-    """Both recipes of a race with their places and what they do, in columns."""
-    sides = (race.first.recipe, race.second.recipe)
-    wide = [max(len(text) for text in column) for column in zip(*((it.target, it.place or "-") for it in sides))]
-    for recipe, verb in zip(sides, (race.first.verb, f"{race.second.verb}, and nothing orders the two")):
-        yield f"  {recipe.target:{wide[0]}}  {recipe.place or '-':{wide[1]}}  {verb}"
+def blocks(report: Report) -> Iterator[str]:
+    """The new races in groups of one kind by one writer: the first groups, and how many others there are."""
+    groups: dict[object, list[int]] = {}
+    for at, race in enumerate(report.races, 1):
+        if report.state(race.fingerprint) == "new":
+            groups.setdefault(at if report.shows_all else race.group, []).append(at)
+    shown = [*groups.values()][: len(groups) if report.shows_all else SHOWN_BLOCKS]
+    for numbers in shown:
+        yield from race_lines(report.races[numbers[0] - 1], numbers[0], report)
+        yield from [f"  and {counted(len(numbers) - 1, 'race')} of this kind by the same writer: {', '.join(map(str, numbers[1:SHOWN_NUMBERS]))}"
+                    + (" .." if len(numbers) > SHOWN_NUMBERS else "")] * (len(numbers) > 1)
+        yield ""
+    left = [*groups.values()][len(shown):]
+    yield from [f"{counted(sum(map(len, left)), 'race')} in {counted(len(left), 'group')} more: --all shows each", ""] if left else []
 
 
 def race_line(race: Race, number: int, report: Report) -> str:
@@ -60,25 +69,34 @@ def standing_lines(report: Report) -> Iterator[str]:
 
 
 def race_lines(race: Race, number: int, report: Report) -> Iterator[str]:
-    """One race: its number, the path, both recipes with their places, and the line that orders them."""
-    yield f"RACE {number}  {race.shown}{f'  ({race.meaning})' if race.meaning else ''}"
-    yield from side_rows(race)
-    yield from [] if race.instead else [f"  {race.kind.advice}"]
-    yield f"  fix: {race.change}"
-    yield ""
+    """One race: its number, the path, its kind, both recipes with their places, and what ends it."""
+    yield f"RACE {number}  {race.about}  {race.kind.name}"
+    yield from race.rows
+    yield from remedy_lines(race)
+
+
+def remedy_lines(race: Race) -> Iterator[str]:
+    """What ends a race: advice, and the lines to write with what was checked of them."""
+    yield from [f"  advice: {race.remedy.advice}"] if race.remedy.advice else []
+    yield from ["  the lines of other races end this one too"] if race.remedy.lines and not race.fix else []
+    for at, line in enumerate(race.fix, 1):
+        yield f"  fix: {line}" + (f"          ({race.note})" if race.note and at == len(race.fix) else "")
+
+
+def holes(report: Report) -> Iterator[str]:
+    """Why there is no verdict, and what to try."""
+    what_to_do = [] if report.is_direct else [after_no_verdict()]
+    yield from ["Why there is no verdict:", *(f"  - {it}" for it in report.holes), *what_to_do, ""] if report.holes else []
+    yield from [*(f"HINT  {it}" for it in report.hints), ""] if report.hints else []
 
 
 def text(report: Report) -> str:
-    """The whole report, the verdict first."""
+    """The whole report: the verdict first, and why there is none."""
     lines = [f"{HEADLINES[report.verdict]}  {summary(report)}", ""]
-    lines += [line for at, race in enumerate(report.races, 1) if report.state(race.fingerprint) == "new" for line in race_lines(race, at, report)]
-    lines += standing_lines(report)
+    lines += [*holes(report), *blocks(report), *standing_lines(report)]
     if report.fixes:
-        checked = "with these lines the build is safe (checked)" if report.is_checked else "not checked"
+        checked = "with these lines the build is safe (checked)" if report.is_checked else "not checked together"
         lines += [f"All fixes, {checked}:", *(f"    {it}" for it in report.fixes), ""]
-    what_to_do = [] if report.is_direct else [after_no_verdict()]
-    lines += ["Why there is no verdict:", *(f"  - {it}" for it in report.holes), *what_to_do, ""] if report.holes else []
-    lines += [*(f"HINT  {it}" for it in report.hints), ""] if report.hints else []
     if report.assumptions:
         lines.append("safe, if:" if report.verdict == "safe" else "Assumed:")
     for it in report.assumptions:
@@ -113,13 +131,18 @@ def missing_annotations(report: Report) -> list[str]:
     return lines + [annotation("error", "race: no verdict on missing inputs", it) for it in (report.missing.holes() if report.missing else ())]
 
 
+def asks(race: Race) -> str:
+    """Who asks for the ages of which a race is."""
+    return f" {race.asker.target} may ask for it: {race.asker.place or 'no place known'}." if race.asker else ""
+
+
 def github(report: Report) -> str:
     """An annotation for each race, at the recipe that has to wait; a warning for one that is known."""
     lines = []
     for race in report.races:
         late, early = race.second.recipe, race.first.recipe
-        message = (f"{late.target} and {early.target} both use {race.shown}, one of them writes it, and nothing orders the two. "
-                   f"{early.target}: {early.place or 'no place known'}.\nFix: {race.change}")
+        message = (f"{late.target} and {early.target} both use {race.about}, one of them writes it, and nothing orders the two. "
+                   f"{early.target}: {early.place or 'no place known'}.{asks(race)}\n{race.to_do}")
         level = LEVELS[report.state(race.fingerprint)]
         lines.append(annotation(level, f"race on {race.shown}", message, late.file, late.line))
     lines += missing_annotations(report)

@@ -7,11 +7,12 @@ from dataclasses import dataclass
 from pathlib import Path
 from typing import Any, Dict, Iterator, List, Tuple
 
-from record.judge import explained
 from record.folder import name_from
+from record.judge import explained
+from record.kinds import target
 from record.missing.inputs import Answer, Found, judge_missing
 from record.pages import after_no_verdict
-from record.report import Colours, listed, place, plural, read_json, target
+from record.report import Colours, listed, near, place, plural, read_json
 from record.tasks import shown
 
 SHOWN_FILES, SHOWN_TARGETS = 40, 5
@@ -26,14 +27,7 @@ class Judged:
     number: str
     about: Dict[str, Any]
     answer: Answer
-    project: str  # the folder that was recorded
     top: str  # of the project
-
-    def in_project(self, path: str) -> str:
-        """A path from the folder that was recorded; whole where it is not below it."""
-        whole = os.path.normpath(os.path.join(self.about["folder"], path))
-        below = os.path.relpath(whole, self.project)
-        return whole if below.startswith("..") else below
 
     def from_top(self, path: str) -> str:
         """A path or a target from the project's top on."""
@@ -42,7 +36,7 @@ class Judged:
     def rule(self, label: str) -> Tuple[str, int]:
         """The makefile and the line of a recipe."""
         found = self.about["labels"].get(label, {})
-        return (self.in_project(found["file"]), found["line"]) if found.get("file") else ("", 0)
+        return (near(self.about, found["file"], self.top), found["line"]) if found.get("file") else ("", 0)
 
     def target(self, label: str) -> str:
         """The target of a task."""
@@ -85,7 +79,7 @@ class Question:
         judged = []
         for number in record["builds"]:
             about = read_json(out / "builds" / number / "build.json")
-            judged.append(Judged(number, about, judge_missing(race, out / "builds" / number, about["folder"]), shown(record["folder"]), record.get("top", shown(record["folder"]))))
+            judged.append(Judged(number, about, judge_missing(race, out / "builds" / number, about["folder"]), record.get("top", shown(record["folder"]))))
         return Question(record, judged, out)
 
     def holes(self) -> List[str]:

@@ -59,21 +59,27 @@ def owner_of(edge: Edge, manifest: Manifest) -> Dict[str, str]:
     return {"by": by, "target": target, **({"user": user} if user else {})}
 
 
-def fix_text(labels: Dict[str, Any], first: str, second: str, path: str) -> str:
-    """What to write so that `second` waits for `first`. A target that only uses a file may need the target that would wait for it."""
-    early, late = owner(labels, first), owner(labels, second)
-    if late[0] == "cmake" and late[1]:
-        if early[1] and early[1] != late[1]:
-            return "add_dependencies(%s %s)" % (late[1], early[1])
-        if not early[1] and early[2] not in ("", late[1]):
-            return "add_custom_target(NAME DEPENDS %s), add_dependencies(%s NAME) and add_dependencies(%s NAME)" % (path, late[1], early[2])
-        return "target_sources(%s PRIVATE %s), with %s among the outputs of the command that writes it" % (late[1], path, path)
-    if late[0] == "meson" and late[1]:
-        return "in meson.build, put the target that makes %s into the sources of '%s'" % (first, late[1])
-    return "build %s: .. || %s" % (second, first)
+Owner = Tuple[str, str, str]  # generator, target and user of a statement
 
 
-def owner(labels: Dict[str, Any], label: str) -> Tuple[str, str, str]:
+def by_cmake(early: Owner, late: Owner, path: str) -> Tuple[Tuple[str, ...], str]:
+    """The lines of CMakeLists.txt by which a target waits for another statement, which writes a path, and advice beside them. A target that only
+    uses the file may need the target that would wait for it."""
+    if early[1] and early[1] != late[1]:
+        return ("add_dependencies(%s %s)" % (late[1], early[1]),), ""
+    if not early[1] and early[2] not in ("", late[1]):
+        name = "make_" + re.sub(r"\W", "_", path.rpartition("/")[2])
+        waits = tuple("add_dependencies(%s %s)" % (one, name) for one in (late[1], early[2]))
+        return ("add_custom_target(%s DEPENDS %s)" % (name, path), *waits), ""
+    return ("target_sources(%s PRIVATE %s)" % (late[1], path),), "name %s among the outputs of the command that writes it" % path
+
+
+def by_meson(first: str, target: str) -> str:
+    """What to write into meson.build so that a target waits for a statement: no line alone does it."""
+    return "in meson.build, put the target that makes %s into the sources of '%s'" % (first, target)
+
+
+def owner(labels: Dict[str, Any], label: str) -> Owner:
     """Generator, target and user of a label."""
     found = labels.get(label, {}).get("owner", {})
     return found.get("by", ""), found.get("target", ""), found.get("user", "")

@@ -135,7 +135,7 @@ PROJECT_GUARDS: List[Guard] = [
     Guard("Python: texts in words", "tools/python.py", "way_of(life)[0] and folder == life.folder or", "", "test_python.Python.test_text_in_its_words"),
     Guard("Python: modules in words", "tools/python.py", "way_of(life)[0] and folder == life.folder or", "text and folder == life.folder or", "test_python.Python.test_module_by_its_name", FALSE_RACE),
     Guard("Python: modules that its words name", "tools/python.py", "(module + \".py\", module + \"/__main__.py\")", "\".py\"", "test_python.Python.test_module_by_its_name", YES),
-    Guard("fixes: CMake's makefiles in the words of CMake", "fixes.py", "if early and late and early != late else", "if False else", "test_again.Fixes.test_makefiles_of_cmake"),
+    Guard("fixes: CMake's makefiles in the words of CMake", "fixes.py", "    if early and late and early != late:\n", "    if False:\n", "test_again.Fixes.test_makefiles_of_cmake"),
     Guard("fixes: not other makefiles", "fixes.py", 'if CMAKE_FILE.search(found.get("file", "")) else None', "", "test_again.Fixes.test_makefiles_of_cmake"),
     Guard("fixes: a target of CMake that was made for the file", "ninja/fix.py", 'next(iter(cmake_users(edge, manifest, 1)), "")', 'next(iter(cmake_users(edge, manifest, 2)), "")', "test_again.Fixes.test_cmake_with_a_user"),
     Guard("find: how deep another one goes", "tools/findwords.py", "        self.depth = value if word == \"-maxdepth\" else self.depth\n", "        self.depth = \"1\" if \"-maxdepth 1\" in \" \".join(self.words) else \"\"\n", "test_findwords.Words.test_names"),

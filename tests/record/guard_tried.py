@@ -29,7 +29,7 @@ TRIED_GUARDS: List[Guard] = [
     Guard("tried: lists of folders are said", "report.py", 'return "lists its folder"', 'return "reads it"', tried("list_of_a_folder"), "lists its folder"),
     Guard("tried: who asks for ages", "make/ages.py", "    builder.build.askers.setdefault(name, at)\n", "", tried("ages_for_which_a_recipe_asks"), "may ask for it"),
     Guard("tried: ages for which one asks stand together", "report.py", 'if race.path in about.get("askers", {}):', "if False:", tried("ages_of_several_files"), "by ages that c"),
-    Guard("tried: ages for which no task asks", "folder.py", "for path, at in build.askers.items() if at >= 0}", "for path, at in build.askers.items()}", "test_afterwards.Makefiles.test_test_of_a_script", "may ask for it"),
+    Guard("tried: ages for which no task asks", "folder.py", 'labels[at] if at >= 0 else ""', "labels[at]", "test_afterwards.Makefiles.test_test_of_a_script", UNSAID),
     Guard("tried: lists of folders stand together", "report.py", "    if lister:\n        return LISTS, lister[0]\n", "", tried("list_of_a_folder_with_several_files"), "folders that s lists"),
     Guard("tried: lists of folders stand together by who lists", "report.py", "        return LISTS, lister[0]\n", '        return LISTS, ""\n', tried("lists_by_two_recipes"), "  s  Makefile:3  lists its folder"),
     Guard("tried: lists of folders, and a read that is met later", "make/graph.py", "        self.listed.discard(path)\n", "", tried("list_of_a_folder_behind_a_read"), "lists its folder"),

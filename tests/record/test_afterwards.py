@@ -36,7 +36,7 @@ AFTERWARDS: Dict[str, Small] = {
     "test_in_the_same_recipe_ordered": Small("safe", OUTER % "if test y -nt x; then touch log; fi", {"1.mk": ROW}),
     "test_in_a_later_recipe": Small("race", TWO % "if test y -nt x; then touch log; fi", {"1.mk": FIRST}, says=" is newer"),
     "tests_of_two_recipes": Small("safe", "all: r1 r2 r3\nr2: r1 ; if test x -nt k; then touch log; fi\nr3: r2 ; if test y -nt k; then touch log; fi\nr1: ; $(MAKE) -f 1.mk && touch r1\n", {"1.mk": FIRST, "k": ""}),
-    "test_of_a_script": Small("race", FIRST, says=" is newer", lacks="may ask for it"),
+    "test_of_a_script": Small("race", FIRST, says="  (what runs behind this make)  -           may ask for it"),
     "test_of_a_script_before": Small("safe", FIRST, {"k": ""}),
     "look_of_an_interpreter": Small("safe", TWO % "python3 look.py", {"1.mk": FIRST, **PYTHON}, says=ASSUMED),
     "look_of_an_interpreter_ordered": Small("safe", TWO % "python3 look.py", {"1.mk": ROW, **PYTHON}, lacks=ASSUMED),

@@ -6,9 +6,10 @@ import unittest
 from typing import Dict
 
 import support
-from record.fixes import in_project
 from record.ninja.again import by_name, folders_of, source_of, tops_of, undo, with_jobs
-from record.ninja.fix import fix_text, owner_of, pool_text
+from record.fixes import remedy
+from record.judge import Race
+from record.ninja.fix import owner_of, pool_text
 from record.ninja.log import Kept
 from record.ninja.log import Missing, ends, new_outputs, read_missing
 from record.ninja.manifest import Manifest, read_manifest
@@ -127,7 +128,8 @@ class Fixes(unittest.TestCase):
     def fix(self, text: str, first: str, second: str) -> str:
         manifest = manifest_of(text)
         labels = {edge.label: {"owner": owner_of(edge, manifest)} for edge in manifest.edges}
-        return fix_text(labels, first, second, first)
+        found = remedy({"tool": "ninja", "labels": labels}, Race(first, first, "writes", second, "reads"))
+        return "\n".join(found.lines) or found.advice
 
     def test_cmake(self) -> None:
         self.assertEqual("add_dependencies(my_prog header)", self.fix(self.CMAKE, "gen.h", "CMakeFiles/my_prog.dir/src/a.c.o"))
@@ -138,15 +140,15 @@ class Fixes(unittest.TestCase):
         labels = {it: {"target": it, "file": "CMakeFiles/Makefile2"} for it in ("CMakeFiles/core.dir/all", "sub/CMakeFiles/my-app.dir/all", "CMakeFiles/app.dir/clean")}
         core, app, clean = labels
         about = {"tool": "make", "labels": {**labels, "app.o": {"target": "CMakeFiles/app.dir/all", "file": "Makefile"}}}
-        self.assertEqual("add_dependencies(my-app core)", in_project(about, core, app, "gen.h"))
-        self.assertEqual([""] * 4, [in_project(about, core, it, "gen.h") for it in (core, clean, "app.o", "nothing")])
+        lines = [remedy(about, Race("gen.h", core, "writes", it, "reads")).lines[0] for it in (app, clean, "app.o", "nothing")]
+        self.assertEqual(["add_dependencies(my-app core)", "%s: %s" % (clean, core), "CMakeFiles/app.dir/all: " + core, "nothing: " + core], lines)
 
     def test_cmake_with_a_user(self) -> None:
         used = self.CMAKE + "build cmake_object_order_depends_target_user: phony gen.h lone.h\nbuild CMakeFiles/other.dir/b.c.o: CC b.c || cmake_object_order_depends_target_user\n"
         before = used.replace("build CMakeFiles/header", "build cmake_object_order_depends_target_first: phony gen.h\nbuild CMakeFiles/header")
         for text in (used, before):
             self.assertEqual("add_dependencies(my_prog header)", self.fix(text, "gen.h", "my_prog"))
-        self.assertEqual("add_custom_target(NAME DEPENDS lone.h), add_dependencies(my_prog NAME) and add_dependencies(user NAME)", self.fix(used, "lone.h", "my_prog"))
+        self.assertEqual("add_custom_target(make_lone_h DEPENDS lone.h)\nadd_dependencies(my_prog make_lone_h)\nadd_dependencies(user make_lone_h)", self.fix(used, "lone.h", "my_prog"))
 
     def test_meson(self) -> None:
         text = "rule REGENERATE_BUILD\n  command = meson\nrule c\n  command = cc\nbuild liblate.so.1.p/a.c.o: c a.c\nbuild gen.h: c g\n"

@@ -83,7 +83,7 @@ class Answers(unittest.TestCase):
     def test_text(self) -> None:
         labels = {name: {"target": name, "kind": "recipe", "file": "m", "line": at} for at, name in enumerate("abc", 1)}
         found = [Found("missing", "/p/h", "a"), Found("late", "t", "a", "c"), Found("shared", "u", "a", "c", "a"), Found("shared", "u", "b", "c", "b")]
-        judged = Judged("001", {"folder": "/p/s", "labels": labels, "words": "", "meanings": {}}, Answer(found), "/p", "/p")
+        judged = Judged("001", {"folder": "/p/s", "labels": labels, "words": "", "meanings": {}}, Answer(found), "/p")
         self.assertEqual([
             "MISSING  ../h", "  a  m:1  reads it, and is not made again", "  add: a: ../h", "",
             "LATE  t", "  a  m:1  reads it", "  c  m:3  writes it, and need not come first", "",

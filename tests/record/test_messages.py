@@ -66,13 +66,14 @@ class NoVerdict(unittest.TestCase):
         both = report(written(HOLES[:1]), [refused("refused F22 WritesTarget")], Path("/r"))
         self.assertEqual(("NO VERDICT  the record has holes:", True, "  - hole 0"), (both[0], "F22" in both[1], both[2]))
 
-    def test_no_fix_is_checked_beside_a_look_that_no_line_orders(self) -> None:
+    def test_the_build_is_not_safe_beside_a_look_that_no_line_orders(self) -> None:
         labels = {"a": {"target": "a"}, "b": {"target": "b"}, "b@first": {"target": "b", "kind": "first"}}
         about = {**ABOUT, "labels": labels, "meanings": {}}
         races = [Race("f", "a", "writes", "b", "reads"), Race("g", "a", "writes", "b@first", "reads")]
-        for count, checked in ((1, 1), (2, 0)):
-            lines = report(written([]), [Judged("001", about, Verdict(1, races[:count], count))], Path("/r"))
-            self.assertEqual(checked, sum("(checked: " in line for line in lines))
+        for count, says in ((1, "With this line the build is safe (checked)."), (2, "No line ends 1 of the races.")):
+            lines = report(written([]), [Judged("001", about, Verdict(1, races[:count], count, ["b: a"]))], Path("/r"))
+            self.assertIn("  fix: b: a          (checked: ends this race)", lines)
+            self.assertTrue(any(line.endswith(says) for line in lines), lines)
         self.assertIn("  advice: name g in a rule, and a library not as -lNAME; where a recipe asks for it by $(wildcard ..), let the shell list it (ls): "
                       "make looks for it when it first considers the target, and keeps what it found", lines)
 

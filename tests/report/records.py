@@ -30,7 +30,13 @@ def write(record: Path, tasks: list, places: dict, holes: tuple = (), meanings: 
     return record
 
 
-def labelled(record: Path, label: str, **about: str) -> None:
+def changed(record: Path, **about: object) -> None:
+    """Says something else of the build of a record."""
+    path = record / "builds" / "001" / "build.json"
+    path.write_text(json.dumps({**json.loads(path.read_text(encoding="utf-8")), **about}), encoding="utf-8")
+
+
+def labelled(record: Path, label: str, **about: object) -> None:
     """Says something else of a label of a record."""
     path = record / "builds" / "001" / "build.json"
     found = json.loads(path.read_text(encoding="utf-8"))
@@ -74,8 +80,9 @@ def kinds(folder: Path) -> Path:
         task("set", (), (), ("Makefile/@macro/X",)), task("ask", (), ("Makefile/@macro/X",)),
         task("say", (), (), ("Makefile/@output",)), task("tell", (), (), ("Makefile/@output",)),
         task("gen%.h", (), (), ("gen%.h",)), task("with'quote.o", (), ("gen%.h",), ()),
+        task("a.h", (), (), ("a.h", "b.h")), task("b.h", (), (), ("b.h",)),
     ]
-    places = {it["task"]: ("sub dir/Makefile", at + 1) for at, it in enumerate(tasks) if at % 5}
+    places = {it["task"]: ("sub dir/Makefile", at + 1) for at, it in enumerate(tasks) if at % 5} | dict.fromkeys(("a.h", "b.h"), ("Makefile", 3))
     return write(folder, tasks, places, meanings={
         "t/@age/1": "which of t and its source is newer", "Makefile/@macro/X": "the macro X of make", "Makefile/@output": "the order of what make prints"})
 

@@ -37,7 +37,7 @@ class Standing(Reporting):
 
     def test_new(self) -> None:
         status, text = self.shown(records.header(self.room / "r"), "text", "--baseline", self.baseline(records.header(self.room / "s", is_fixed=True)))
-        self.assertEqual((1, True, True), (status, "\nRACE 1  build/keywords.h\n" in text, "\n1 new, 0 known, 0 fixed, 0 not seen\n" in text), text)
+        self.assertEqual((1, True, True), (status, "\nRACE 1  build/keywords.h  forgotten" in text, "\n1 new, 0 known, 0 fixed, 0 not seen\n" in text), text)
 
     def test_fixed(self) -> None:
         baseline, safe = self.baseline(records.header(self.room / "r")), records.header(self.room / "s", is_fixed=True)
