@@ -6,7 +6,7 @@ from dataclasses import dataclass
 from typing import Any, Dict, Iterable, List, Optional, Tuple
 
 from record.judge import Race, Verdict
-from record.kinds import FORGOTTEN, TEMPORARY, TWO, is_of_folder, kind_of, target
+from record.kinds import FORGOTTEN, OUTPUT, TEMPORARY, TWO, Kind, is_of_folder, kind_of, target
 from record.ninja.fix import by_cmake, by_meson, owner
 from record.rules import Lines, edited, logical, parts, rule_above
 from record.tasks import file_of
@@ -53,9 +53,7 @@ def remedy(about: Dict[str, Any], race: Race) -> Remedy:
     instead = without_line(about, race)
     if instead:
         return Remedy(is_edge=False, advice=instead)
-    own = "give each recipe a name of its own for this file, such as %s.$@" % os.path.basename(race.path)
-    advice = "" if kind is FORGOTTEN else own if kind is TEMPORARY and about.get("tool") != "ninja" else kind.fix.replace("`", "")
-    labels = about["labels"]
+    advice, labels = better(about, race, kind), about["labels"]
     if about.get("tool") == "ninja":
         return in_ninja(about, race, advice)
     early, late = (cmake_target(labels.get(it, {})) for it in (race.first, race.second))
@@ -64,6 +62,18 @@ def remedy(about: Dict[str, Any], race: Race) -> Remedy:
     is_loose = about.get("tool") == "make" and (is_of_folder(race.path) or bool(labels.get(race.first, {}).get("order_only")))
     needed = ("| " if is_loose else "") + in_makefile(target(about, race.first))
     return in_colons(about, race, needed) or Remedy((in_makefile(target(about, race.second)), needed), advice=advice)
+
+
+def better(about: Dict[str, Any], race: Race, kind: Kind) -> str:
+    """What is better than to put the two in the order of the serial build; nothing where that is what was forgotten."""
+    if kind is TEMPORARY and about.get("tool") != "ninja":
+        return "give each recipe a name of its own for this file, such as %s.$@" % os.path.basename(race.path)
+    if kind not in (FORGOTTEN, OUTPUT):
+        return kind.fix.replace("`", "")
+    if race.second_does != "writes" or race.first_does != "reads" or about.get("tool") == "ninja":
+        return ""
+    early, late = target(about, race.first), target(about, race.second)
+    return "with one job %s comes first, and sees none of %s; if it is to see it, write %s: %s instead" % (early, late, in_makefile(early), in_makefile(late))
 
 
 def in_makefile(name: str) -> str:

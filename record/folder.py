@@ -13,6 +13,7 @@ from typing import TYPE_CHECKING, Any, Dict, Iterator, List, Optional
 
 from record import VERSION
 from record.entry import reason
+from record.places import Places
 from record.tasks import labels_of, lines_of, relative, shown
 
 if TYPE_CHECKING:
@@ -101,12 +102,16 @@ def write_build(folder: Path, build: "Build", within: Optional[Dict[str, str]], 
     labels = labels_of(build.tasks)
     root = build.folder
     about: Dict[str, Any] = {}
+    read = [*build.make.words.read, build.make.words.included] if build.tool == "make" else []
+    places = Places(root, list(dict.fromkeys(name for names in read for name in names)))
     for at, (label, task) in enumerate(zip(labels, build.tasks)):
-        place = {key: shown(value) if isinstance(value, str) else value for key, value in build.about(at).items()}
+        own = build.about(at)
+        edited = places.of(task.node.name, own)
+        place = {key: shown(value) if isinstance(value, str) else value for key, value in own.items()}
         lists = sorted(relative(root, path) for path in task.listed & task.reads)
         is_loose = task.kind == "recipe" and not os.path.isfile(os.path.join(root, task.node.name))
         about[label] = {"target": shown(task.node.name), "kind": task.kind, **place, **({"lists": lists} if lists else {}),
-                        **({"order_only": True} if is_loose else {})}
+                        **({"order_only": True} if is_loose else {}), **({"place": [shown(edited[0]), edited[1]]} if edited else {})}
     edges = 0
     with open(folder / "tasks", "w", encoding="utf-8", errors="backslashreplace") as file:
         for label, line in lines_of(build.tasks, root, labels):

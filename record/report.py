@@ -49,8 +49,15 @@ def colours() -> Colours:
 
 def place(about: Dict[str, Any], label: str) -> str:
     """`Makefile:26`, from the folder of the recorded command; a dash where no place is known."""
+    file, line = spot(about, label)
+    return "%s:%d" % (near(about, file, about.get("project", about.get("folder", "/"))), line) if file else "-"
+
+
+def spot(about: Dict[str, Any], label: str) -> Tuple[str, int]:
+    """The file and the line that a person edits; nothing where no place is known."""
     found = about["labels"].get(label, {})
-    return "%s:%d" % (near(about, found["file"], about.get("project", about.get("folder", "/"))), found["line"]) if found.get("file") else "-"
+    file, line = found.get("place") or (found.get("file", ""), found.get("line", 0))
+    return file, line
 
 
 def near(about: Dict[str, Any], path: str, base: str) -> str:
@@ -109,7 +116,7 @@ def remedy_text(about: Dict[str, Any], remedies: List[Remedy], is_fixed: bool) -
     checked = ends if is_fixed and all(one.is_edge for one in lined) else ""
     for at, word in enumerate(words[:SHOWN_LINES]):
         notes = ", ".join(filter(None, (lined[0].note(about.get("project", "/")), checked)))
-        lines.append("  fix: %s%s" % (word, "          (%s)" % notes if notes and at in (0, len(words) - 1) else ""))
+        lines.append("  fix: %s%s" % (word, "          (%s)" % notes if notes and at == min(len(words), SHOWN_LINES) - 1 else ""))
     return lines + (["  and %d more lines: race-report lists them" % (len(words) - SHOWN_LINES)] if len(words) > SHOWN_LINES else [])
 
 

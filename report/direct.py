@@ -108,7 +108,8 @@ def graph_of(order: str, given: Inputs) -> Build:
         about = labels.get(os.path.normpath(target))
         if about and (recipe or "line" not in about):
             about.update(file=os.path.abspath(given.makefile), line=line, recipe=recipe)
-    return Build("makefile", given.root, top_of(given.root), {"tool": "posix", "folder": given.root, "project": given.root, "top": top_of(given.root), "labels": labels, "counts": {}, "meanings": {}}, after)
+    return Build("makefile", given.root, top_of(given.root), {"tool": "posix", "folder": given.root, "project": given.root, "top": top_of(given.root), "labels": labels, "counts": {}, "meanings": {}}, after,
+                 first=(os.path.relpath(given.makefile, top_of(given.root)), 1))
 
 
 def judge_makefile(given: Inputs, program: Path) -> Report:

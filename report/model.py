@@ -19,7 +19,7 @@ from record.judge import Race as Found
 from record.judge import Verdict
 from record.kinds import FORGOTTEN, Kind, kind_of
 from record.missing.report import Question
-from record.report import group_of, name_of, near, rows, verb
+from record.report import group_of, name_of, near, rows, spot, verb
 
 # What a path ends with that stands for something else than a file, and for two tasks by their numbers.
 NUMBERS = re.compile(r"(/\d+)+$")
@@ -238,8 +238,11 @@ class Build:
     about: dict[str, Any]
     after: dict[str, list[str]]
     users: dict[str, list[str]] = field(default_factory=dict)
+    first: tuple[str, int] = ("", 0)  # where a recipe stands whose place is not known
 
     def __post_init__(self) -> None:
+        files = [spot(self.about, label)[0] for label in self.about["labels"]]
+        self.first = next(((near(self.about, it, self.top), 1) for it in files if it), self.first)
         for label, after in self.after.items():
             for it in after:
                 self.users.setdefault(it, []).append(label)
@@ -251,10 +254,11 @@ class Build:
     def recipe(self, label: str) -> Recipe:
         """What a label stands for; its place counts from the project's top on."""
         found = self.about["labels"].get(label, {})
-        file = near(self.about, found["file"], self.top) if found.get("file") else ""
+        file, line = spot(self.about, label)
+        file, line = (near(self.about, file, self.top), line) if file else self.first
         is_look = found.get("kind") in ("decision", "look", "first")
         spelled = found.get("target") or label
-        return Recipe(label, spelled, self.name(spelled), file, found.get("line", 0), found.get("recipe", "").strip(), is_look)
+        return Recipe(label, spelled, self.name(spelled), file, line, found.get("recipe", "").strip(), is_look)
 
     def targets(self, labels: list[str]) -> tuple[str, ...]:
         """The targets of some labels, each once. Where make only looks at a target, before it runs the recipe, the target is not made yet."""

@@ -12,7 +12,7 @@ from record.judge import explained
 from record.kinds import target
 from record.missing.inputs import Answer, Found, judge_missing
 from record.pages import after_no_verdict
-from record.report import Colours, listed, near, place, plural, read_json
+from record.report import Colours, listed, near, place, plural, read_json, spot
 from record.tasks import shown
 
 SHOWN_FILES, SHOWN_TARGETS = 40, 5
@@ -35,8 +35,8 @@ class Judged:
 
     def rule(self, label: str) -> Tuple[str, int]:
         """The makefile and the line of a recipe."""
-        found = self.about["labels"].get(label, {})
-        return (near(self.about, found["file"], self.top), found["line"]) if found.get("file") else ("", 0)
+        file, line = spot(self.about, label)
+        return (near(self.about, file, self.top), line) if file else ("", 0)
 
     def target(self, label: str) -> str:
         """The target of a task."""
