@@ -1,0 +1,112 @@
+"""Programs in ELF, as far as a make needs that: whether it shows its names to a library, and a copy that loads one more library."""
+
+import struct
+from dataclasses import dataclass
+from typing import Dict, List, Sequence, Tuple
+
+LOAD, DYNAMIC, NOTE, PROPERTY = 1, 2, 4, 0x6474E553  # kinds of segments
+END, NEEDED, STRINGS, SIZE = 0, 1, 5, 10  # tags of the dynamic section
+READ_WRITE = 6
+PAGE = 1 << 16  # a size that each kind of machine takes
+
+
+class NotElf(Exception):
+    """A file is no program in ELF that loads libraries, or has no room for one more segment."""
+
+
+@dataclass
+class Segment:
+    """One program header."""
+
+    kind: int
+    flags: int
+    offset: int
+    address: int
+    physical: int
+    size: int
+    memory: int
+    align: int
+
+
+class Program:
+    """A program in ELF that loads libraries."""
+
+    def __init__(self, data: bytes) -> None:
+        if data[:4] != b"\x7fELF" or data[4] not in (1, 2) or data[5] not in (1, 2):
+            raise NotElf("it is no program in ELF")
+        self.data, self.is_long, order = data, data[4] == 2, "<" if data[5] == 1 else ">"
+        self.word = order + ("qQ" if self.is_long else "iI")
+        self.header = order + ("IIQQQQQQ" if self.is_long else "IIIIIIII")
+        self.table, = struct.unpack_from(order + ("Q" if self.is_long else "I"), data, 32 if self.is_long else 28)
+        self.step, self.count = struct.unpack_from(order + "HH", data, 54 if self.is_long else 42)
+        self.segments = [self.segment(at) for at in range(self.count)]
+        self.dynamic = self.read_dynamic()
+
+    def segment(self, at: int) -> Segment:
+        """One program header; flags stand in another place where words are short."""
+        found = struct.unpack_from(self.header, self.data, self.table + at * self.step)
+        if self.is_long:
+            return Segment(*found)
+        kind, offset, address, physical, size, memory, flags, align = found
+        return Segment(kind, flags, offset, address, physical, size, memory, align)
+
+    def packed(self, one: Segment) -> bytes:
+        """The same as bytes."""
+        if self.is_long:
+            return struct.pack(self.header, one.kind, one.flags, one.offset, one.address, one.physical, one.size, one.memory, one.align)
+        return struct.pack(self.header, one.kind, one.offset, one.address, one.physical, one.size, one.memory, one.flags, one.align)
+
+    def read_dynamic(self) -> List[Tuple[int, int]]:
+        """The dynamic section: tags and values, without its end."""
+        found = [one for one in self.segments if one.kind == DYNAMIC]
+        if not found:
+            raise NotElf("it loads no libraries: it is linked statically")
+        size = struct.calcsize(self.word)
+        pairs: List[Tuple[int, int]] = []
+        for at in range(found[0].offset, found[0].offset + found[0].size, size):
+            tag, value = struct.unpack_from(self.word, self.data, at)
+            if tag == END:
+                break
+            pairs.append((tag, value))
+        return pairs
+
+    def strings(self) -> bytes:
+        """The names that it shows, or asks of libraries, each behind a zero byte."""
+        known: Dict[int, int] = dict(self.dynamic)
+        try:
+            address, size = known[STRINGS], known[SIZE]
+            at = next(one.offset + address - one.address for one in self.segments if one.kind == LOAD and one.address <= address < one.address + one.size)
+        except (KeyError, StopIteration):
+            raise NotElf("its names cannot be found") from None
+        return self.data[at:at + size]
+
+    def shows(self, names: Sequence[str]) -> bool:
+        """Whether it shows all these names; one may stand at the end of a longer one."""
+        strings = self.strings()
+        return all(name.encode() + b"\0" in strings for name in names)
+
+    def with_library(self, path: str) -> bytes:
+        """A copy that loads a library, by its whole path, in front of all others. It has one more segment behind the others, with another
+        dynamic section and another table of names; the place for it in the list of segments was that of a note, which nothing runs by."""
+        strings = self.strings()
+        spare = next((at for at, one in enumerate(self.segments) if one.kind == NOTE), None)
+        spare = next((at for at, one in enumerate(self.segments) if one.kind == PROPERTY), None) if spare is None else spare
+        if spare is None:
+            raise NotElf("it has no room for one more segment")
+        loads = [one for one in self.segments if one.kind == LOAD]
+        offset = -(-len(self.data) // PAGE) * PAGE
+        address = -(-max(one.address + one.memory for one in loads) // PAGE) * PAGE
+        names = strings + path.encode() + b"\0"
+        names += b"\0" * (-len(names) % 16)
+        changed = {STRINGS: address, SIZE: len(names)}
+        pairs = [(NEEDED, len(strings)), *((tag, changed.get(tag, value)) for tag, value in self.dynamic), (END, 0)]
+        section = b"".join(struct.pack(self.word, *pair) for pair in pairs)
+        size = len(names) + len(section)
+        left = [one for at, one in enumerate(self.segments) if at != spare]
+        left = [Segment(DYNAMIC, one.flags, offset + len(names), address + len(names), address + len(names), len(section), len(section), one.align)
+                if one.kind == DYNAMIC else one for one in left]
+        last = max(at for at, one in enumerate(left) if one.kind == LOAD) + 1
+        left.insert(last, Segment(LOAD, READ_WRITE, offset, address, address, size, size, PAGE))
+        table = b"".join(map(self.packed, left))
+        data = self.data[:self.table] + table + self.data[self.table + len(table):]
+        return data + b"\0" * (offset - len(data)) + names + section

@@ -1,0 +1,121 @@
+"""The files in which each make says what it does (watch.c): how it was called, where its output leads, and its own lines behind that."""
+
+import os
+import re
+import stat
+from dataclasses import dataclass, field
+from pathlib import Path
+from typing import Dict, Iterable, Iterator, List, NamedTuple, Set, TextIO, Tuple
+
+ESCAPED = re.compile(r"\\([n\\])")
+HEAD = ("MAKE", "ARG", "ENV", "CWD", "OUT", "ASKS", "SAYS")
+PRINTS = ("db_level", "print_data_base_flag")  # flags of a make that prints its own words, and runs recipes all the same
+OWN_OUTPUTS = "recorder.out"  # where the output of the recorder itself leads
+NAME = re.compile(r"(\d+)\.(\d+)\.make$")
+
+
+class Output(NamedTuple):
+    """Where a stream leads: `f` a file, `p` a pipe or a socket, `-` a device or nowhere; the file itself, and its path."""
+
+    kind: str = "-"
+    device: int = 0
+    number: int = 0
+    path: str = ""
+
+
+@dataclass
+class Start:
+    """How a make was called."""
+
+    name: str = ""
+    args: List[str] = field(default_factory=list)
+    environment: Dict[str, str] = field(default_factory=dict)
+    folder: str = ""
+    outputs: Dict[int, Output] = field(default_factory=dict)
+    version: str = ""
+    says: bool = False  # it says what it does; else it only answers, or has ended before it read its options
+    asks: str = ""  # the flag of make by which it only answers
+
+    def take(self, line: str) -> bool:
+        """Takes a line; whether it is one about the call."""
+        key, _, text = line.partition(" ")
+        if key not in HEAD:
+            return False
+        value = ESCAPED.sub(lambda found: "\n" if found[1] == "n" else "\\", text)
+        if key == "MAKE":
+            self.name = value
+        elif key == "ARG":
+            self.args.append(value)
+        elif key == "ENV":
+            name, _, found = value.partition("=")
+            self.environment[name] = found
+        elif key == "CWD":
+            self.folder = value
+        elif key == "ASKS":
+            self.asks = value
+        elif key == "SAYS":
+            self.says, self.version = True, value
+        else:
+            stream, kind, device, number, path = value.split(" ", 4)
+            self.outputs[int(stream)] = Output(kind, int(device), int(number), path)
+        return True
+
+
+def output_line(stream: int) -> str:
+    """Where a stream of this process leads, in the way of the library."""
+    try:
+        found = os.fstat(stream)
+    except OSError:
+        return ""
+    return "OUT %d %s %d %d \n" % (stream, "f" if stat.S_ISREG(found.st_mode) else "p", found.st_dev, found.st_ino)
+
+
+def own_outputs(said: Path) -> Set[Tuple[int, int]]:
+    """The files to which the output of the recorder itself goes."""
+    with open_file(said / OWN_OUTPUTS) as lines:
+        return {(one.device, one.number) for one in read_start(lines).outputs.values()}
+
+
+def read_start(lines: Iterable[str]) -> Start:
+    """The first lines of a file."""
+    start = Start()
+    for line in lines:
+        if not start.take(line.rstrip("\n")):
+            break
+    return start
+
+
+def files_in(said: Path) -> List[Tuple[int, int, Path]]:
+    """The files of all makes: the number of the process, which life of that number, and the path."""
+    found = [(NAME.match(name), said / name) for name in os.listdir(said)]
+    return sorted((int(match[1]), int(match[2]), path) for match, path in found if match)
+
+
+def without_values(lines: Iterable[str]) -> Iterator[str]:
+    """The lines of a file without the values of the environment, which may hold secrets: neither as make was called, nor in its data bases."""
+    start, left, is_own = Start(), 0, False  # `left`: so many lines of a value come
+    for line in lines:
+        if left:
+            left -= 1
+            continue
+        if line.startswith("ENV "):
+            start.take(line.rstrip("\n"))
+        if is_own and line.startswith("define "):
+            left = start.environment.get(line[len("define "):].rstrip("\n"), "").count("\n") + 1
+        elif is_own or line.startswith("ENV "):
+            line = line.partition("=")[0] + "=\n"
+        is_own = line.startswith("# environment")
+        yield line
+
+
+def keep_files(said: Path, to: Path) -> None:
+    """Copies all files without values of the environment."""
+    for path in said.iterdir():
+        if path.suffix == ".make":
+            with open_file(path) as lines, open(to / path.name, "w", encoding="utf-8", errors="surrogateescape", newline="\n") as file:
+                file.writelines(without_values(lines))
+
+
+def open_file(path: Path) -> TextIO:
+    """The lines of a file, each with its end."""
+    return open(path, encoding="utf-8", errors="surrogateescape", newline="\n")

@@ -1,0 +1,411 @@
+/* In GNU make, while a build is recorded: says what make does, in a file of its own, and changes nothing else.
+
+   GNU make shows its own names to objects that it loads. So this library finds make's level of debug words, raises it when make has
+   read its options, and takes the lines that come of it out of what make prints. It is at work in make alone: in other programs, in a
+   make without these names and in one that only answers, each function here does what that of the C library does.
+
+   A life of a make has a file, SAID/PID.LIFE.make, where SAID lies beside this library. It holds
+
+     MAKE, ARG, ENV      how make was called, its words, its environment, a line each
+     CWD, OUT            the folder in which it began; where standard output and standard error lead
+     SAYS                its version, where it says from here on what it does
+     ASKS                else the flag of make by which it only answers
+     lines of make       what it considers, and what it does with jobs, in English
+     SAID                something was printed since the last line
+     GLOB, COPY          a pattern that it looks for; the copy of a makefile as it was read, SAID/PID.LIFE.N.read
+     # Make data base .. what `make -p` prints: at its end, and before it begins again
+     EXIT                its status
+
+   Where a limit on the size of files does not let it write more, SAID/PID.LIFE.make.cut is there. */
+
+#define _GNU_SOURCE
+#include <dlfcn.h>
+#include <errno.h>
+#include <fcntl.h>
+#include <link.h>
+#include <stdarg.h>
+#include <stdio.h>
+#include <stdlib.h>
+#include <string.h>
+#include <sys/mman.h>
+#include <sys/resource.h>
+#include <sys/stat.h>
+#include <unistd.h>
+
+enum { RAISED = 0x107, HIGH = 900, LONGEST = 4096, MOST = 1 << 20, REMEMBERED = 16 };
+
+extern char **environ;
+extern int __vfprintf_chk(FILE *, int, const char *, va_list);
+
+static FILE *said;          /* the file of this make; NULL in other programs */
+static int number;          /* its descriptor */
+static int is_raised;       /* make says what it considers */
+static int is_base;         /* the data base is being printed */
+static int is_open;         /* make has begun a line for people, and not ended it */
+static int is_reading;      /* make has said that it reads a makefile, and not opened it */
+static int is_cut;          /* a limit does not let the file grow */
+static int own;             /* the process: a child of make is another one */
+static int copies;          /* how many makefiles were copied */
+static char place[LONGEST]; /* the path of the file, without `make` at its end */
+static char *low, *high;    /* where make itself lies: what an object prints that make has loaded is none of its words */
+static off_t printed = -1;  /* the size of the file that keeps standard output; -1 where none does */
+static struct timespec began;
+
+#define NEXT(name) ((__typeof__(&name))next_of(#name))
+#define CALLER __builtin_return_address(0)
+#define FROM_MAKE (said && (char *)CALLER >= low && (char *)CALLER < high)
+
+static void *next_of(const char *name) {
+  return dlsym(RTLD_NEXT, name);
+}
+
+/* ---- the file */
+
+/* Whether so many bytes more may be written; where a limit is in the way that may be raised, it is raised, and `old` has it. */
+static int has_room(size_t more, struct rlimit *old) {
+  struct rlimit now;
+  if (getrlimit(RLIMIT_FSIZE, old) || old->rlim_cur == RLIM_INFINITY) return 1;
+  now.rlim_cur = now.rlim_max = old->rlim_max;
+  setrlimit(RLIMIT_FSIZE, &now);
+  return now.rlim_cur == RLIM_INFINITY || lseek(number, 0, SEEK_END) + (off_t)more <= (off_t)now.rlim_cur;
+}
+
+static ssize_t keep(void *cookie, const char *text, size_t size) {
+  struct rlimit limit;
+  char path[LONGEST + 16];
+  int before = errno;
+  (void)cookie;
+  if (getpid() != own) return size;
+  if (!is_cut && !has_room(size, &limit)) {
+    is_cut = 1;
+    snprintf(path, sizeof path, "%smake.cut", place);
+    close(open(path, O_CREAT | O_WRONLY | O_CLOEXEC, 0600));
+  }
+  for (size_t at = 0; at < size && !is_cut;) {
+    ssize_t done = write(number, text + at, size - at);
+    if (done < 0 && errno != EINTR) is_cut = 1;
+    at += done < 0 ? 0 : done;
+  }
+  setrlimit(RLIMIT_FSIZE, &limit);
+  errno = before;
+  return size;
+}
+
+/* A line with a text in which newlines are `\n`. */
+static void put_line(const char *key, const char *text) {
+  fputs_unlocked(key, said);
+  fputc_unlocked(' ', said);
+  for (; *text; text++)
+    if (*text == '\n' || *text == '\\') fprintf(said, "\\%c", *text == '\n' ? 'n' : '\\');
+    else fputc_unlocked(*text, said);
+  fputc_unlocked('\n', said);
+}
+
+static void put_output(int stream) {
+  struct stat found;
+  char link[32], path[LONGEST] = "", kind = '-';
+  if (!fstat(stream, &found) && !S_ISCHR(found.st_mode)) {
+    kind = S_ISREG(found.st_mode) ? 'f' : 'p';
+    snprintf(link, sizeof link, "/proc/self/fd/%d", stream);
+    if (readlink(link, path, sizeof path - 1) < 0) *path = 0;
+    if (stream == 1 && kind == 'f') printed = found.st_size;
+  }
+  fprintf(said, "OUT %d %c %lu %lu", stream, kind, kind == '-' ? 0 : (unsigned long)found.st_dev, kind == '-' ? 0 : (unsigned long)found.st_ino);
+  put_line("", path);
+}
+
+/* Something was printed: by make, or, as far as a file shows it, by a recipe. */
+static void put_printed(int by_make) {
+  struct stat found;
+  int grew = printed >= 0 && !fstat(1, &found) && found.st_size != printed;
+  if (grew) printed = found.st_size;
+  if (is_raised && !is_base && (grew || by_make)) fputs_unlocked("SAID\n", said);
+}
+
+/* Opens the file of this life; where make begins again, that of the last one. */
+static int open_file(const char *folder) {
+  int fd = -1, again = getenv("MAKE_RESTARTS") != NULL;
+  char path[LONGEST + 8], last[LONGEST + 8] = "";
+  for (int life = 0; fd < 0; life++) {
+    snprintf(place, sizeof place, "%ssaid/%d.%d.", folder, own, life);
+    snprintf(path, sizeof path, "%smake", place);
+    if (again && *last && access(path, F_OK)) {
+      snprintf(place, sizeof place, "%.*s", (int)strlen(last) - 4, last);
+      return open(last, O_WRONLY | O_APPEND | O_CLOEXEC);
+    }
+    strcpy(last, path);
+    if (again && !access(path, F_OK)) continue;
+    fd = open(path, O_WRONLY | O_CREAT | O_EXCL | O_APPEND | O_CLOEXEC, 0600);
+    if (fd < 0 && errno != EEXIST) return -1;
+  }
+  return fd;
+}
+
+/* ---- the begin of make */
+
+static int range(struct dl_phdr_info *info, size_t size, void *data) {
+  (void)size, (void)data;
+  for (int at = 0; at < info->dlpi_phnum; at++) {
+    const ElfW(Phdr) *part = &info->dlpi_phdr[at];
+    char *first = (char *)info->dlpi_addr + part->p_vaddr, *end = first + part->p_memsz;
+    if (part->p_type != PT_LOAD) continue;
+    low = !low || first < low ? first : low;
+    high = end > high ? end : high;
+  }
+  return 1; /* the program itself is the first of all */
+}
+
+__attribute__((constructor)) static void begin(int argc, char **argv) {
+  Dl_info here;
+  struct stat found;
+  char folder[LONGEST - 64], cwd[LONGEST] = "";
+  if (!dlsym(RTLD_DEFAULT, "db_level") || !dlsym(RTLD_DEFAULT, "new_job") || !dladdr((void *)begin, &here)) return;
+  const char *end = strrchr(here.dli_fname, '/');
+  if (!end || end - here.dli_fname + 2 > (long)sizeof folder) return;
+  snprintf(folder, sizeof folder, "%.*s", (int)(end - here.dli_fname + 1), here.dli_fname);
+  own = getpid();
+  int fd = open_file(folder), before = errno;
+  if (fd < 0) return;
+  number = -1;
+  for (int at = HIGH; number < 0 && at > 2; at /= 2) number = fcntl(fd, F_DUPFD_CLOEXEC, at);
+  close(fd);
+  if (number < 0 || !(said = fopencookie(NULL, "w", (cookie_io_functions_t){.write = keep}))) return;
+  if (!stat(here.dli_fname, &found)) began = found.st_ctim;
+  dl_iterate_phdr(range, NULL);
+  put_line("MAKE", argv[0] ? argv[0] : "");
+  for (int at = 1; at < argc; at++) put_line("ARG", argv[at]);
+  for (char **one = environ; *one; one++) put_line("ENV", *one);
+  put_line("CWD", getcwd(cwd, sizeof cwd) ? cwd : "");
+  put_output(1), put_output(2);
+  fflush_unlocked(said);
+  errno = before;
+}
+
+/* Make has read its options: it asks next whether it prints to a terminal. */
+static void raise_level(void) {
+  static const char *const asking[] = {"db_level", "print_version_flag", "print_data_base_flag", "just_print_flag", "question_flag", "touch_flag"};
+  static int is_known;
+  if (!said || is_known++) return;
+  for (size_t at = 0; at < sizeof asking / sizeof *asking; at++) {
+    int *flag = dlsym(RTLD_DEFAULT, asking[at]);
+    if (flag && *flag) {
+      put_line("ASKS", asking[at]);
+      fflush_unlocked(said);
+      return;
+    }
+  }
+  const char **version = dlsym(RTLD_DEFAULT, "version_string");
+  put_line("SAYS", version ? *version : "");
+  is_raised = 1;
+  *(int *)dlsym(RTLD_DEFAULT, "db_level") = RAISED;
+}
+
+int isatty(int stream) {
+  raise_level();
+  return NEXT(isatty)(stream);
+}
+
+/* ---- what make prints */
+
+static struct { const char *shown, *english; } spoken[REMEMBERED];
+
+char *dcgettext(const char *domain, const char *english, int category) {
+  static int at;
+  char *shown = NEXT(dcgettext)(domain, english, category);
+  if (is_raised && shown != english) {
+    spoken[at % REMEMBERED].shown = shown;
+    spoken[at++ % REMEMBERED].english = english;
+  }
+  return shown;
+}
+
+/* What a text is in English, in which the file is written. */
+static const char *in_english(const char *text) {
+  for (int at = 0; at < REMEMBERED; at++)
+    if (spoken[at].shown == text) return spoken[at].english;
+  return text;
+}
+
+/* Make's own words go to its file: whole lines by printf, puts and putchar. What is for people it prints by fputs and fwrite. */
+static int is_word(int from_make) {
+  return is_raised && from_make && (!is_open || is_base);
+}
+
+static void end_word(void) {
+  if (!is_base) fflush_unlocked(said);
+}
+
+static void note_text(int from_make, FILE *file, const char *text, size_t size) {
+  if (!is_raised || is_base || !from_make || file != stdout || !size) return;
+  is_open = text[size - 1] != '\n';
+  put_printed(1);
+}
+
+static int print(int from_make, int flag, const char *format, va_list words) {
+  int done;
+  if (!is_word(from_make)) return flag < 0 ? vfprintf(stdout, format, words) : __vfprintf_chk(stdout, flag, format, words);
+  put_printed(0);
+  done = vfprintf(said, in_english(format), words);
+  end_word();
+  return done;
+}
+
+int printf(const char *format, ...) {
+  va_list words;
+  va_start(words, format);
+  int done = print(FROM_MAKE, -1, format, words);
+  va_end(words);
+  return done;
+}
+
+int __printf_chk(int flag, const char *format, ...) {
+  va_list words;
+  va_start(words, format);
+  int done = print(FROM_MAKE, flag, format, words);
+  va_end(words);
+  return done;
+}
+
+int puts(const char *text) {
+  if (!is_word(FROM_MAKE)) {
+    int done = NEXT(puts)(text);
+    is_open = 0;
+    return done;
+  }
+  is_reading = is_reading || !strcmp(text, "...");
+  fprintf(said, "%s\n", in_english(text));
+  end_word();
+  return 1;
+}
+
+static int put_sign(int from_make, int sign, FILE *file) {
+  if (file == stdout && is_word(from_make)) return fputc_unlocked(sign, said);
+  if (file == stdout && sign == '\n') is_open = 0;
+  return NEXT(fputc)(sign, file);
+}
+
+int (putchar)(int sign) {
+  return put_sign(FROM_MAKE, sign, stdout);
+}
+
+int (putc)(int sign, FILE *file) {
+  return put_sign(FROM_MAKE, sign, file);
+}
+
+int (fputc)(int sign, FILE *file) {
+  return put_sign(FROM_MAKE, sign, file);
+}
+
+int fputs(const char *text, FILE *file) {
+  note_text(FROM_MAKE, file, text, strlen(text));
+  return NEXT(fputs)(is_base && file == stdout ? in_english(text) : text, file);
+}
+
+size_t fwrite(const void *text, size_t size, size_t count, FILE *file) {
+  note_text(FROM_MAKE, file, text, size * count);
+  return NEXT(fwrite)(text, size, count, file);
+}
+
+/* ---- makefiles and patterns */
+
+/* Copies a makefile that was written since the recording began, or that can be read once: then make gets another file that holds the same. */
+static FILE *copied(const char *path, FILE *file) {
+  struct stat found;
+  char name[LONGEST + 32], bytes[LONGEST];
+  size_t got, all = 0;
+  if (fstat(fileno(file), &found)) return file;
+  int is_plain = S_ISREG(found.st_mode);
+  if (is_plain && (found.st_size > MOST || found.st_ctim.tv_sec < began.tv_sec || (found.st_ctim.tv_sec == began.tv_sec && found.st_ctim.tv_nsec < began.tv_nsec))) return file;
+  FILE *whole = is_plain ? file : fdopen(memfd_create("makefile", MFD_CLOEXEC), "w+");
+  snprintf(name, sizeof name, "%s%d.read", place, copies + 1);
+  int copy = whole ? open(name, O_WRONLY | O_CREAT | O_TRUNC | O_CLOEXEC, 0600) : -1;
+  if (copy < 0) return file;
+  while ((got = fread(bytes, 1, sizeof bytes, file)) > 0) {
+    struct rlimit limit;
+    is_cut = is_cut || !has_room(got, &limit) || (all += got) > MOST || write(copy, bytes, got) != (ssize_t)got;
+    setrlimit(RLIMIT_FSIZE, &limit);
+    if (!is_plain) NEXT(fwrite)(bytes, 1, got, whole);
+  }
+  close(copy);
+  rewind(whole);
+  if (!is_plain) fclose(file);
+  fprintf(said, "COPY %d", ++copies);
+  put_line("", path);
+  return whole;
+}
+
+static FILE *open_stream(FILE *(*next)(const char *, const char *), const char *path, const char *mode, int from_make) {
+  FILE *file = next(path, mode);
+  if (!file || !is_raised || !is_reading || !from_make || *mode != 'r') return file;
+  int before = errno;
+  is_reading = 0;
+  file = copied(path, file);
+  errno = before;
+  return file;
+}
+
+FILE *fopen(const char *path, const char *mode) {
+  return open_stream(NEXT(fopen), path, mode, FROM_MAKE);
+}
+
+FILE *fopen64(const char *path, const char *mode) {
+  return open_stream(NEXT(fopen64), path, mode, FROM_MAKE);
+}
+
+/* `glob` and `glob64`, whose last word this hands on as it is. */
+typedef int (*Globbing)(const char *, int, int (*)(const char *, int), void *);
+
+static int find(const char *name, const char *pattern, int flags, int (*fault)(const char *, int), void *found) {
+  if (is_raised && getpid() == own) put_line("GLOB", pattern);
+  return ((Globbing)next_of(name))(pattern, flags, fault, found);
+}
+
+int glob(const char *pattern, int flags, int (*fault)(const char *, int), void *found) {
+  return find("glob", pattern, flags, fault, found);
+}
+
+int glob64(const char *pattern, int flags, int (*fault)(const char *, int), void *found) {
+  return find("glob64", pattern, flags, fault, found);
+}
+
+/* ---- the end of make */
+
+/* The data base, by the functions of `make -p`. */
+static void put_base(void) {
+  static const char *const parts[] = {"print_variable_data_base", "print_dir_data_base", "print_rule_data_base", "print_file_data_base", "print_vpath_data_base"};
+  FILE *real = stdout;
+  if (!is_raised || getpid() != own) return;
+  fflush(stdout);
+  put_printed(0);
+  fputs_unlocked("# Make data base, printed on\n", said);
+  stdout = said;
+  is_base = 1;
+  for (size_t at = 0; at < sizeof parts / sizeof *parts; at++) {
+    void (*part)(void) = (void (*)(void))dlsym(RTLD_DEFAULT, parts[at]);
+    if (part) part();
+  }
+  is_base = 0;
+  stdout = real;
+  fputs_unlocked("\n# Finished Make data base on\n", said);
+  fflush_unlocked(said);
+}
+
+void exit(int status) {
+  put_base();
+  if (said && getpid() == own) {
+    fprintf(said, "EXIT %d\n", status);
+    fflush_unlocked(said);
+  }
+  NEXT(exit)(status);
+  __builtin_unreachable();
+}
+
+int execve(const char *path, char *const words[], char *const env[]) {
+  put_base();
+  return NEXT(execve)(path, words, env);
+}
+
+int execvp(const char *file, char *const words[]) {
+  put_base();
+  return NEXT(execvp)(file, words);
+}
