@@ -18,9 +18,9 @@ from pathlib import Path
 
 from confirm.races import CannotConfirm, Chosen
 from confirm.tree import copy, names_its_folder, remove
-from record.ninja.again import by_name, with_jobs
+from record.commands.shelltext import first_words
 from record.main import Missing, version_of
-from record.tools.shelltext import first_words
+from record.ninja.again import by_name, with_jobs
 
 HOLD = Path(__file__).resolve().parent / "hold.c"
 NEW_MOUNTS, NEW_USER = 0x20000, 0x10000000

@@ -7,8 +7,8 @@ from itertools import combinations
 from typing import Dict, Iterator, List, Optional, Set, Tuple
 
 from record.assumptions import Assumptions
+from record.commands import shelltext
 from record.make.owners import Work
-from record.tools import shelltext
 from record.tools.background import ALL, AT_ONCE, Background, background
 from record.trace.lives import Life, Program, program_at
 

@@ -7,10 +7,10 @@ from typing import Iterator, List
 from record.assumptions import Assumptions
 from record.at_once import CHANGES, at_once_in, is_left
 from record.cleaned import Cleaned
+from record.commands import shelltext
 from record.make.owners import Make, Owners, Work
 from record.make.words import makefiles
 from record.ninja.runs import Ninja
-from record.tools import shelltext
 from record.trace.lives import Life
 from record.trace.names import Names
 from record.warm import is_beyond

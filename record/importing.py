@@ -25,7 +25,8 @@ from record.make.build import Builder
 from record.make.cover import copy_of, way_to_cover
 from record.make.elsewhere import Elsewhere
 from record.make.graph import Build
-from record.make.owners import Owners
+from record.make.owners import Owners, beginning
+from record.make.spellings import twice
 from record.make.unasked import unasked
 from record.make.words import read_logs
 from record.missing.inputs import write_missing
@@ -36,16 +37,15 @@ from record.progress import watched
 from record.tools.caches import settle_caches
 from record.tools.exists import credit_makes, settle_exists
 from record.tools.jvm import settle_machines
+from record.tools.listed import Calls
 from record.tools.modules import settle_modules
 from record.tools.python import settle
 from record.tools.scripts import settle_scripts
 from record.tools.tex import settle_tex
-from record.trace.calls import Calls
 from record.trace.lives import Life
 from record.trace.names import Names, mounts_below
-from record.trace.past import Past, beginning
+from record.trace.past import Past
 from record.trace.skips import SYSTEM, unseen_changes
-from record.trace.spelling import twice
 from record.trace.strace import read_trace
 from record.warm import did_nothing, made_unseen, stand_alone, warm_names
 

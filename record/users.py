@@ -4,7 +4,7 @@ import os
 import shutil
 from typing import List, Optional
 
-from record.tools.shelltext import first_words
+from record.commands.shelltext import first_words
 
 SWITCHES = ("su", "runuser", "sudo", "doas", "gosu", "su-exec", "setuidgid", "s6-setuidgid")
 OF_SHELL = ("su", "runuser")  # these hand a text to a shell

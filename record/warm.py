@@ -6,14 +6,14 @@ from typing import Dict, Iterator, List, Set
 
 from record import machine
 from record.cleaned import Cleaned
+from record.commands.shelltext import SHELLS
+from record.commands.system import OF_SYSTEM
 from record.make.graph import Build, Graph, Node, Task
 from record.make.inner import DEFAULTS
 from record.make.owners import Make
 from record.missing.looked import is_below
 from record.ninja.runs import Ninja
-from record.tools.shelltext import SHELLS
 from record.trace.names import Names
-from record.trace.system import OF_SYSTEM
 
 CHANGES = "WCDMTX"  # kinds of events of a file or a folder
 BUILDS = re.compile(r"make|ninja", re.I)  # a recipe that may run several others

@@ -6,8 +6,8 @@ from functools import lru_cache
 from itertools import combinations
 from typing import TYPE_CHECKING, Dict, Iterator, List, Set, Tuple
 
+from record.commands import shellages, shelltext
 from record.make.owners import Make, Work
-from record.tools import shellages, shelltext
 from record.trace.events import AGE_SEEN, AGE_TAKEN, AGE_UNKNOWN, READ, SEEN, WRITTEN
 from record.trace.lives import Life
 from record.trace.names import Names

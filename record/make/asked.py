@@ -6,7 +6,7 @@ import re
 from fnmatch import fnmatchcase
 from typing import Iterable, Iterator, List, NamedTuple
 
-from record.tools.shelltext import folders_of, loose
+from record.commands.shelltext import folders_of, loose
 from record.trace.lives import Life
 
 MAGIC = re.compile(r"[*?\[]")

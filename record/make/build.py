@@ -20,8 +20,8 @@ from record.make.programs import are_inside
 from record.make.unfiled import add_macros, add_outputs, count_listings
 from record.make.used import macros_of
 from record.make.words import makefiles
-from record.tools.listed import fits
 from record.trace.events import AGE_SEEN, ASKS, CHANGES, CREATED, ENTERED, FOLDER_KEPT, FOLDER_REMOVED, LISTED, MAKES, REMOVED, WRITTEN
+from record.trace.lists import fits
 from record.trace.names import Names, join
 
 

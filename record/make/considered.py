@@ -10,6 +10,7 @@ from fnmatch import fnmatchcase
 from functools import cached_property
 from typing import TYPE_CHECKING, Dict, Iterator, List, Set, Tuple
 
+from record.commands.shelltext import loose
 from record.make.asked import MAGIC
 from record.make.cached import Cached
 from record.make.database import Base
@@ -17,7 +18,6 @@ from record.make.graph import Node
 from record.make.memory import first_birth, keeps_lists
 from record.make.searches import DEPTH, Searches, stems
 from record.make.words import LATER, Words, numbers_of
-from record.tools.shelltext import loose
 from record.trace.events import ASKS, CHANGES, LISTED, MAKE_LISTED
 from record.trace.names import join
 

@@ -14,7 +14,7 @@ from pathlib import Path
 from typing import List, Sequence
 
 from record import machine
-from record.tools.shelltext import first_words
+from record.commands.shelltext import first_words
 
 OWN_MOUNTS = 0x20000  # for unshare
 BIND, BELOW, FOLLOWS = 1 << 12, 1 << 14, 1 << 19  # for mount: a second name, all that is mounted below, and mounts that come from outside alone

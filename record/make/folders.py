@@ -11,9 +11,9 @@ from dataclasses import dataclass, field
 from functools import lru_cache
 from typing import TYPE_CHECKING, Dict, FrozenSet, List, NamedTuple, Set, Tuple
 
+from record.commands import shelltext
 from record.make.ahead import makes_ahead
 from record.make.quiet import excused, makes_itself
-from record.tools import shelltext
 from record.trace.events import (
     ABSENT, CHANGES, CREATED, ENTERED, FOLDER_KEPT, FOLDER_REMOVED, LINKS_CHANGED, LINKS_SEEN, LISTED, LOCKED, LOOKS, MADE_BEFORE,
     MADE_QUIETLY, MAKER_SEEN, MAKES, MODE_CHANGED, MODE_GIVEN, READ, REMOVED, SEEN, STRICT, TIME_CHANGED, TREE_CHANGES, WRITTEN,

@@ -6,9 +6,10 @@ from fnmatch import fnmatchcase
 from functools import cached_property
 from typing import Callable, Container, Dict, Iterable, Iterator, List, Optional, Set
 
+from record.commands.shelltext import loose
 from record.make.asked import EARLIER, EVERYTHING, MAGIC, NAMED, ODD, SIGN, UNKNOWN, Asked, parts_of, pieces
-from record.make.references import COMPUTED as COMPUTED_CALL, joined
-from record.tools.shelltext import loose
+from record.make.references import COMPUTED as COMPUTED_CALL
+from record.make.references import joined
 
 CALL = re.compile(r"\$([({])wildcard[ \t]+")
 CALLS = re.compile(r"\$([({])call[ \t]+")

@@ -9,19 +9,19 @@ from functools import cached_property
 from typing import TYPE_CHECKING, Container, Dict, Iterable, List, Optional, Set, Tuple
 
 from record import machine
+from record.commands.system import OF_SYSTEM
+from record.commands.texts import text_of
 from record.make.asked import EVERYTHING, Asked, asked_in, is_of_linker
 from record.make.database import Base
 from record.make.globs import listed, patterns
 from record.make.idle import TAKES, idle_of, without_defaults, without_idle
 from record.make.options import asks_jobs
-from record.make.slots import says_one_job
 from record.make.programs import Programs
 from record.make.searches import asked_names
+from record.make.slots import says_one_job
 from record.make.words import SEVERAL, Job, Round, Words, makefiles
-from record.tools.texts import text_of
 from record.trace.events import ABSENT, CHANGES, ENTERED, LISTED, LOOKS, MAKE_LISTED, MAKE_OPENED, ORDER_SEEN, READ, REMOVED, SEEN
 from record.trace.lives import Key, Life
-from record.trace.system import OF_SYSTEM
 
 if TYPE_CHECKING:
     from record.ninja.runs import Ninja
@@ -126,6 +126,15 @@ class Make:
         if not any(life.is_make or life.is_ninja for life in self.life.up() if life is not self.life):
             return False
         return self.words.slots == "1" and says_one_job(self.life) if self.words.slots else not (self.words.below or self.is_called or asks_jobs([], self.words.flags))
+
+
+def beginning(make: Make, number: int) -> int:
+    """When a round of a make begins: the makefiles are read, and the recipes of the round before have ended."""
+    rounds = make.words.rounds
+    jobs = [job for one in rounds[:number] for job in one.jobs]
+    ended = (life.died for job in jobs if id(job) in make.work for life in make.work[id(job)].lives[:1])
+    start = rounds[number].start
+    return max([make.ready[start] if start < len(make.ready) else make.life.born, *ended])
 
 
 def only_places(wanted: List[int], there: List[int]) -> Optional[List[int]]:

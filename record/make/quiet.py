@@ -3,8 +3,8 @@
 import re
 from typing import TYPE_CHECKING, List
 
-from record.tools import shelltext
-from record.tools.traced import shows_commands
+from record.commands import shelltext
+from record.commands.traced import shows_commands
 from record.trace.events import MADE, MADE_BEFORE
 from record.trace.lives import Life
 

@@ -4,7 +4,7 @@ import os
 import re
 from typing import Iterator, List
 
-from record.tools.shelltext import contents, script_of
+from record.commands.shelltext import contents, script_of
 from record.trace.lives import Life
 
 # What asks for one job: of make, `cmake --build` and Debian's dh.

@@ -6,13 +6,13 @@ from dataclasses import dataclass
 from fnmatch import fnmatchcase
 from typing import Dict, Iterable, List, Mapping, Set, Tuple
 
+from record.commands.shelltext import is_removal
 from record.make.called import called_by
 from record.make.graph import Build, Task
-from record.tools.shelltext import is_removal
+from record.tools.python import BYTE_CODE
 from record.trace.names import Names
 
 CHANGES = "WCD"
-BYTE_CODE = re.compile(r"(.*/)__pycache__/([^/.]+)\.[^/]*$", re.S)
 FIXED = re.compile(r"/\.git/objects/|/CMakeFiles/[^/]+\.dir/cmake_clean_target\.cmake$")  # no edit changes what git names by its sum, or CMake writes
 
 

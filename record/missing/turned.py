@@ -7,6 +7,7 @@ What make itself looks for is no part of it: anew.py compares what it knows.
 import os
 from typing import Dict, Iterator, List, Optional, Sequence, Set, Tuple
 
+from record.commands.shelltext import base_name, is_removal, shell_text
 from record.make.asked import MAGIC
 from record.make.called import called_by
 from record.make.globs import arguments
@@ -14,9 +15,9 @@ from record.make.graph import Build, Task
 from record.make.macros import Macros
 from record.make.memory import folders_asked
 from record.make.owners import Make, Work
-from record.missing.looked import BYTE_CODE, is_below
-from record.tools.listed import fits
-from record.tools.shelltext import base_name, is_removal, shell_text
+from record.missing.looked import is_below
+from record.tools.python import BYTE_CODE
+from record.trace.lists import fits
 from record.trace.lives import Key, Life
 from record.trace.names import Names
 

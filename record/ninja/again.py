@@ -11,8 +11,8 @@ import shutil
 from pathlib import Path
 from typing import TYPE_CHECKING, Callable, Dict, List, Optional, Set
 
+from record.commands.shelltext import first_words
 from record.ninja.log import Kept
-from record.tools.shelltext import first_words
 from record.trace.names import Names
 
 if TYPE_CHECKING:

@@ -16,7 +16,7 @@ from record.make.unfiled import count_listings
 from record.ninja.fix import owner_of
 from record.ninja.manifest import Edge
 from record.ninja.runs import NEVER, Job, Ninja, Stage
-from record.tools.listed import fits
+from record.trace.lists import fits
 from record.trace.names import Names, join
 
 TEXT_LIMIT = 400

@@ -3,7 +3,7 @@
 import re
 from typing import List
 
-from record.tools.shelltext import contents
+from record.commands.shelltext import contents
 
 JOINED = re.compile(r"\\\r?\n")
 COLON = re.compile(r":(?:\s|\Z)")

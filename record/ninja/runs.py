@@ -8,11 +8,11 @@ from dataclasses import dataclass, field
 from typing import Callable, Dict, Iterator, List, Optional, Set, Tuple
 
 from record import machine
+from record.commands import shelltext
 from record.make.owners import Owners, Work
 from record.ninja.dyndep import read_dyndep
 from record.ninja.log import Kept, ends, new_outputs, text_of
 from record.ninja.manifest import Edge, Manifest, Unreadable, canonical, read_manifest
-from record.tools import shelltext
 from record.trace.lives import Life
 from record.trace.names import Names
 

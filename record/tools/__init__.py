@@ -1,1 +1,1 @@
-"""What tools do by themselves, such as Python and compilers, and what the words of shells say."""
+"""What tools do by themselves, such as Python and compilers, and what shells do in their scripts."""

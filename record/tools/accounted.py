@@ -9,7 +9,7 @@ import os
 import re
 from typing import List, Optional, Sequence, Set, Tuple
 
-from record.tools.shelltext import SHELLS
+from record.commands.shelltext import SHELLS
 from record.tools.shellvalues import HIDDEN, Asked, Values, parts_of
 from record.tools.shellwords import Script, Word
 from record.trace.events import LISTED

@@ -6,10 +6,10 @@ from dataclasses import dataclass, field
 from functools import lru_cache
 from typing import FrozenSet, List, Optional, Set, Tuple
 
+from record.commands.shelltext import KEPT
 from record.tools.scriptcut import DOCUMENT, ScriptCutter
 from record.tools.shellcut import Piece, Token, Unread
 from record.tools.shellvalues import PLAIN
-from record.tools.shelltext import KEPT
 
 EVALS = re.compile(r"\beval\b[^\n]*(?<![&<>|\\;/])&(?![&>\w])")  # a text with `&` that a shell puts together
 SURE = re.compile(r"(?<=[\s)}])&(?=[\s)]|$)|(?<=\w)&(?=[ \t]*(?:\n|$))|(?<![\w$-])coproc[ \t]()")  # where quotes and documents may not be read as they are

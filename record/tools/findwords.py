@@ -3,11 +3,11 @@
 import re
 from typing import List, NamedTuple, Set
 
-from record.tools.shelltext import base_name, loose
+from record.commands.shelltext import base_name, loose
+from record.trace.lists import FOLDERS
 from record.trace.lives import Life
 
 PROGRAM = re.compile(r"/(?:usr/)?bin/find$")
-FOLDERS = "**/"  # any folder, and no file
 ALTERNATIVES = ("-o", "-or", ",")
 NEGATES = ("!", "-not")
 LONE = frozenset("-a -and -mount -xdev -depth -d -noleaf -warn -nowarn -daystart -ignore_readdir_race -noignore_readdir_race -true -false -executable -readable -writable"

@@ -2,15 +2,13 @@
 
 import os
 import re
-from fnmatch import fnmatchcase
 from typing import List, Set
 
-from record.tools import shelltext
-from record.tools.findwords import FOLDERS, find_patterns
-from record.tools.python import MODULES
+from record.commands import shelltext
+from record.tools.findwords import find_patterns
 from record.tools.shellvalues import patterns_in
+from record.trace import calls
 from record.trace.lives import Life
-from record.trace.names import Names
 
 LIBTOOL, BEGINS, LARGE = "libtool", "library-building support", 4096  # what each of its scripts says of itself, near the beginning
 ODD = "*[!-A-Za-z0-9._+]*"  # names with a sign that is in no usual one
@@ -21,14 +19,6 @@ def patterns(life: Life, where: str, is_open_shell: bool) -> List[str]:
     if is_open_shell or life.taken or life.cut:
         return ["*"]
     return libtool_patterns(life) or find_patterns(life) or patterns_in(life, where) or list(shelltext.patterns(life.argv, False))
-
-
-def fits(pattern: str, path: str, names: Names, is_folder: bool = False) -> bool:
-    """Whether a list that is about a pattern may show a name. Behind a pattern with a slash shells and make go into folders, and into those to
-    which a link leads; `find` and Python do not."""
-    if pattern.endswith("/"):
-        return pattern not in (FOLDERS, MODULES[-1]) and fnmatchcase(os.path.basename(path), pattern[:-1]) and (is_folder or names.is_link(path))
-    return fnmatchcase(os.path.basename(path), pattern)
 
 
 def libtool_patterns(life: Life) -> List[str]:
@@ -60,3 +50,13 @@ def is_in_order(life: Life, is_own: bool) -> bool:
         return True
     text, script = shelltext.shell_words(life.argv)
     return "oN" not in text + (shelltext.contents(os.path.join(life.folder, script)) if script else "")
+
+
+class Calls(calls.Calls):
+    """The calls of a trace, with what the words of programs say of what they list."""
+
+    def patterns(self, life: Life, where: str) -> List[str]:
+        return patterns(life, where, self.is_open_shell)
+
+    def is_in_order(self, life: Life) -> bool:
+        return is_in_order(life, self.is_inside(life.program))

@@ -9,8 +9,8 @@ import re
 from functools import lru_cache
 from typing import FrozenSet, Iterable
 
+from record.commands.texts import text_of
 from record.tools.pynames import LARGE, STANDARD, modules_of, tree_of
-from record.tools.texts import text_of
 
 # Words by which a text gets ages or numbers of files, or another text or a name that nobody has read.
 ASKS = re.compile(r"stats?\b|stat_|\bst_\w|[acm]time|birthtime|inode|archive|getattr|attrgetter|methodcaller|Formatter|get_field|importlib|importer|meta_path|path_hooks|breakpoint"

@@ -12,8 +12,8 @@ import warnings
 from functools import lru_cache
 from typing import Dict, FrozenSet, Iterator, NamedTuple, Optional, Sequence, Set
 
-from record.tools.shelltext import KEPT
-from record.tools.texts import text_of
+from record.commands.shelltext import KEPT
+from record.commands.texts import text_of
 from record.trace.events import FOLDER_KEPT, TREE_CHANGES
 from record.trace.lives import Life
 

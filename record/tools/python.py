@@ -9,15 +9,17 @@ import re
 from typing import Dict, Iterator, List, Mapping, Optional, Sequence, Set, Tuple
 
 from record import machine
-from record.missing.looked import BYTE_CODE
-from record.tools import pyages, pynames, pystart, shelltext
+from record.commands import shelltext
+from record.commands.texts import text_of
+from record.tools import pyages, pynames, pystart
 from record.tools.makedirs import settle_made
-from record.tools.texts import text_of
 from record.trace.events import ABSENT, AGE_SEEN, LISTED, MADE_QUIETLY, MAKER_SEEN, READ, SEEN, STRICT, WAY_ABSENT
+from record.trace.lists import IMPORTED
 from record.trace.lives import Life
 
 PYTHON = re.compile(r"(?:.*/)?python[\d.]*$")
 CACHE = "__pycache__"
+BYTE_CODE = re.compile(r"(.*/)__pycache__/([^/.]+)\.[^/]*$", re.S)
 LISTS = re.compile(r"listdir|scandir|glob|walk|iterdir|\bPath\b|pathlib|\bexec(?:file)?\b|\beval\b|__import__|importlib|pkgutil|runpy|copytree|rmtree|archive|zip|tarfile"
                    r"|filecmp|mailbox|tabnanny|modulefinder|pydoc|lib2to3|addsitedir|logging.handlers|compileall|unittest|pytest|setuptools|distutils|pkg_resources|metadata|ctypes|\bstat\b|getmtime"
                    r"|pickle|marshal|shelve|timeit|doctest|zoneinfo|codeop|Interactive|\bvars\b|__dict__|__builtins__|getattr\(\s*(?:os|posix|sys)\b")
@@ -26,7 +28,7 @@ PACKAGES = re.compile(r"/(?:site|dist)-packages/(?!_distutils_hack/|apport_pytho
 TEXTS = (".py", ".pyc", ".so", ".zip", ".egg", ".whl", ".pyz")  # how the names of files end that modules may come from
 OPTIONS, VALUED = re.compile(r"-[bBdEhiIOPqRsSuvVx]*([cm])"), ("-W", "-X", "--check-hash-based-pycs")  # how `-c` and `-m` are given; options with a value of their own
 QUIET = ("base64", "calendar", "gzip", "json.tool", "py_compile", "tokenize", "uuid")  # modules of Python itself that list no folder where `-m` runs them
-MODULES = ("*.py", "*.pyc", "*.so", "*.pth", "*/")  # what an import, or the start of Python, looks for in a list; the last is any folder
+MODULES = ("*.py", "*.pyc", "*.so", "*.pth", IMPORTED)  # what an import, or the start of Python, looks for in a list
 
 
 def is_python(life: Life) -> bool:

@@ -9,8 +9,8 @@ import re
 from typing import Dict, Iterable, List, NamedTuple, Optional, Sequence, Set, Tuple
 
 from record import machine
+from record.commands import shelltext
 from record.make.words import Words
-from record.tools import shelltext
 from record.tools.accounted import accounted, may_be_read
 from record.tools.shellcut import UNSET, Unread
 from record.tools.shellvalues import Asked, Values, parts_in, parts_of

@@ -11,13 +11,13 @@ from itertools import product
 from typing import Callable, FrozenSet, Iterable, Iterator, List, NamedTuple, Optional, Set, Tuple, Type
 
 from record import machine
-from record.tools import shelltext
+from record.commands import shelltext
+from record.commands.system import OF_SYSTEM
 from record.tools.scriptcut import DEFAULT
 from record.tools.shellcut import UNSET, Cutter, Piece, Unread
 from record.tools.shellwords import HIDES, RESERVED, Reader, Script, Setting, Word
 from record.trace.events import READ
 from record.trace.lives import Life
-from record.trace.system import OF_SYSTEM
 
 MAGIC = re.compile(r"[*?\[]")
 NAMES = re.compile(r"[*?\[{~]")

@@ -11,10 +11,10 @@ from functools import lru_cache
 from typing import List
 
 from record import machine
+from record.commands.system import OF_SYSTEM
 from record.tools.modules import parts_of
 from record.trace.events import LISTED
 from record.trace.lives import Life
-from record.trace.system import OF_SYSTEM
 
 # Those of Lua and of XeTeX list folders for more: by a function of Lua, or for fonts.
 ENGINES = re.compile(r"e?tex|(?:pdf|e?p)?(?:la)?tex|pdfetex|e?up(?:la)?tex|bibtex8?|[pu]+bibtex|dvips|x?dvipdfmx?|mf|mpost|makeindex")

@@ -8,7 +8,8 @@ import os
 import re
 from typing import Callable, Dict, Iterable, List, Tuple
 
-from record.tools import listed, shellages, shelltext
+from record.commands import shellages, shelltext
+from record.commands.system import SETTINGS, TEMPORARY
 from record.trace.arguments import TEXT_END, Opening, opening, spelled
 from record.trace.classes import SHARING
 from record.trace.events import (
@@ -22,7 +23,6 @@ from record.trace.proc import plain_path
 from record.trace.replay import DEVICES
 from record.trace.started import Started
 from record.trace.strace import BARE, MAKES_PROCESS, Call, first_text, folders, texts, unescape
-from record.trace.system import SETTINGS, TEMPORARY
 
 # Calls by what they do to the name that is their first path.
 LOOKS = {"stat", "lstat", "access", "getxattr", "lgetxattr", "listxattr", "llistxattr", "statfs", "newfstatat",
@@ -257,7 +257,7 @@ class Calls(Started):
             self.put(life, AGE_SEEN if self.ages(life) else AGE_UNKNOWN, found.path)
 
     def on_list(self, life: Life, call: Call, ok: bool) -> None:
-        """A folder is listed: the event says for which names (record/tools/listed.py), and whether their order counts. Make remembers what it lists."""
+        """A folder is listed: the event says for which names, and whether their order counts. Make remembers what it lists."""
         where = folders(call.args)
         if not ok or not where:
             return
@@ -266,9 +266,17 @@ class Calls(Started):
         elif where[0] == "/proc":
             self.watchers.append(" ".join(life.argv)[:100])
         else:
-            self.put_lists(life, where[0], listed.patterns(life, where[0], self.is_open_shell), call.result == 0)
-            if not listed.is_in_order(life, self.is_inside(life.program)):
+            self.put_lists(life, where[0], self.patterns(life, where[0]), call.result == 0)
+            if not self.is_in_order(life):
                 self.put(life, ORDER_SEEN, where[0])
+
+    def patterns(self, life: Life, where: str) -> List[str]:
+        """The patterns of the names that a program lists a folder for: any, where nobody reads its words."""
+        return ["*"]
+
+    def is_in_order(self, life: Life) -> bool:
+        """Whether it does the same in whichever order the folder has its names: nobody knows, where nobody reads its words."""
+        return False
 
     def on_mkdir(self, life: Life, call: Call, ok: bool) -> None:
         """A folder is made, or is there already: with a word where the program shows who was first, else quietly; and its mode."""

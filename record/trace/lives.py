@@ -6,7 +6,7 @@ A process number comes again, so a life is what counts. An event is a kind and a
 from dataclasses import dataclass, field
 from typing import Dict, Iterable, List, NamedTuple, Optional, Set, Tuple
 
-from record.tools.shelltext import Traits
+from record.commands.shelltext import Traits
 
 Key = Tuple[str, str]
 

@@ -4,7 +4,7 @@ import struct
 from typing import List, NamedTuple
 
 from record import machine
-from record.tools.shelltext import first_words
+from record.commands.shelltext import first_words
 
 INTERPRETER = 3  # the kind of a segment that names one
 LONGEST = 4096

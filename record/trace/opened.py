@@ -3,7 +3,7 @@
 import re
 from typing import List, Set
 
-from record.tools import shelltext
+from record.commands import shelltext
 from record.trace.classes import HIDING, LEFT_OUT, SHARING, UNFOLLOWED, named
 from record.trace.events import CREATED, LOCKED, MAKER_SEEN, MODE_GIVEN
 from record.trace.lives import Life

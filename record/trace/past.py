@@ -2,7 +2,6 @@
 
 from typing import Dict, List, Tuple
 
-from record.make.owners import Make
 from record.trace.events import CREATED, FOLDER_REMOVED, MADE, REMOVED
 
 Change = Tuple[int, str, str]  # the place in the trace, the kind of event, the path
@@ -34,12 +33,3 @@ class Past:
             self.now.pop(name, None)
         elif found == "d" or name not in self.now:
             self.now[name] = found
-
-
-def beginning(make: Make, number: int) -> int:
-    """When a round of a make begins: the makefiles are read, and the recipes of the round before have ended."""
-    rounds = make.words.rounds
-    jobs = [job for one in rounds[:number] for job in one.jobs]
-    ended = (life.died for job in jobs if id(job) in make.work for life in make.work[id(job)].lives[:1])
-    start = rounds[number].start
-    return max([make.ready[start] if start < len(make.ready) else make.life.born, *ended])

@@ -7,7 +7,7 @@ from functools import lru_cache
 from typing import List
 
 from record import machine
-from record.tools import shelltext
+from record.commands import shelltext
 from record.trace.events import LISTED
 from record.trace.lives import Life, Listed, Program
 from record.trace.moves import Moves

@@ -5,7 +5,8 @@ import re
 from typing import Dict, List, Set, Tuple
 
 from record import machine
-from record.tools import shellages, shelltext
+from record.commands import shellages, shelltext
+from record.commands.system import OF_SYSTEM
 from record.trace.events import (
     ABSENT, AGE_SEEN, AGE_UNKNOWN, CHANGES, CREATED, ENTERED, FOLDER_REMOVED, MADE, MADE_QUIETLY, MAKE_OPENED, MAKER_SEEN, READ, REMOVED, SEEN,
     TREE_CHANGES, WAY_ABSENT, WRITTEN,
@@ -14,7 +15,6 @@ from record.trace.lives import Act, Life, Listed
 from record.trace.names import Found, Inode, Names
 from record.trace.proc import NUMBER, is_hidden, plain_path
 from record.trace.strace import Begun, Call, Event, Unread
-from record.trace.system import OF_SYSTEM
 
 DEVICES = re.compile(r"/dev/(null|zero|full|u?random|tty\w*|ptmx|console|std(in|out|err)|fd(/.*)?|pts(/.*)?)$|/proc(/|$)|/sys(/|$)")
 

@@ -5,17 +5,9 @@ The model of names takes these for two. So a build that uses both spellings of a
 
 import os
 import unicodedata
-from typing import TYPE_CHECKING, Dict, Iterable, Iterator, List, Set, Tuple
+from typing import Iterable
 
 from record import machine
-from record.trace.events import TREE_CHANGES
-
-if TYPE_CHECKING:
-    from record.make.owners import Make
-    from record.trace.lives import Life
-    from record.trace.names import Names
-
-TWO = "this file system takes %s and %s for one file, and the build uses both names: write one of them everywhere"
 
 
 def other_case(name: str) -> str:
@@ -43,33 +35,3 @@ def has_two_names(folder: str) -> bool:
 def key_of(path: str) -> str:
     """What all spellings of a path have in common."""
     return unicodedata.normalize("NFC", path).casefold()
-
-
-def used(lives: "Iterable[Life]") -> Iterator[Tuple[str, str]]:
-    """What processes did, to which path."""
-    return ((kind, path.partition("\0")[0].rstrip("/")) for life in lives for kind, path in life.events)
-
-
-def made(makes: "Iterable[Make]", names: "Names") -> Iterator[str]:
-    """The targets with a recipe that makes considered."""
-    for make in makes:
-        for one in make.words.rounds:
-            recipes = one.base.recipes if one.base else {}
-            yield from (names.find(make.folder, name, True).path for name in one.nodes if name in recipes)
-
-
-def twice(names: "Names", lives: "Iterable[Life]", makes: "Iterable[Make]") -> List[str]:
-    """The holes of a build in such a file system: files with two spellings that it changes or makes."""
-    if not names.folds:
-        return []
-    spellings: Dict[str, Set[str]] = {}
-    for path in names.before:
-        spellings.setdefault(key_of(path), set()).add(path)
-    changed: Set[str] = set()
-    for kind, path in used(lives):
-        spellings.setdefault(key_of(path), set()).add(path)
-        changed |= {key_of(path)} if kind in TREE_CHANGES else set()
-    for path in made(makes, names):
-        spellings.setdefault(key_of(path), set()).add(path)
-        changed.add(key_of(path))
-    return [TWO % tuple(sorted(spellings[key])[:2]) for key in sorted(changed) if len(spellings[key]) > 1]

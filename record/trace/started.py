@@ -5,9 +5,9 @@ import re
 from typing import List
 
 from record import machine
-from record.make.copies import is_other_make
-from record.tools import shellages, shelltext
-from record.tools.computed import runs_unseen
+from record.commands import shellages, shelltext
+from record.commands.computed import runs_unseen
+from record.commands.copies import is_other_make
 from record.trace.events import AGE_SEEN, AGE_UNKNOWN, READ
 from record.trace.lives import Life
 from record.trace.loader import interpreter_words

@@ -45,7 +45,7 @@ FOUND_GUARDS: List[Guard] = [
     Guard("second expansions: what they read", "make/considered.py", "found |= self.expanded(node) | ", "found |= ", found("second_expansion_that_reads"), YES),
     Guard("second expansions: what they list", "make/considered.py", '            elif kind in (LISTED, MAKE_LISTED):\n', "            elif False:\n", found("second_expansion_to_a_pattern"), YES),
     Guard("second expansions: not what recipes read", "make/considered.py", "return min([*after, ", "return min([", found("second_expansion_beside_what_recipes_read"), FALSE_RACE),
-    Guard("orders of names: copies", "tools/shelltext.py", 'SORTERS, NAMING = (', 'SORTERS, NAMING = ("cp", ', found("order_of_a_folder_that_is_copied"), UNSAID),
+    Guard("orders of names: copies", "commands/shelltext.py", 'SORTERS, NAMING = (', 'SORTERS, NAMING = ("cp", ', found("order_of_a_folder_that_is_copied"), UNSAID),
     Guard("orders of names: moves", "make/unfiled.py", "for one in places_of(path, moves) for names", "for one in [path] for names", found("order_of_a_folder_that_is_moved"), UNSAID),
     Guard("rows of some targets", "make/considered.py", ' or not base.prerequisites.get(".NOTPARALLEL"))', " or True)", "test_found.Rows.test_a_row_of_some_targets"),
     Guard("folders that are moved: who is in them", "trace/moves.py", "one.folder = new if one.folder == old else one.folder", "pass", "test_found.Moved.test_a_process_goes_with_its_folder"),

@@ -59,7 +59,7 @@ MISSING_GUARDS: List[Guard] = [
     Guard("missing: lists in recipes", "missing/turned.py", "events.update(self.expanded_lists(build, known, task))", "pass", tree("a list that a recipe is expanded by")),
     Guard("missing: names in recipes", "missing/turned.py", 'yield ("S" if self.was_there(path, born) else "N", path), born', "pass", tree("a name that a recipe is expanded by")),
     Guard("missing: processes in recipes", "missing/turned.py", "if event in seen} if acts is not None", "if False} if acts is not None", tree("a process that a recipe is expanded by")),
-    Guard("missing: what is removed", "tools/shelltext.py", "shell_text(argv).split() if REMOVES.match(shell_text(argv)) else []", "[]", one_later("quiet", "folders that are cleaned")),
+    Guard("missing: what is removed", "commands/shelltext.py", "shell_text(argv).split() if REMOVES.match(shell_text(argv)) else []", "[]", one_later("quiet", "folders that are cleaned")),
     Guard("missing: modules", "missing/turned.py", 'MODULES = (".py", ".pyc", ".so")', 'MODULES = (".so",)', tree("a module that a later recipe makes")),
     Guard("missing: phony recipes", "missing/inputs.py", "if asks(build) or id(build) in turned.reads:", "if asks(build):", later("phony_recipes_too")),
     Guard("missing: what nobody orders", "missing/inputs.py", "              for path, who in turned.holes.items()]", "              for path, who in ()]", one_later("hole", "not called")),

@@ -92,10 +92,10 @@ OWN: List[Guard] = [
     Guard("ninja's own: depfiles", "ninja/build.py", 'if found and edge.value("deps") == "gcc":', "if False:", ninja("dep-file-that-another-writes"), YES),
     Guard("ninja's own: folders of outputs", "ninja/build.py", "            self.add_folder(work, folder, begin)\n            if edge", "            if edge", ninja("folder-of-another"), YES),
     Guard("ninja's own: its folders are made quietly", "ninja/build.py", 'work.add("T", above, place)', 'work.add("M", above, place)', ninja("folder-of-outputs"), "0 != 2"),
-    Guard("listings of interpreters count", "trace/calls.py", "listed.patterns(life, where[0], self.is_open_shell), call", "[] if shelltext.is_interpreter(life.argv) else listed.patterns(life, where[0], self.is_open_shell), call", ninja("listing-by-python"), YES),
-    Guard("listings of interpreters count, of their own folder", "trace/calls.py", "listed.patterns(life, where[0], self.is_open_shell), call", "[] if life.cut or 'list.py' in life.argv else listed.patterns(life, where[0], self.is_open_shell), call", ninja("listing-by-python-of-its-folder"), YES),
-    Guard("listings of interpreters count for make", "trace/calls.py", "listed.patterns(life, where[0], self.is_open_shell), call", "[] if shelltext.is_interpreter(life.argv) else listed.patterns(life, where[0], self.is_open_shell), call", case("python-lists"), YES),
-    Guard("listings of interpreters count for make, of their own folder", "trace/calls.py", "listed.patterns(life, where[0], self.is_open_shell), call", "[] if shelltext.is_interpreter(life.argv) else listed.patterns(life, where[0], self.is_open_shell), call", case("python-lists-its-folder"), YES),
+    Guard("listings of interpreters count", "trace/calls.py", "self.patterns(life, where[0]), call", "[] if shelltext.is_interpreter(life.argv) else self.patterns(life, where[0]), call", ninja("listing-by-python"), YES),
+    Guard("listings of interpreters count, of their own folder", "trace/calls.py", "self.patterns(life, where[0]), call", "[] if life.cut or 'list.py' in life.argv else self.patterns(life, where[0]), call", ninja("listing-by-python-of-its-folder"), YES),
+    Guard("listings of interpreters count for make", "trace/calls.py", "self.patterns(life, where[0]), call", "[] if shelltext.is_interpreter(life.argv) else self.patterns(life, where[0]), call", case("python-lists"), YES),
+    Guard("listings of interpreters count for make, of their own folder", "trace/calls.py", "self.patterns(life, where[0]), call", "[] if shelltext.is_interpreter(life.argv) else self.patterns(life, where[0]), call", case("python-lists-its-folder"), YES),
 ]
 LATER: List[Guard] = [
     Guard("ninja, warm: what generates for others", "warm.py", "if not (edge.is_generator and edge.number in below) for", "if not edge.is_generator for", ninja("warm-generator-that-is-up-to-date"), LOST_HOLE),

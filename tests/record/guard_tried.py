@@ -16,7 +16,7 @@ def text(name: str) -> str:
     return "test_tried.Texts.test_" + name
 
 
-TEXT, AGES, COMPUTED, TRACED = "tools/shelltext.py", "tools/shellages.py", "tools/computed.py", "tools/traced.py"
+TEXT, AGES, COMPUTED, TRACED = "commands/shelltext.py", "commands/shellages.py", "commands/computed.py", "commands/traced.py"
 
 TRIED_GUARDS: List[Guard] = [
     Guard("tried: words of a function on the next line", "make/references.py", 'CONTINUED.sub(" ", text)', "text", tried("eval_whose_words_stand_on_the_next_line"), YES, SHOWN),
@@ -44,16 +44,16 @@ TRIED_GUARDS: List[Guard] = [
     Guard("tried: ages of the folder of a script", "trace/calls.py", "        if life.compares_here:\n            return False\n", "", tried("age_of_a_folder_in_a_script"), YES),
     Guard("tried: ages of the folder in a part of a script", "trace/replay.py", "parent.taken, parent.compares_here, parent.looks", "parent.taken, False, parent.looks", tried("age_of_a_folder_in_a_part_of_a_script"), YES),
     Guard("tried: ages of the folder that a script has just begun in", "trace/started.py", "life.looks = (), False, 0", "life.looks = (), True, 0", tried("ages_of_other_files_in_a_script"), FALSE_RACE),
-    Guard("tried: ages of the folder in a text that nobody reads", "tools/shellages.py", "EVAL.search(text) is not None if text else not script or", "False if text else bool(script) and", tried("age_of_a_folder_in_a_text_from_a_pipe"), YES),
-    Guard("tried: ages of the folder in a text that eval gets", "tools/shellages.py", "EVAL.search(text) is not None if text else", "False if text else", tried("age_of_a_folder_in_a_text_that_eval_gets"), YES),
+    Guard("tried: ages of the folder in a text that nobody reads", "commands/shellages.py", "EVAL.search(text) is not None if text else not script or", "False if text else bool(script) and", tried("age_of_a_folder_in_a_text_from_a_pipe"), YES),
+    Guard("tried: ages of the folder in a text that eval gets", "commands/shellages.py", "EVAL.search(text) is not None if text else", "False if text else", tried("age_of_a_folder_in_a_text_that_eval_gets"), YES),
     Guard("tried: looks of a shell that starts", "trace/calls.py", 'is_begin = path == "." and life.looks == 0 and (life.last_look == found.path or self.is_place(life, life.last_look))', "is_begin = False", tried("other_text_from_a_pipe"), FALSE_RACE),
     Guard("tried: a shell that starts without a folder", "trace/calls.py", " and (life.last_look == found.path or self.is_place(life, life.last_look))", "", tried("age_of_a_folder_for_a_shell_without_one"), YES),
     Guard("tried: a shell without a folder that looks at another name", "trace/calls.py", "(life.last_look == found.path or self.is_place(life, life.last_look))", "life.last_look", tried("age_of_a_folder_for_a_shell_that_looks_at_another_first"), YES),
     Guard("tried: a shell in another folder than PWD says", "trace/calls.py", " or self.is_place(life, life.last_look)", "", tried("text_that_eval_gets_in_a_make_inside"), FALSE_RACE),
-    Guard("tried: input that is gone", "tools/shellages.py", " and not is_handed_on(path, list(argv), folder)", "", tried("input_that_is_gone"), FALSE_RACE),
-    Guard("tried: input that a shell reads itself", "tools/shellages.py", " and not READS_INPUT.search(text)", "", tried("input_that_is_gone_and_was_read"), YES),
-    Guard("tried: scripts that are gone", "tools/shellages.py", "return is_input(path, text) and", "return", tried("script_that_is_gone"), YES),
-    Guard("tried: remarks of a script", "tools/shellages.py", "COMMENT.sub(\"\", contents(os.path.join(folder, script_of(argv))))", "contents(os.path.join(folder, script_of(argv)))", tried("input_that_is_gone"), FALSE_RACE),
+    Guard("tried: input that is gone", "commands/shellages.py", " and not is_handed_on(path, list(argv), folder)", "", tried("input_that_is_gone"), FALSE_RACE),
+    Guard("tried: input that a shell reads itself", "commands/shellages.py", " and not READS_INPUT.search(text)", "", tried("input_that_is_gone_and_was_read"), YES),
+    Guard("tried: scripts that are gone", "commands/shellages.py", "return is_input(path, text) and", "return", tried("script_that_is_gone"), YES),
+    Guard("tried: remarks of a script", "commands/shellages.py", "COMMENT.sub(\"\", contents(os.path.join(folder, script_of(argv))))", "contents(os.path.join(folder, script_of(argv)))", tried("input_that_is_gone"), FALSE_RACE),
     Guard("tried: programs that bash searches for", "trace/started.py", "            life.events.pop((AGE_SEEN, life.sought), None)\n", "            pass\n", tried("programs_that_bash_searches_for"), FALSE_RACE),
     Guard("tried: the same in a script with ages", "trace/started.py", "            life.events.pop((AGE_SEEN, life.sought), None)\n", "            pass\n",
           tried("programs_that_bash_searches_for_in_a_script_with_ages"), FALSE_RACE),

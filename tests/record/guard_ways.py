@@ -22,7 +22,7 @@ WAY_GUARDS: List[Guard] = [
           ways("folder_by_way_of_which_nothing_was_there"), YES),
     Guard("ways: the number of a descriptor", "trace/replay.py", "        if NUMBER.match(path):\n            self.holes.append", "        if False:\n            self.holes.append",
           ways("folder_by_the_number_of_a_descriptor_that_a_path_leaves_again"), LOST_HOLE),
-    Guard("zsh: ages", "tools/shellages.py", r"\bzstat\b|\bzsh/stat\b|", "", "test_ways.Zsh.test_ages"),
+    Guard("zsh: ages", "commands/shellages.py", r"\bzstat\b|\bzsh/stat\b|", "", "test_ways.Zsh.test_ages"),
     Guard("zsh: the order of a folder", "tools/listed.py", '"oN" not in text', "True or text", "test_ways.Zsh.test_orders", "True"),
     Guard("names of programs: one of the project", "tools/listed.py", "    if is_own and not life.traits().is_shell or not", "    if not", ways("own_program_that_is_called_ls"), UNSAID),
 ]

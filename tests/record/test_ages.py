@@ -3,7 +3,7 @@
 import unittest
 
 import support  # noqa: F401
-from record.tools.shellages import compares_ages
+from record.commands.shellages import compares_ages
 
 COMPARE = ("test x -nt y", "[ x -ot y ]", "find . -newer y", "find . -mtime 1", "cp -u x y", "cp -a --update x y", "mv -u x y", "cp --update=older x y", "mv --update=none -u x y", "rsync -au x y",
            "tar -uf x.tar y", "tar uf x.tar y", "tar --newer-mtime=x -cf y.tar z", "find . '-mtime' -1", "tar --newer=x -cf y.tar z", "ls -t", "ls -l x", "ls x -lt", "stat -c %y x", "stat --format=%Y x",

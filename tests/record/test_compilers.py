@@ -8,10 +8,10 @@ from typing import Dict, List, Set, Tuple
 from unittest import mock
 
 import support  # noqa: F401
+from record.commands.shelltext import Traits
 from record.tools.jvm import settle_machines
 from record.tools.listed import patterns
 from record.tools.modules import contents, holds, is_compiler, settle_modules, without_comments
-from record.tools.shelltext import Traits
 from record.trace.lives import Life
 from test_replay import TOP, events_of, lives_of, played
 

@@ -7,11 +7,11 @@ import unittest
 from typing import Dict
 
 import support
+from record.commands.shelltext import glob_words, takes_in
+from record.commands.system import OF_SYSTEM
 from record.make.options import speak_english
 from record.make.words import read_words
-from record.tools.shelltext import glob_words, takes_in
 from record.trace.processes import lends_rights
-from record.trace.system import OF_SYSTEM
 from test_output import Output
 from test_small import Small, test_of
 

@@ -9,11 +9,11 @@ from typing import Dict
 
 import support
 import test_output
+from record.commands.shellages import asks_reads
+from record.commands.texts import is_plain, text_of
 from record.make.memory import asked_by
 from record.make.owners import Make
 from record.make.words import Words
-from record.tools.shellages import asks_reads
-from record.tools.texts import is_plain, text_of
 from record.trace.lives import Act, Life
 from record.trace.names import Names
 from record.trace.skips import Skip

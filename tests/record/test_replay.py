@@ -4,7 +4,7 @@ import unittest
 from typing import List, Set, Tuple
 
 import support  # noqa: F401
-from record.trace.calls import Calls
+from record.tools.listed import Calls
 from record.trace.lives import Life
 from record.trace.names import Names
 from record.trace.strace import read_trace

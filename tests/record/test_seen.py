@@ -5,7 +5,7 @@ import unittest
 from typing import Dict, List, Set, Tuple
 
 import support
-from record.tools import shellages, shelltext
+from record.commands import shellages, shelltext
 from test_replay import TOP, events_of, lives_of, played
 from test_small import COMMANDS, Small, test_of
 

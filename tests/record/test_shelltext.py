@@ -5,7 +5,7 @@ import unittest
 from typing import List
 
 import support
-from record.tools import shellages, shelltext
+from record.commands import shellages, shelltext
 
 
 def sh(text: str) -> List[str]:

@@ -6,9 +6,9 @@ from typing import Dict
 
 import support
 from record.clock import clock
-from record.tools.computed import tests_unseen
-from record.tools.shellages import may_show_ages
-from record.tools.shelltext import glob_words, names_here
+from record.commands.computed import tests_unseen
+from record.commands.shellages import may_show_ages
+from record.commands.shelltext import glob_words, names_here
 from test_small import Small, test_of
 
 # A recipe that lists names, and a later one that makes another name.

@@ -4,8 +4,8 @@ import os
 import unittest
 from typing import Dict
 
+from record.commands.shellages import compares_ages
 from record.tools.listed import is_in_order
-from record.tools.shellages import compares_ages
 from record.trace.lives import Life
 from test_small import Small, test_of
 

@@ -4,7 +4,7 @@ import os
 import re
 from typing import List
 
-from record.tools.shelltext import contents, shell_words, sourced
+from record.commands.shelltext import contents, shell_words, sourced
 
 # A command that a macro holds, or another program prints: `$command`, `then "$1"`, `$(which cc)`, `eval`. (`$((` begins a number.)
 COMMAND = re.compile(r"(?:^|[;&|({\n`!)]|\b(?:then|do|else|elif|if|while|until|time|command|builtin)\b)[ \t]*[\"']?\$(?!\(\()|\beval\b")

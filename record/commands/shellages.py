@@ -5,9 +5,9 @@ import re
 from functools import lru_cache
 from typing import List, Optional, Tuple
 
-from record.tools.shelltext import FORMAT_OF_STAT, KEPT, LARGE, SHELLS, TAKES_IN, base_name, contents, is_input, is_interpreter, script_of, shell_words, sourced
-from record.tools.texts import script_text, text_of
-from record.trace.system import OF_SYSTEM
+from record.commands.shelltext import FORMAT_OF_STAT, KEPT, LARGE, SHELLS, TAKES_IN, base_name, contents, is_input, is_interpreter, script_of, shell_words, sourced
+from record.commands.system import OF_SYSTEM
+from record.commands.texts import script_text, text_of
 
 # Words of a shell's text, or of a program, that ask when a file was read last.
 READ_TIME_WORDS = re.compile(r"""

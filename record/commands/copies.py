@@ -5,7 +5,7 @@ import os
 from functools import lru_cache
 
 from record import machine
-from record.tools.shelltext import KEPT, first_words
+from record.commands.shelltext import KEPT, first_words
 
 MAKES = ("make", "gmake", "remake")
 

@@ -7,9 +7,9 @@ from functools import lru_cache
 from typing import Iterable, List, Optional, Set, Tuple
 
 from record import machine
-from record.tools.golang import output_folder
-from record.tools.texts import script_text, text_of
-from record.trace.system import OF_SYSTEM
+from record.commands.golang import output_folder
+from record.commands.system import OF_SYSTEM
+from record.commands.texts import script_text, text_of
 
 KEPT, LARGE = 4096, 1 << 22  # how many files are remembered; how much of a script is read
 # Programs by their names.

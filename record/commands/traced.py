@@ -3,7 +3,7 @@
 import re
 from typing import List
 
-from record.tools.shelltext import KEPT_ERRORS, NOWHERE, shell_text
+from record.commands.shelltext import KEPT_ERRORS, NOWHERE, shell_text
 
 TRACES = re.compile(r"\bset\s+(?:-\S+\s+)*-(?:\w*x|o\s+xtrace)|\bxtrace\b")  # it prints them where its errors go
 SEES = re.compile(r"BASH_XTRACEFD|\btrap\b[^\n]*\bDEBUG\b|\$\{?_\b(?!\w)")  # it prints them elsewhere, or its text asks for the last one

@@ -1,0 +1,1 @@
+"""What command lines say, and the texts of scripts that they name."""
