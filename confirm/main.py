@@ -23,7 +23,7 @@ from record.folder import NotWhole, reading
 from record.judge import find_race, no_race
 from record.main import SERIAL_FAILED, Missing
 from record.pages import after_no_verdict
-from record.tasks import shown
+from record.build.text import shown
 from report.asking import judge
 from report.model import BadRecord, Report, read_json
 from report.plain import counted

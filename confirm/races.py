@@ -10,7 +10,7 @@ from dataclasses import dataclass
 from pathlib import Path
 from typing import Any
 
-from record.tasks import file_of
+from record.build.text import file_of
 from report.model import Race, Report, read_json
 
 SIDES = ("first", "second")

@@ -6,9 +6,9 @@ from functools import lru_cache
 from itertools import combinations
 from typing import Dict, Iterator, List, Optional, Set, Tuple
 
-from record.assumptions import Assumptions
+from record.build.assumptions import Assumptions
+from record.build.work import Work
 from record.commands import shelltext
-from record.make.owners import Work
 from record.tools.background import ALL, AT_ONCE, Background, background
 from record.trace.lives import Life, Program, program_at
 

@@ -6,7 +6,7 @@ from itertools import combinations
 from typing import Dict, Iterator, List, Optional, Pattern, Set, Tuple
 
 from record import machine
-from record.make.graph import Build
+from record.build.tasks import Build
 
 DAYS = 3  # how long a recording may have taken
 DAY = 86400

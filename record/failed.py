@@ -7,8 +7,9 @@ import os
 from dataclasses import dataclass
 from typing import Dict, Iterator, List, Optional, Sequence, Set, Tuple
 
+from record.build.work import Work
 from record.make.database import Base
-from record.make.owners import Make, Work
+from record.make.owners import Make
 from record.make.words import Job, Round
 from record.ninja.manifest import Edge
 from record.ninja.runs import Job as NinjaJob

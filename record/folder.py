@@ -12,13 +12,12 @@ from pathlib import Path
 from typing import TYPE_CHECKING, Any, Dict, Iterator, List, Optional
 
 from record import VERSION
+from record.build.text import labels_of, lines_of, relative, shown
 from record.entry import reason
-from record.places import Places
-from record.tasks import labels_of, lines_of, relative, shown
 
 if TYPE_CHECKING:
-    from record.assumptions import Assumptions
-    from record.make.graph import Build
+    from record.build.assumptions import Assumptions
+    from record.build.tasks import Build
 
 ROOMS = "/tmp" if os.path.isdir("/tmp") else None  # where temporary folders are made
 NO_ROOM = "no folder for temporary files lets programs run (%s: they are mounted with noexec, or not for you): name one by TMPDIR that is not in the project"
@@ -161,7 +160,7 @@ def replace(path: Path, text: str) -> None:
 
 def accept_warm(folder: Path, record: Dict[str, Any]) -> None:
     """Takes for granted that builds start from the tree of a record that is there."""
-    from record.assumptions import TEXTS
+    from record.build.assumptions import TEXTS
 
     warm = record["warm"]
     record["holes"] = [hole for hole in record["holes"] if not hole.startswith("WARM")]

@@ -5,8 +5,9 @@ from pathlib import Path
 from typing import Dict, Iterator, List, Set
 
 from record import machine
-from record.make.graph import Build, Task
-from record.tasks import relative, shown
+from record.build.tasks import Build, Task
+from record.build.text import relative, shown
+from record.make.graph import MakeBuild
 from record.trace.events import CREATED, REMOVED, WRITTEN
 from record.trace.names import Names
 
@@ -20,7 +21,7 @@ def listing(build: Build, names: Names, out: str) -> List[str]:
     """The files, folders and links from before the build, and what make found elsewhere; the record is none of them."""
     root = build.make.folder
     found = {path for path in names.before if path != root and not is_below(path, out)}
-    for node in build.graph.nodes.values():
+    for node in build.graph.nodes.values() if isinstance(build, MakeBuild) else ():
         is_foreign = not any(is_below(node.path, top) for top in names.tops)
         if is_foreign and not node.jobs and not node.phony and machine.lexists(node.path):
             found.add(node.path)

@@ -1,14 +1,14 @@
 """What a whole build takes for granted, found when the words of its makes and the lives of its processes are known."""
 
-import os
 import re
 from typing import Iterator, List
 
-from record.assumptions import Assumptions
 from record.at_once import CHANGES, at_once_in, is_left
+from record.build.assumptions import Assumptions
+from record.build.work import Work
 from record.cleaned import Cleaned
 from record.commands import shelltext
-from record.make.owners import Make, Owners, Work
+from record.make.owners import Make, Owners
 from record.make.words import makefiles
 from record.ninja.runs import Ninja
 from record.trace.lives import Life

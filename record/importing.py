@@ -12,7 +12,8 @@ from pathlib import Path
 from typing import List, Set
 
 from record import machine
-from record.assumptions import Assumptions
+from record.build.assumptions import Assumptions
+from record.build.tasks import Build
 from record.cleaned import Cleaned
 from record.clock import named_by_time
 from record.configured import find_configured
@@ -21,17 +22,17 @@ from record.failed import explained, failures, lacked, tried
 from record.folder import Record, write_record
 from record.footprints import write_footprints
 from record.granted import add_granted, idle_targets, named_by_ninja
-from record.make.build import Builder
+from record.make.build import MakeBuilder as Builder
 from record.make.cover import copy_of, way_to_cover
 from record.make.elsewhere import Elsewhere
-from record.make.graph import Build
 from record.make.owners import Owners, beginning
 from record.make.spellings import twice
 from record.make.unasked import unasked
 from record.make.words import read_logs
 from record.missing.inputs import write_missing
-from record.ninja.builds import add_granted_by_ninjas, beside, find_ninjas, import_ninjas
 from record.ninja.builds import versions as ninja_versions
+from record.ninja.builds import add_granted_by_ninjas, beside, find_ninjas, import_ninjas
+from record.ninja.log import Kept
 from record.ninja.runs import Ninja
 from record.progress import watched
 from record.tools.caches import settle_caches

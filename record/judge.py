@@ -9,8 +9,8 @@ from dataclasses import dataclass, field
 from pathlib import Path
 from typing import Dict, List, Optional, Set, Tuple
 
+from record.build.text import OWN_NAME, shown
 from record.pages import TOP, page
-from record.tasks import OWN_NAME, shown
 
 PLACES = (TOP / "record" / "race", TOP / "race", TOP / "crates" / "race" / "out" / "race", TOP / "out" / "race")  # beside the script, in the checkout
 FAULT = re.compile(r"refused (F\d+)\b")

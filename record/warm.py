@@ -5,10 +5,11 @@ import re
 from typing import Dict, Iterator, List, Set
 
 from record import machine
+from record.build.tasks import Build, Node, Task
 from record.cleaned import Cleaned
 from record.commands.shelltext import SHELLS
 from record.commands.system import OF_SYSTEM
-from record.make.graph import Build, Graph, Node, Task
+from record.make.graph import Graph, MakeBuild
 from record.make.inner import DEFAULTS
 from record.make.owners import Make
 from record.missing.looked import is_below
@@ -30,12 +31,12 @@ def warm_names(builds: List[Build], ninjas: List[Ninja], names: Names, cleaned: 
     left = {path for build in builds for path in left_folders(build, builds, names) if not cleaned.is_gone(path, build.make.life)}
     beyond: Set[str] = set()
     for build in builds:
-        if build.tool == "make" and build.stage == "goals":
+        if isinstance(build, MakeBuild) and build.stage == "goals":
             nodes = [node for node in build.graph.nodes.values() if is_made(build, node, builds) and not cleaned.is_gone(node.path, build.make.life)]
             found.update(node.path for node in nodes if not is_new_link(build, node, names))
             beyond.update(node.path for node in nodes if not (node.jobs or node.must) and is_beyond(node.path, names))
     for build in builds:
-        if build.tool == "make" and build.stage == "makefiles":
+        if isinstance(build, MakeBuild) and build.stage == "makefiles":
             found.difference_update(node.path for node in build.graph.nodes.values())
     made = {path for ninja in ninjas for path in made_by(ninja, names)}
     for ninja in ninjas:
@@ -46,7 +47,7 @@ def warm_names(builds: List[Build], ninjas: List[Ninja], names: Names, cleaned: 
     return sorted({*left, *(path for path in found if names.before.get(path) in ("f", "l")), *beyond & found})
 
 
-def is_made(build: Build, node: Node, builds: List[Build]) -> bool:
+def is_made(build: MakeBuild, node: Node, builds: List[Build]) -> bool:
     """Whether a rule makes a target, so that somebody may build without it. Not where no recipe touched it, and its own does nothing, or it is the makefile
     that make begins with."""
     if not node.has_recipe or node.phony:
@@ -55,14 +56,14 @@ def is_made(build: Build, node: Node, builds: List[Build]) -> bool:
     return not (is_kept and (does_nothing(build, node) or is_beginning(build, node)))
 
 
-def does_nothing(build: Build, node: Node) -> bool:
+def does_nothing(build: MakeBuild, node: Node) -> bool:
     """Whether the recipe of a target is the word `true` alone, or less, as for a file that the project has."""
     base = build.graph.base
     shell = base.values.get("SHELL", "") if "SHELL" not in base.own else ""
     return OF_SYSTEM.match(shell) is not None and os.path.basename(shell) in SHELLS and all(RUNS_NOTHING.fullmatch(line) for line in base.recipes.get(node.name, []))
 
 
-def is_beginning(build: Build, node: Node) -> bool:
+def is_beginning(build: MakeBuild, node: Node) -> bool:
     """Whether a target is the makefile that make finds by itself when it begins, and no recipe runs that make, which might have made it: without it there is
     no such build, and where it is older than what it is made of, it is made again before all goals."""
     first = [name for start in build.make.words.read[:1] for name in start[:1]]
@@ -100,8 +101,9 @@ def is_beyond(path: str, names: Names) -> bool:
 def left_folders(build: Build, builds: List[Build], names: Names) -> Iterator[str]:
     """Targets that are folders in which there were no files before the build: an earlier one may have left them. Not those whose recipe
     makes the folder and does nothing else, where all who use the folder wait for it."""
-    nodes = build.graph.nodes.values() if build.tool == "make" and build.stage == "goals" else ()
-    for node in nodes:
+    if not isinstance(build, MakeBuild) or build.stage != "goals":
+        return
+    for node in build.graph.nodes.values():
         if node.has_recipe and not node.phony and names.before.get(node.path) == "d" and not any(kind != "d" and is_below(path, node.path) for path, kind in names.before.items()):
             lines = [MAKES_FOLDER.fullmatch(line) for line in build.graph.base.recipes.get(node.name, [])]
             is_plain = bool(lines) and all(line and line.group(1) in (None, node.name.rstrip("/")) for line in lines)
@@ -109,7 +111,7 @@ def left_folders(build: Build, builds: List[Build], names: Names) -> Iterator[st
                 yield node.path
 
 
-def early_users(build: Build, builds: List[Build], node: Node) -> Iterator[Task]:
+def early_users(build: MakeBuild, builds: List[Build], node: Node) -> Iterator[Task]:
     """The tasks that use a folder, and do not wait for the rule that makes it."""
     inside = {id(make) for task in build.tasks for work in task.works for make in work.makes}
     for other in builds:
@@ -120,7 +122,7 @@ def early_users(build: Build, builds: List[Build], node: Node) -> Iterator[Task]
                 yield task
 
 
-def is_new_link(build: Build, node: Node, names: Names) -> bool:
+def is_new_link(build: MakeBuild, node: Node, names: Names) -> bool:
     """Whether a target is a link that the build has made: what it leads to may have been there before, and is no target."""
     return is_made_link(names.find(build.folder, build.graph.round.vpath.get(node.name, node.name), False).path, names)
 
@@ -154,7 +156,7 @@ def stand_alone(warm: List[str], builds: List[Build], ninjas: List[Ninja]) -> bo
 
     One make alone built, and each other target with a recipe needs such a target, or is needed by it.
     """
-    goals = [build for build in builds if build.tool == "make" and build.stage == "goals"]
+    goals = [build for build in builds if isinstance(build, MakeBuild) and build.stage == "goals"]
     if ninjas or len(goals) != 1 or len({id(build.make) for build in builds}) != 1:
         return False
     graph, left = goals[0].graph, set(warm)

@@ -9,7 +9,7 @@ from record.fixes import merged
 from record.judge import explained
 from record.judge import judge as ask
 from record.missing.report import Question
-from record.tasks import shown
+from record.build.text import shown
 from report.model import Assumption, BadRecord, Report, read_build, read_json
 
 

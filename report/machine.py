@@ -10,10 +10,10 @@ from urllib.parse import quote
 from report import VERSION
 from record.missing.inputs import Found
 from record.missing.report import Judged, Question
-from record.tasks import shown
-from record.kinds import KINDS
-from report.model import Race, Recipe, Report, Side
-from report.plain import asks, summary
+from record.build.text import shown
+from report.kinds import KINDS
+from report.model import BadRecord, Race, Recipe, Report, Side
+from report.plain import summary
 
 SCHEMA = "https://json.schemastore.org/sarif-2.1.0.json"
 

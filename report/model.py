@@ -19,7 +19,9 @@ from record.judge import Race as Found
 from record.judge import Verdict
 from record.kinds import FORGOTTEN, Kind, kind_of
 from record.missing.report import Question
-from record.report import group_of, name_of, near, rows, spot, verb
+from record.report import verb, without_line
+from record.build.text import file_of
+from report.kinds import Kind, kind_of
 
 # What a path ends with that stands for something else than a file, and for two tasks by their numbers.
 NUMBERS = re.compile(r"(/\d+)+$")

@@ -8,7 +8,8 @@ from pathlib import PurePath
 
 from record.missing.report import missing_text
 from record.report import Colours
-from record.tasks import shown
+from record.build.text import shown
+from report.kinds import FORGOTTEN
 from report.model import Race, Report
 from report.pictures import graph, schedule
 from report.plain import HEADLINES, counted, summary

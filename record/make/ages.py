@@ -4,10 +4,13 @@ import os
 import re
 from functools import lru_cache
 from itertools import combinations
-from typing import TYPE_CHECKING, Dict, Iterator, List, Set, Tuple
+from typing import Dict, Iterator, List, Set, Tuple
 
+from record.build.builder import Builder
+from record.build.work import Work
 from record.commands import shellages, shelltext
-from record.make.owners import Make, Work
+from record.make.owners import Make, makes_of
+from record.make.targets import RoundBuilder
 from record.trace.events import AGE_SEEN, AGE_TAKEN, AGE_UNKNOWN, READ, SEEN, WRITTEN
 from record.trace.lives import Life
 from record.trace.names import Names
@@ -16,11 +19,9 @@ PACKERS = ("tar", "bsdtar", "cpio", "pax", "zip")
 BY_LINKS = re.compile(r"(^| )-?[a-zA-Z]*L[a-zA-Z]*( |$)| --check-s")  # words of make: `-L`
 UPDATES = re.compile(r"-?[a-zA-Z]*u")  # the first word of `ar`, where it takes in newer files alone
 
-if TYPE_CHECKING:
-    from record.make.build import Builder
 
 
-def add_ages(builder: "Builder") -> None:
+def add_ages(builder: RoundBuilder) -> None:
     """Adds a name of its own for each two ages whose order depends on the schedule."""
     build = builder.build
     note_sources(builder)
@@ -37,14 +38,14 @@ def add_ages(builder: "Builder") -> None:
             ages_in_archives(builder, who, work)
 
 
-def works_of(builder: "Builder", at: int) -> List[Tuple[int, Work]]:
+def works_of(builder: Builder, at: int) -> List[Tuple[int, Work]]:
     """What a task ran, and what make itself ran for it, as by `$(shell ..)`, with the task that has that."""
     task = builder.build.tasks[at]
     acts = builder.acts_work(task.node) if builder.build.tool == "make" and task.kind == "recipe" else None
     return [*((at, work) for work in task.works), *([(builder.acts_at.get(task.label, at), acts)] if acts is not None else [])]
 
 
-def note_sources(builder: "Builder") -> None:
+def note_sources(builder: Builder) -> None:
     """Which names take over the age of which others: a file that is moved or linked, and one whose time a program sets, as `cp -p`
     and `touch -r` do, from what it looked at. An archive keeps the ages of what was put in, and may go through a pipe to who unpacks or keeps it."""
     for works in [*(works_of(builder, at) for at in range(len(builder.build.tasks))), *([(-1, work)] for _, work in builder.askers.works)]:
@@ -62,7 +63,7 @@ def note_sources(builder: "Builder") -> None:
                 builder.sources.setdefault(path, []).append(looked)
 
 
-def made_here(builder: "Builder", names: Set[str]) -> Set[str]:
+def made_here(builder: Builder, names: Set[str]) -> Set[str]:
     """Those names whose ages the build settles."""
     return {path for path in names if path in builder.build.writers or path in builder.timers or path in builder.askers.copies}
 
@@ -91,7 +92,7 @@ def takes_over(life: Life) -> Iterator[Tuple[str, str]]:
             yield name, source
 
 
-def writers_of(builder: "Builder", path: str) -> Set[int]:
+def writers_of(builder: Builder, path: str) -> Set[int]:
     """Who settles the age of a name: for a folder whoever changes what is in it, for a copy with its age also who made what was copied."""
     if path not in builder.aged:
         seen, todo, found = {path}, [path], set()
@@ -105,7 +106,7 @@ def writers_of(builder: "Builder", path: str) -> Set[int]:
     return builder.aged[path]
 
 
-def compare(builder: "Builder", at: int, first: str, second: str, own: str = "") -> None:
+def compare(builder: Builder, at: int, first: str, second: str, own: str = "") -> None:
     """A task compares the ages of two names; what the rules of its own target write to the first make does not see."""
     build = builder.build
     one, two = writers_of(builder, first), writers_of(builder, second)
@@ -118,7 +119,7 @@ def compare(builder: "Builder", at: int, first: str, second: str, own: str = "")
                 settle(builder, at, first, second, *sorted((a, b)))
 
 
-def settle(builder: "Builder", at: int, first: str, second: str, low: int, high: int) -> None:
+def settle(builder: Builder, at: int, first: str, second: str, low: int, high: int) -> None:
     """Two tasks settle which of two names is newer, for which a third one asks, or, where `at` is -1, somebody who is no task."""
     name = "%s/@age/%d/%d" % (first, low, high)
     builder.build.tasks[low].writes.add(name)
@@ -127,13 +128,13 @@ def settle(builder: "Builder", at: int, first: str, second: str, low: int, high:
     builder.build.askers.setdefault(name, at)
 
 
-def inner_ages(builder: "Builder", at: int, work: Work) -> None:
+def inner_ages(builder: Builder, at: int, work: Work) -> None:
     """The makes and ninjas of a recipe compare targets with their prerequisites."""
     for ninja in work.ninjas:
         for target, asked in ninja.compared():
             first, second = (builder.names.find(ninja.folder, name, True).path for name in (target, asked))
             compare(builder, at, first, second)
-    for make in work.makes:
+    for make in makes_of(work):
         for one in make.words.rounds:
             paths = {n: age_paths(builder.names, make, one.vpath.get(n, n)) for n in one.nodes}
             for name, node in one.nodes.items():
@@ -153,7 +154,7 @@ def age_paths(names: Names, make: Make, name: str) -> List[str]:
     return [names.find(make.folder, name, follow).path for follow in ((True, False) if asks_links(make.words.flags, make.words.args) else (True,))]
 
 
-def settled_by(builder: "Builder", at: int, work: Work, kind: str) -> Iterator[Tuple[int, int, str, str]]:
+def settled_by(builder: Builder, at: int, work: Work, kind: str) -> Iterator[Tuple[int, int, str, str]]:
     """Pairs of tasks that nothing orders and that settle the ages of two names which a recipe has looked at, with these names."""
     writers, build = builder.build.writers, builder.build
     wrote: Dict[int, List[str]] = {}
@@ -173,7 +174,7 @@ def compared_in_archives(work: Work) -> Set[str]:
     return packed(work) if any(shellages.shows_ages(argv) for life in work.lives if packs(life) for argv in life.ran) else set()
 
 
-def ages_in_archives(builder: "Builder", at: int, work: Work) -> None:
+def ages_in_archives(builder: Builder, at: int, work: Work) -> None:
     """`ar` with `u` compares a file with the member of its name that another recipe has put into the archive."""
     tasks = builder.build.tasks
     for life in (life for life in work.lives if any(shelltext.base_name(argv) == "ar" and UPDATES.match("".join(argv[1:2])) for argv in life.ran)):
@@ -184,7 +185,7 @@ def ages_in_archives(builder: "Builder", at: int, work: Work) -> None:
                 compare(builder, at, archive, path)
 
 
-def ages_by_words(builder: "Builder", at: int, work: Work, assumed: str = "ages", words: str = "") -> None:
+def ages_by_words(builder: Builder, at: int, work: Work, assumed: str = "ages", words: str = "") -> None:
     """Programs that compare ages: those of all names that they looked at, by who writes them. Of others nobody knows, which is what is `assumed`.
     `words`: who they are where that is no task."""
     for low, high, first, second in settled_by(builder, at, work, AGE_SEEN):

@@ -2,16 +2,16 @@
 
 import os
 import re
-from typing import TYPE_CHECKING, List
+from typing import List
 
+from record.build.builder import Builder
 from record.make.database import LINES_TEXT
 from record.make.globs import DEPTH
 from record.make.macros import Macros
 from record.make.memory import with_target
 from record.make.references import ANY
+from record.make.targets import RoundBuilder
 
-if TYPE_CHECKING:
-    from record.make.build import Builder
 
 MACRO = re.compile(r"\$(?:\((?:call[ \t]+)?([\w.-]+)\)|\{(?:call[ \t]+)?([\w.-]+)\}|(\w))")
 DIR = re.compile(r"\$[({]dir[ \t]+([^\s$(){},]+)[)}]")
@@ -22,14 +22,14 @@ LOOKS = re.compile(r"\b(?:wildcard|realpath|eval)\b")  # functions of make that 
 ACTS = re.compile(LOOKS.pattern + r"|\b(?:shell|file)\b")  # and those that may use it
 
 
-def makes_ahead(builder: "Builder", at: int, folder: str) -> bool:
+def makes_ahead(builder: Builder, at: int, folder: str) -> bool:
     """Whether make makes a folder, and those above it, for a recipe where they are not there; or this is make's look at its target.
 
     It works out all lines of a recipe before it starts the first one, and those of two recipes never at once. So whichever
     recipe comes first makes the folder, before anything of it runs.
     """
     task = builder.build.tasks[at]
-    if builder.build.tool != "make" or task.kind not in ("recipe", "look"):
+    if not isinstance(builder, RoundBuilder) or task.kind not in ("recipe", "look"):
         return False
     base, known = builder.graph.base, builder.known
     if builder.make.words.exports_to_shell and any(ACTS.search(known.text_of(name)) for name in known.handed_on):

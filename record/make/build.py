@@ -1,66 +1,25 @@
 """One round as a build: its tasks, with what each reads and writes."""
 
 import bisect
-import os
-import re
-from typing import Dict, Iterable, List, Optional, Set, Tuple
+from typing import Dict, List, Set
 
-from record.assumptions import Assumptions
+from record.build.tasks import Build, Node, Task, befores, drop_lonely, order_tasks
 from record.make.ages import add_ages
-from record.make.considered import Considered, is_row, peers
-from record.make.elsewhere import Askers, Elsewhere, add_elsewhere, find_askers
-from record.make.fixed import asked_ages, fixed_looks, remade_anyway, remembered, unasked_ages, was_absent
-from record.make.folders import Events, add_folders
-from record.make.graph import Build, Graph, Node, Task, befores, drop_lonely, order_tasks
+from record.make.considered import Considered, is_row
+from record.make.elsewhere import add_elsewhere, find_askers
+from record.make.fixed import asked_ages, fixed_looks, remade_anyway, remembered, unasked_ages
+from record.make.folders import add_folders
 from record.make.inner import add_inner
 from record.make.locks import pass_locks
 from record.make.memory import libraries, place_listings, share_listings
-from record.make.owners import Make, Work
-from record.make.programs import are_inside
+from record.make.targets import RoundBuilder
 from record.make.unfiled import add_macros, add_outputs, count_listings
-from record.make.used import macros_of
 from record.make.words import makefiles
-from record.trace.events import AGE_SEEN, ASKS, CHANGES, CREATED, ENTERED, FOLDER_KEPT, FOLDER_REMOVED, LISTED, MAKES, REMOVED, WRITTEN
-from record.trace.lists import fits
-from record.trace.names import Names, join
+from record.trace.events import CREATED, MAKES, WRITTEN
 
 
-class Builder:
+class MakeBuilder(RoundBuilder):
     """Makes the tasks of a round."""
-
-    events_of_all: Optional[Events] = None
-    elsewhere: Optional[Elsewhere] = None
-    works_late = False  # make does something for a recipe when that starts
-
-    def __init__(self, make: Make, number: int, names: Names, assumed: Assumptions, before: Optional[Dict[str, str]] = None) -> None:
-        self.graph = Graph(make, number)
-        self.make, self.number, self.names, self.assumed = make, number, names, assumed
-        self.build = Build(make, self.graph.round.stage, self.graph)
-        self.before = names.before if before is None else before
-        self.of_node: Dict[str, int] = {}
-        self.look_of: Dict[str, int] = {}
-        self.first_of: Dict[str, int] = {}
-        self.listed = make.listed_in(self.graph.round.start)
-        self.asked: Dict[str, Set[str]] = {}  # by label of a first look: the names that it is about
-        self.ageless: Set[str] = set()  # labels of targets by whose age nothing is remade
-        self.made: Set[str] = set()
-        self.tried: Set[str] = set()  # folders that a recipe could not remove, as they held something
-        self.began = -1
-        self.timed: Dict[str, Set[int]] = {}  # name: who depends on its time
-        self.timers: Dict[str, Set[int]] = {}  # folder: who changes its time
-        self.births: Dict[str, Set[int]] = {}  # folder: who makes it, as far as its time is asked for
-        self.askers = Askers([], [], set())
-        self.aged: Dict[str, Set[int]] = {}  # name: who settles its age, as far as that was asked
-        self.sources: Dict[str, List[Set[str]]] = {}  # name: those whose ages it may have
-        self.holes: List[str] = []
-        self.known, self.macros = macros_of(make, self.graph.base)
-        self.works_late = self.known.works_late() or are_inside(self.graph.base, make.folder, names.tops)
-
-    def path_of(self, name: str) -> str:
-        """The real path of a target, as it was before the build or is now."""
-        spelled = self.graph.round.vpath.get(name, name)
-        archive = re.match(r"(.*)\((.*)\)$", spelled)
-        return self.names.find(self.make.folder, archive.group(1) if archive else spelled, True).path
 
     def run(self) -> Build:
         """All steps."""
@@ -101,50 +60,6 @@ class Builder:
                 self.of_node[node.label] = at
                 task = self.build.tasks[at]
                 task.works = [self.make.work[id(j)] for j in node.jobs if id(j) in self.make.work]
-
-    def events(self, task: Task) -> Iterable[Tuple[str, str]]:
-        """The kinds and paths of all that the processes of a task did."""
-        for work in task.works:
-            yield from work.events
-
-    @property
-    def acts_at(self) -> Dict[str, int]:
-        """By label: the look that has what make did by itself for a recipe. What it does when the recipe starts may come later, as
-        where a bound on the load (`-l`) lets that wait: then the recipe has all."""
-        return {} if self.works_late else self.look_of
-
-    def acts_work(self, node: Node) -> Optional[Work]:
-        """What make did itself for a target; of a double-colon target it may have been for each of its rules."""
-        return self.make.acts.get((self.number, node.name))
-
-    def acts_of(self, node: Node) -> Iterable[Tuple[str, str]]:
-        """The same of what make did itself for a target; once the writers are known, its looks at names that nobody writes are left out."""
-        work = self.acts_work(node)
-        if work is None:
-            return ()
-        if not self.build.writers:
-            return work.events
-        return [(k, p) for k, p in work.events if k not in ASKS + AGE_SEEN + ENTERED or self.is_written(p)]
-
-    def note_writers(self) -> None:
-        """Which recipe writes, creates or removes which name, and who makes which folder."""
-        found: Dict[str, Set[int]] = {}
-        for at, task in enumerate(self.build.tasks):
-            looker = self.acts_at.get(task.label, at) if task.kind == "recipe" else at
-            acts = self.acts_of(task.node) if task.kind == "recipe" else ()
-            for who, events in ((at, self.events(task)), (looker, acts)):
-                for kind, path in events:
-                    if kind in CHANGES and not path.endswith("/"):
-                        found.setdefault(path, set()).add(who)
-                    elif kind in MAKES + FOLDER_REMOVED:
-                        self.made.add(path)
-                    elif kind == FOLDER_KEPT:
-                        self.tried.add(path)
-        self.build.writers = found
-
-    def is_written(self, path: str, but: int = -1) -> bool:
-        """Whether a recipe writes a name, other than the task `but`, or makes a folder of that name."""
-        return bool(self.build.writers.get(path, set()) - {but}) or path in self.made
 
     def make_decisions(self) -> None:
         """A target that somebody writes, or one of whose prerequisites is written, is looked at, recipe or not."""
@@ -189,58 +104,6 @@ class Builder:
         """Whether a target has a recipe that is more than `:`."""
         lines = [line.strip().lstrip("@+-").strip() for line in self.graph.base.recipes.get(node.name, [])]
         return any(line not in ("", ":", "true") for line in lines)
-
-    def deciding(self, node: Node, own: int) -> List[Node]:
-        """The targets that decide whether a target is remade: none where it is phony; where it is absent, and nobody else
-        writes it, it is remade whatever the ages of its prerequisites are."""
-        if node.phony or node.label in self.ageless:
-            return []
-        return [node] + ([] if was_absent(self, node, own) else [self.graph.nodes[p] for p in self.plain(node)])
-
-    def looked_at(self, node: Node, own: int) -> List[str]:
-        """The paths that decide whether a target is remade, its own first."""
-        return [one.path for one in self.deciding(node, own)] + peers(self, node, own)
-
-    def seen(self, node: Node) -> Dict[str, int]:
-        """The paths that make's looks at a target led to, and when first: links, and what stood behind them then."""
-        spelled = self.graph.round.vpath.get(node.name, node.name)
-        return {**self.make.looked.get(spelled, {}), **self.make.looked.get(node.name, {})}
-
-    def followed(self, node: Node, own: int) -> List[str]:
-        """What else the looks that decide whether a target is remade led to."""
-        return [path for one in self.deciding(node, own) for path in self.seen(one) if path != one.path]
-
-    def first_seen(self, node: Node) -> List[str]:
-        """The paths that make's looks at a target led to before its recipe began: a link that it makes was not there yet."""
-        works = [self.make.work[id(job)] for job in node.jobs if id(job) in self.make.work]
-        began = min((life.born for work in works for life in work.lives), default=1 << 60)
-        return [path for path, place in self.seen(node).items() if place < began] or [node.path]
-
-    def plain(self, node: Node) -> List[str]:
-        """Labels of the prerequisites whose ages count; the data base cuts names at blanks, so one of those for order alone may look like another."""
-        only = self.graph.base.order_only.get(node.name, set()).difference(self.graph.base.prerequisites.get(node.name, ()))
-        return [p for p in node.prerequisites if p in self.graph.nodes and p not in only and self.graph.nodes[p].name != node.name and not self.graph.nodes[p].phony]
-
-    def is_leaf(self, node: Node) -> bool:
-        """Whether no recipe runs below a target: make then decides in its first pass."""
-        if not hasattr(self, "_busy"):
-            self._busy = self.find_busy() | self.graph.late()
-        return node.label not in self._busy
-
-    def find_busy(self) -> Set[str]:
-        """Targets with a recipe that ran somewhere below them."""
-        users: Dict[str, List[str]] = {}
-        for node in self.graph.nodes.values():
-            for one in node.prerequisites:
-                users.setdefault(one, []).append(node.label)
-        busy: Set[str] = set()
-        todo = [u for n in self.graph.nodes.values() if n.jobs for u in users.get(n.label, [])]
-        while todo:
-            label = todo.pop()
-            if label not in busy:
-                busy.add(label)
-                todo.extend(users.get(label, []))
-        return busy
 
     # ---------------------------------------------------------------- order
     def connect(self) -> None:
@@ -353,36 +216,6 @@ class Builder:
         # the next build reads the makefiles that this one looked for
         drop_lonely(self.build.tasks, {self.names.find(self.make.folder, name, True).path for name in makefiles(self.make.words)})
 
-    def created(self) -> Dict[str, Dict[str, Set[int]]]:
-        """By folder: the names that recipes create or remove directly in it."""
-        table: Dict[str, Dict[str, Set[int]]] = {}
-        for at, task in enumerate(self.build.tasks):
-            if task.kind != "recipe":
-                continue
-            looker = self.acts_at.get(task.label, at)
-            for who, events in ((at, self.events(task)), (looker, self.acts_of(task.node))):
-                for kind, path in events:
-                    if kind in (CREATED, REMOVED, FOLDER_REMOVED):
-                        path = path.rstrip("/")
-                        table.setdefault(os.path.dirname(path), {}).setdefault(os.path.basename(path), set()).add(who)
-        return table
-
-    def add_events(self, at: int, events: Iterable[Tuple[str, str]], created: Dict[str, Dict[str, Set[int]]]) -> None:
-        """What a task reads and writes, by its events. `created`: by folder and name, the tasks that create or remove the name."""
-        task, writers = self.build.tasks[at], self.build.writers
-        for kind, path in events:
-            if kind in CHANGES and not path.endswith("/"):
-                task.writes.add(path)
-            elif kind in ASKS and path in writers:
-                task.read(path)
-            elif kind == LISTED:
-                folder, pattern = path.split("\0")
-                for name, who in created.get(folder, {}).items():
-                    if (who != {at}) and join(folder, name) not in self.made and fits(pattern, join(folder, name), self.names):
-                        task.read_by_list(join(folder, name))
-            elif kind == AGE_SEEN:
-                self.timed.setdefault(path, set()).add(at)
-
     def add_decision(self, looker: int, at: int, node: Node, is_asked: bool) -> None:
         """Make looks at a target and at its prerequisites. The age of a target alone counts where others ask for it."""
         task, writers = self.build.tasks[looker], self.build.writers
@@ -394,6 +227,3 @@ class Builder:
                 self.timed.setdefault(path, set()).add(looker)
         task.reads.update(path for path in self.followed(node, at) if writers.get(path, set()) - {at, looker})
 
-    def is_known(self, path: str) -> bool:
-        """Whether the tree before the build says if a name was there."""
-        return any(path == top or path.startswith(top.rstrip("/") + "/") for top in self.names.tops)

@@ -7,24 +7,23 @@ import bisect
 import os
 from fnmatch import fnmatchcase
 from functools import cached_property
-from typing import TYPE_CHECKING, Callable, Dict, Iterator, List, Optional, Set, Tuple
+from typing import Callable, Dict, Iterator, List, Optional, Set, Tuple
 
-from record.make.graph import Node
+from record.build.tasks import Node
 from record.make.memory import first_birth, folders_listed
 from record.make.searches import DEPTH, names_asked, stems, tried
+from record.make.targets import RoundBuilder
 from record.trace.events import MAKE_LISTED, MAKE_OPENED
 from record.trace.lives import Act
 from record.trace.names import join
 
-if TYPE_CHECKING:
-    from record.make.build import Builder
 
 
 class Cached:
     """The folders that make asked for in a search, by the target that it considered then, and the names that matter there. Where a recipe was the first to
     list a folder, each target counts for which make may search there."""
 
-    def __init__(self, builder: "Builder", searched_late: Callable[[], Set[str]], is_expanded: Callable[[Node], bool]) -> None:
+    def __init__(self, builder: RoundBuilder, searched_late: Callable[[], Set[str]], is_expanded: Callable[[Node], bool]) -> None:
         self.builder, self.make, self.searched_late, self.is_expanded = builder, builder.make, searched_late, is_expanded
         self.start, self.base = builder.graph.round.start, builder.graph.base
         self.nodes = {name: node for name, node in builder.graph.nodes.items() if not node.rule}

@@ -5,7 +5,7 @@ import re
 from pathlib import Path
 from typing import TYPE_CHECKING, Dict, Iterator, List, Sequence, Set
 
-from record.make.graph import Build
+from record.make.graph import MakeBuild
 from record.make.owners import Make
 from record.make.words import makefiles
 from record.missing.anew import hands_all
@@ -29,11 +29,11 @@ def called_by(make: Make) -> Iterator[Life]:
         todo.extend(life.children)
 
 
-def called(builds: Sequence[Build], turned: "Turned") -> Set[str]:
+def called(builds: Sequence[MakeBuild], turned: "Turned") -> Set[str]:
     """What decides on macros before recipes run: what makefiles read with `$(shell ..)` and `$(file ..)`, what is read by who calls a
     make, and makefiles that the build makes."""
     found = turned.settling()
-    for build in {id(one.make): one for one in builds if one.tool == "make"}.values():
+    for build in {id(one.make): one for one in builds}.values():
         make = build.make
         names = {turned.names.find(build.folder, name, True).path for name in makefiles(make.words)}
         first = min((life.born for work in make.work.values() for life in work.lives), default=1 << 60)
@@ -45,7 +45,7 @@ def called(builds: Sequence[Build], turned: "Turned") -> Set[str]:
     return {path for path in found if path in turned.names.before or os.path.lexists(path)}
 
 
-def settles(path: str, build: Build) -> bool:
+def settles(path: str, build: MakeBuild) -> bool:
     """Whether a makefile says more than dependencies: it sets macros, or names what a recipe is handed."""
     text = Path(path).read_text(errors="replace") if os.path.isfile(path) else ""
     recipes: Dict[str, List[str]] = build.graph.base.recipes

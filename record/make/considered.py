@@ -8,21 +8,20 @@ import math
 import os
 from fnmatch import fnmatchcase
 from functools import cached_property
-from typing import TYPE_CHECKING, Dict, Iterator, List, Set, Tuple
+from typing import Dict, Iterator, List, Set, Tuple
 
+from record.build.tasks import Node
 from record.commands.shelltext import loose
 from record.make.asked import MAGIC
 from record.make.cached import Cached
 from record.make.database import Base
-from record.make.graph import Node
 from record.make.memory import first_birth, keeps_lists
 from record.make.searches import DEPTH, Searches, stems
+from record.make.targets import RoundBuilder, peers
 from record.make.words import LATER, Words, numbers_of
 from record.trace.events import ASKS, CHANGES, LISTED, MAKE_LISTED
 from record.trace.names import join
 
-if TYPE_CHECKING:
-    from record.make.build import Builder
 
 
 def is_deep(base: Base, node: Node) -> bool:
@@ -33,7 +32,7 @@ def is_deep(base: Base, node: Node) -> bool:
 class Considered:
     """What make asks for, target by target; only names that recipes write count."""
 
-    def __init__(self, builder: "Builder") -> None:
+    def __init__(self, builder: RoundBuilder) -> None:
         self.builder, self.base = builder, builder.graph.base
         self.writers, self.late = builder.build.writers, builder.graph.late()
         nodes = builder.graph.nodes.values()
@@ -188,21 +187,6 @@ def most_by_search(base: Base, name: str) -> float:
     """How many prerequisites a target has at most by a rule that a search finds."""
     fits = (asked for targets, asked in base.patterns if any(any(stems(target, name)) for target in targets))
     return max((math.inf if any("$" in word or MAGIC.search(word) for word in asked) else len(asked) for asked in fits), default=math.inf)
-
-
-def looked_with(base: Base, version: str, name: str, ran: Set[str]) -> List[str]:
-    """The targets at which make looks where it decides on one that is there: those of the same recipe, unless that `ran` for one of them. It takes the
-    age of the oldest."""
-    others = base.also.get(name, []) if numbers_of(version) >= LATER else []
-    return others if ran.isdisjoint(others) else []
-
-
-def peers(builder: "Builder", node: Node, own: int) -> List[str]:
-    """The paths of these."""
-    nodes = builder.graph.nodes
-    ran = {one for one in builder.graph.base.also.get(node.name, ()) if one in nodes and nodes[one].jobs}
-    others = looked_with(builder.graph.base, builder.make.words.version, node.name, ran)
-    return [builder.path_of(one) for one in others] if others and builder.deciding(node, own)[1:] else []
 
 
 def stems_of(pattern: str, name: str) -> Iterator[Tuple[str, str]]:

@@ -7,19 +7,17 @@ order two recipes ran that nothing orders.
 
 from functools import cached_property
 from itertools import chain
-from typing import TYPE_CHECKING, Dict, Iterator, List, NamedTuple, Set, Tuple, Union
+from typing import Dict, Iterator, List, NamedTuple, Sequence, Set, Tuple
 
+from record.build.builder import Askers, Builder
+from record.build.work import Tool, Work
 from record.make.ages import age_paths, ages_by_words, compare, packs, takes_over, works_of
 from record.make.database import Base
-from record.make.owners import Make, Owners, Work
+from record.make.owners import Owners
 from record.make.unfiled import Created, unordered
 from record.trace.events import AGE_SEEN, AGE_TAKEN, AGE_UNKNOWN, ORDER_SEEN
 from record.trace.lives import Life
 from record.trace.names import Names
-
-if TYPE_CHECKING:
-    from record.make.build import Builder
-    from record.ninja.runs import Ninja
 
 AGES = AGE_SEEN + AGE_UNKNOWN + AGE_TAKEN
 NEVER = 1 << 60
@@ -28,7 +26,7 @@ NEVER = 1 << 60
 class Pair(NamedTuple):
     """A target and a prerequisite of which a round of a make, or a stage of a ninja, asks which is newer."""
 
-    tool: "Union[Make, Ninja]"
+    tool: Tool
     number: int
     prerequisite: str
     place: int  # when it first looked at the target, as far as that is known
@@ -39,7 +37,7 @@ class Elsewhere:
 
     def __init__(self, owners: Owners, names: Names) -> None:
         self.owners, self.names = owners, names
-        self.ninjas: "List[Ninja]" = []
+        self.ninjas: Sequence[Tool] = ()
         self.groups: Dict[int, List[Life]] = {}
         for life in owners.lives:
             if any(kind in AGES + ORDER_SEEN for kind, _ in life.events) or packs(life):
@@ -67,12 +65,12 @@ class Elsewhere:
     def of_ninjas(self) -> Iterator[Tuple[str, Pair]]:
         """What ninjas compare."""
         for ninja in self.ninjas:
-            for number, stage in enumerate(ninja.stages):
-                for names in stage.manifest.compared():
+            for number, pairs in enumerate(ninja.compared_by_stage()):
+                for names in pairs:
                     target, path = (self.names.find(ninja.folder, name, True).path for name in names)
                     yield target, Pair(ninja, number, path, NEVER)
 
-    def beside(self, builder: "Builder") -> "Askers":
+    def beside(self, builder: Builder) -> Askers:
         """Those of them that may ask for what the recipes of a build leave."""
         works = [work for at in range(len(builder.build.tasks)) for _, work in works_of(builder, at)]
         own = {id(life) for work in works for life in work.lives}
@@ -85,30 +83,22 @@ class Elsewhere:
                  if self.is_later(builder, one, own, begin) and not self.is_new(builder, target, one)]
         return Askers(list(dict.fromkeys(pairs)), [work_of(lives) for lives in groups if lives], copies)
 
-    def is_last(self, builder: "Builder") -> bool:
+    def is_last(self, builder: Builder) -> bool:
         """Whether it is the last round of the only make, or the last stage of the only ninja."""
-        stages = [*(len(make.words.rounds) for make in self.owners.makes), *(len(ninja.stages) for ninja in self.ninjas)]
+        stages = [*(len(make.words.rounds) for make in self.owners.makes), *(len(ninja.compared_by_stage()) for ninja in self.ninjas)]
         return stages == [builder.number + 1]
 
     @staticmethod
-    def is_later(builder: "Builder", one: Pair, own: Set[int], begin: int) -> bool:
+    def is_later(builder: Builder, one: Pair, own: Set[int], begin: int) -> bool:
         """Whether it may be asked behind a recipe of a build, and not in one. Ninja asks when it has read its manifest."""
         if one.tool is builder.make:
             return one.number > builder.number
         return id(one.tool.life) not in own and (one.tool.life.born if one.tool.life.is_ninja else one.tool.life.died) > begin
 
-    def is_new(self, builder: "Builder", target: str, one: Pair) -> bool:
+    def is_new(self, builder: Builder, target: str, one: Pair) -> bool:
         """Whether a make looked at a target when that was not there yet: then it makes it, whatever its age is later."""
         first, _ = self.owners.written.get(target, (0, 0))
         return one.place < first and self.names.before.get(target) is None and builder.is_known(target)
-
-
-class Askers(NamedTuple):
-    """Who may ask for ages of what the recipes of a build leave: pairs of paths, what programs did, and names that take over an age there."""
-
-    pairs: List[Tuple[str, str]]
-    works: List[Tuple[str, Work]]  # with words for who it was
-    copies: Set[str]
 
 
 def part_of(life: Life) -> Life:
@@ -142,7 +132,7 @@ def words_of(life: Life) -> str:
     return " ".join(life.argv)[:60]
 
 
-def find_askers(builder: "Builder", created: Created) -> None:
+def find_askers(builder: Builder, created: Created) -> None:
     """Who may ask elsewhere for the ages of what a build leaves, and the folders for whose age they ask."""
     if builder.elsewhere is None:
         return
@@ -153,7 +143,7 @@ def find_askers(builder: "Builder", created: Created) -> None:
             builder.timed.setdefault(path, set())
 
 
-def add_elsewhere(builder: "Builder", created: Created) -> None:
+def add_elsewhere(builder: Builder, created: Created) -> None:
     """Adds what is asked of ages elsewhere, where the schedule of this build settles the answer."""
     for first, second in builder.askers.pairs:
         compare(builder, -1, first, second)

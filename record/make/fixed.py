@@ -1,23 +1,22 @@
 """Looks of make that have no effect, whatever the schedule is, though recipes write the names."""
 
 from functools import lru_cache
-from typing import TYPE_CHECKING, Dict, List, Set
+from typing import Dict, List, Set
 
-from record.make.graph import Node
+from record.build.tasks import Node
 from record.make.owners import Make
+from record.make.targets import RoundBuilder, was_absent
 from record.trace.events import AGE_TAKEN, CREATED, REMOVED
 
-if TYPE_CHECKING:
-    from record.make.build import Builder
 
 
-def asked_ages(builder: "Builder") -> Set[str]:
+def asked_ages(builder: RoundBuilder) -> Set[str]:
     """The labels of targets with whose ages make compares those of others."""
     nodes = builder.graph.nodes.values()
     return {one.label for node in nodes for one in builder.deciding(node, builder.of_node.get(node.label, -1))[1:]}
 
 
-def remade_anyway(builder: "Builder", node: Node, others: List[Node]) -> bool:
+def remade_anyway(builder: RoundBuilder, node: Node, others: List[Node]) -> bool:
     """Whether a target is remade wherever make's first look at it stands among those who write it, all of which it waits for.
 
     It was absent before the build, and none of them removes it or gives it an earlier age: so an earlier look finds it absent or older than
@@ -29,7 +28,7 @@ def remade_anyway(builder: "Builder", node: Node, others: List[Node]) -> bool:
     return is_newer and {other.label for other in others} <= builder.graph.reached_from([node.label])
 
 
-def makes_newer(builder: "Builder", at: int, node: Node) -> bool:
+def makes_newer(builder: RoundBuilder, at: int, node: Node) -> bool:
     """Whether a task gives a target later ages alone: it does not remove it, and what it moves there is a file that it made itself, as `ar` does.
     Such a file may be older than what stood there. That makes no difference where the task has no part in what make compares with it."""
     task, own = builder.build.tasks[at], builder.of_node.get(node.label, -1)
@@ -42,25 +41,14 @@ def makes_newer(builder: "Builder", at: int, node: Node) -> bool:
     return all(is_own(builder, at, source, given) for source in sources)
 
 
-def is_own(builder: "Builder", at: int, source: str, given: List[str]) -> bool:
+def is_own(builder: RoundBuilder, at: int, source: str, given: List[str]) -> bool:
     """Whether a file was absent before the build, one task alone made it, and that gave neither it nor a folder above it another age."""
     if builder.before.get(source) is not None or not builder.is_known(source):
         return False
     return builder.build.writers.get(source) == {at} and not any((source + "/").startswith(name + "/") for name in given)
 
 
-def is_foreign(builder: "Builder", node: Node, own: int) -> bool:
-    """Whether another target's recipe writes a name. Make looks at the age of a double-colon target once for all its rules."""
-    who = builder.build.writers.get(node.path, set()) - {own}
-    return node.path in builder.made or any(builder.build.tasks[at].node.name != node.name for at in who)
-
-
-def was_absent(builder: "Builder", node: Node, own: int) -> bool:
-    """Whether a target was absent, and nobody else writes it: it is remade whatever the ages of its prerequisites are."""
-    return builder.before.get(node.path) is None and builder.is_known(node.path) and not is_foreign(builder, node, own)
-
-
-def unasked_ages(builder: "Builder") -> Set[str]:
+def unasked_ages(builder: RoundBuilder) -> Set[str]:
     """The labels of targets whose rule has no recipe, and by whose age nothing is remade: who needs them is phony, was absent, or is such a
     target. So the ages of what they need decide nothing, either. Whoever asks for a goal may ask for its age."""
     graph, base = builder.graph, builder.graph.base
@@ -76,12 +64,12 @@ def unasked_ages(builder: "Builder") -> Set[str]:
     return kept
 
 
-def is_remade(builder: "Builder", node: Node) -> bool:
+def is_remade(builder: RoundBuilder, node: Node) -> bool:
     """Whether a target is remade by no ages. An intermediate one that is absent is remade only if what it is made of is newer than what needs it."""
     return node.phony or node.name not in builder.graph.base.intermediate and was_absent(builder, node, builder.of_node.get(node.label, -1))
 
 
-def fixed_looks(builder: "Builder") -> Set[str]:
+def fixed_looks(builder: RoundBuilder) -> Set[str]:
     """The labels of files that no rule makes, at which make's look finds the same: each was there before, recipes write it in place
     alone, so it stays there; and no target is remade by its age. By the age of a makefile make decides whether to begin again."""
     if builder.build.stage != "goals":
@@ -92,7 +80,7 @@ def fixed_looks(builder: "Builder") -> Set[str]:
     return {node.label for node in loose if builder.before.get(node.path) == "f" and node.path not in replaced and set(builder.seen(node)) <= {node.path}}
 
 
-def remembered(builder: "Builder", node: Node, own: int) -> Set[str]:
+def remembered(builder: RoundBuilder, node: Node, own: int) -> Set[str]:
     """The paths at which make does not look again when it decides on a target: it keeps the age that it found when it first considered each of
     them, and that look is one of its own. Only what its recipe has made is looked at anew."""
     if builder.build.stage != "goals":
@@ -102,7 +90,7 @@ def remembered(builder: "Builder", node: Node, own: int) -> Set[str]:
     return known - {one.path for one in deciding if not is_remembered(builder, one, one is node)}
 
 
-def is_remembered(builder: "Builder", node: Node, is_own: bool) -> bool:
+def is_remembered(builder: RoundBuilder, node: Node, is_own: bool) -> bool:
     """Whether make knows the age of a target from its first look, which is a task of its own. `is_own`: when it decides on that target."""
     graph, label = builder.graph, node.label
     at = -1 if is_own else builder.of_node.get(label, -1)
@@ -114,7 +102,7 @@ def is_remembered(builder: "Builder", node: Node, is_own: bool) -> bool:
     return not (grouped or node.name in graph.base.double or label in graph.late() or node.name in graph.round.vpath) and looks_once(builder, node)
 
 
-def looks_once(builder: "Builder", node: Node) -> bool:
+def looks_once(builder: RoundBuilder, node: Node) -> bool:
     """Whether the trace has one look of make at a target before its recipe."""
     make, start = builder.make, builder.graph.round.start
     works = [make.work[id(job)] for job in node.jobs if id(job) in make.work]

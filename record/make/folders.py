@@ -9,8 +9,9 @@ import os
 import re
 from dataclasses import dataclass, field
 from functools import lru_cache
-from typing import TYPE_CHECKING, Dict, FrozenSet, List, NamedTuple, Set, Tuple
+from typing import Dict, FrozenSet, List, NamedTuple, Set
 
+from record.build.builder import Builder, Events
 from record.commands import shelltext
 from record.make.ahead import makes_ahead
 from record.make.quiet import excused, makes_itself
@@ -20,11 +21,8 @@ from record.trace.events import (
 )
 from record.trace.lives import Life
 
-if TYPE_CHECKING:
-    from record.make.build import Builder
 
 
-Events = List[Tuple[int, List[Tuple[str, str, int]]]]
 NO_BITS: FrozenSet[int] = frozenset()  # of a task without processes
 NAME_ASKED = "s"  # a kind of event of this module alone: a decision of make asks for a name
 OWN_LOOKS = SEEN + NAME_ASKED + ABSENT  # at the folder's own name
@@ -87,7 +85,7 @@ def parents_of_all(paths: Dict[str, int]) -> Dict[str, int]:
     return found
 
 
-def gather(builder: "Builder") -> Dict[str, Folder]:
+def gather(builder: Builder) -> Dict[str, Folder]:
     """All folders that recipes make or remove, with who uses them."""
     table = {p: Folder() for p in builder.made | builder.tried}
     never, more = 1 << 60, ""
@@ -110,14 +108,14 @@ def gather(builder: "Builder") -> Dict[str, Folder]:
     return table
 
 
-def each(builder: "Builder") -> Events:
+def each(builder: Builder) -> Events:
     """Tasks with their events, put together once."""
     if builder.events_of_all is None:
         builder.events_of_all = put_together(builder)
     return builder.events_of_all
 
 
-def put_together(builder: "Builder") -> Events:
+def put_together(builder: Builder) -> Events:
     """Tasks with their events, acts of make with the task that has them. A decision asks only for a name (`s`): where that is
     not there it makes no difference whether its folder is."""
     found = []
@@ -160,7 +158,7 @@ def note(folder: Folder, at: int, kind: str, place: int) -> None:
         folder.first_asked[at] = min(place, folder.first_asked.get(at, place))
 
 
-def add_folders(builder: "Builder") -> None:
+def add_folders(builder: Builder) -> None:
     """Adds what folders ask for to the tasks."""
     table = gather(builder)
     makers = {path: Makers(folder.strict | folder.quiet, {*folder.gone}) for path, folder in table.items()}
@@ -171,7 +169,7 @@ def add_folders(builder: "Builder") -> None:
     add_modes(builder)
 
 
-def add_folder(builder: "Builder", path: str, folder: Folder) -> None:
+def add_folder(builder: Builder, path: str, folder: Folder) -> None:
     """Names for who makes one folder first, for who sees whether it is there, for its mode, and for who removes it."""
     tasks = builder.build.tasks
     if folder.created:
@@ -210,12 +208,12 @@ def add_folder(builder: "Builder", path: str, folder: Folder) -> None:
                         mark(builder, name.rstrip("/"), "", {at}, {who})
 
 
-def was_there(builder: "Builder", path: str) -> bool:
+def was_there(builder: Builder, path: str) -> bool:
     """Whether a folder was there before the build: the one that the build works in, and so those above it, are not made by it."""
     return builder.before.get(path) == "d" or path in builder.names.above
 
 
-def part_modes(builder: "Builder", path: str, folder: Folder, makers: Set[int]) -> None:
+def part_modes(builder: Builder, path: str, folder: Folder, makers: Set[int]) -> None:
     """Tasks that make a folder with other modes, or would do so where it is not there."""
     name, meaning = path + "/@mode", "the mode of the folder " + path
     for some in folder.modes.values() if makers else ():
@@ -228,7 +226,7 @@ def part_modes(builder: "Builder", path: str, folder: Folder, makers: Set[int]) 
         apart(builder, name, meaning, at, others[own[at]])
 
 
-def masks(builder: "Builder", at: int, path: str) -> FrozenSet[int]:
+def masks(builder: Builder, at: int, path: str) -> FrozenSet[int]:
     """The bits without which the processes of a task make names: those that make a folder, else those that ask for it, else all."""
     lives = [life for work in builder.build.tasks[at].works for life in work.lives]
     makers, lookers = ([life for life in lives if any((kind, path) in life.events for kind in kinds)] for kinds in (MAKER_SEEN + MADE_QUIETLY + STRICT, SEEN + ABSENT))
@@ -241,7 +239,7 @@ def bits(life: Life) -> int:
     return life.mask if life.mask or is_own or life.parent is None else life.parent.mask
 
 
-def shows_first(builder: "Builder", path: str, folder: Folder, at: int, makers: Set[int]) -> bool:
+def shows_first(builder: Builder, path: str, folder: Folder, at: int, makers: Set[int]) -> bool:
     """Whether a maker shows whether the folder was there: it looked first, or made the folder too late for itself."""
     look = folder.looks.get(at)
     if look is not None and look < folder.first_made[at] and not excused(builder, at, path):
@@ -249,19 +247,19 @@ def shows_first(builder: "Builder", path: str, folder: Folder, at: int, makers: 
     return folder.first_used.get(at, 1 << 60) < folder.first_asked.get(at, 0) and not any(builder.build.is_before(m, at) for m in makers - {at})
 
 
-def seen(builder: "Builder", path: str, at: int, makers: Set[int]) -> None:
+def seen(builder: Builder, path: str, at: int, makers: Set[int]) -> None:
     """A task sees whether the folder is there already, and nothing orders it behind a maker."""
     apart(builder, path + "/@seen", "that the folder %s is there" % path, at, makers)
 
 
-def apart(builder: "Builder", name: str, meaning: str, at: int, others: Set[int]) -> None:
+def apart(builder: Builder, name: str, meaning: str, at: int, others: Set[int]) -> None:
     """A name for a task and each other that nothing orders: one sees what the other changes."""
     for other in sorted(others):
         if builder.build.unordered(at, other):
             mark(builder, "%s/%d/%d" % (name, at, other), meaning, {at}, {other})
 
 
-def mark(builder: "Builder", name: str, meaning: str, readers: Set[int], writers: Set[int]) -> None:
+def mark(builder: Builder, name: str, meaning: str, readers: Set[int], writers: Set[int]) -> None:
     """A name that stands for something else."""
     tasks = builder.build.tasks
     for at in readers:
@@ -272,7 +270,7 @@ def mark(builder: "Builder", name: str, meaning: str, readers: Set[int], writers
         builder.build.meanings[name] = meaning
 
 
-def add_listed(builder: "Builder", table: Dict[str, Makers], first_made: Dict[str, Dict[int, int]]) -> None:
+def add_listed(builder: Builder, table: Dict[str, Makers], first_made: Dict[str, Dict[int, int]]) -> None:
     """A listing sees the folders that recipes make in it; that of a task which makes one itself, only where it lists first, and not for a module."""
     inside: Dict[str, List[str]] = {}
     for name in table:
@@ -295,7 +293,7 @@ def matches(name: str, pattern: str) -> bool:
     return name != "__pycache__" if pattern == FOR_IMPORTS else fnmatch.fnmatchcase(name, pattern.rstrip("/"))
 
 
-def add_times(builder: "Builder") -> None:
+def add_times(builder: Builder) -> None:
     """Names that are created in or removed from a folder change its time."""
     wanted = builder.timed
     for at, events in each(builder):
@@ -312,7 +310,7 @@ def add_times(builder: "Builder") -> None:
             apart(builder, where + "/@time", "the time of the folder " + where, at, changers - {at})
 
 
-def add_modes(builder: "Builder") -> None:
+def add_modes(builder: Builder) -> None:
     """The mode of a folder, and how many folders are in it."""
     table = each(builder)
     modes = changed_modes(builder, table)
@@ -347,7 +345,7 @@ def is_open(mode: str) -> bool:
     return bool(int(number, 8) & SEARCH) if re.fullmatch("-?[0-7]+", number) else False
 
 
-def changed_modes(builder: "Builder", table: Events) -> Dict[str, Set[str]]:
+def changed_modes(builder: Builder, table: Events) -> Dict[str, Set[str]]:
     """The folders whose mode a recipe changes, with the modes that it gives: to give one the mode that it was made with is no change."""
     given: Dict[str, Set[str]] = {}
     for kind, text in ((k, p) for _, events in table for k, p, _ in events if k == MODE_CHANGED):

@@ -3,36 +3,35 @@ an implicit rule, those in folders of search paths, and its makefile where no wo
 
 import os
 from itertools import chain
-from typing import TYPE_CHECKING, Container, Iterable, Iterator, Set
+from typing import Container, Iterable, Iterator, Set
 
+from record.build.builder import Builder
 from record.make.ages import works_of
 from record.make.database import Base
-from record.make.owners import Make
+from record.make.owners import Make, makes_of
 from record.make.searches import DEPTH, Searches, stems
 from record.make.words import Round
 from record.trace.names import join
 
-if TYPE_CHECKING:
-    from record.make.build import Builder
 
 DEFAULTS = ("GNUmakefile", "makefile", "Makefile")
 
 
-def add_inner(builder: "Builder", created: Container[str]) -> None:
+def add_inner(builder: Builder, created: Container[str]) -> None:
     """A recipe reads the names that the makes inside it ask for, where another one writes them. `created`: folders in which recipes make names."""
     writers = builder.build.writers
     last_parts = {os.path.basename(path) for path in writers}
     for at, task in enumerate(builder.build.tasks):
         for who, work in works_of(builder, at):
-            ages = (compared(builder, make, who) for make in work.makes)
+            ages = (compared(builder, make, who) for make in makes_of(work))
             by_ninja = (builder.names.find(ninja.folder, name, True).path for ninja in work.ninjas for pair in ninja.compared() for name in pair)
             for folder in (path for path in chain(by_ninja, *ages) if path in created or path in builder.made):
                 builder.timed.setdefault(folder, set()).add(who)
-            for make in work.makes:
+            for make in makes_of(work):
                 builder.build.tasks[who].reads.update(path for path in asked_by(builder, make, last_parts) if path in writers)
 
 
-def asked_by(builder: "Builder", make: Make, last_parts: Set[str]) -> Iterator[str]:
+def asked_by(builder: Builder, make: Make, last_parts: Set[str]) -> Iterator[str]:
     """The paths that a make asks for; only those whose last part some recipe writes."""
     yield from (join(make.folder, name) for name in default_names(make) if name in last_parts)
     for one in make.words.rounds:
@@ -46,12 +45,12 @@ def asked_by(builder: "Builder", make: Make, last_parts: Set[str]) -> Iterator[s
                 yield from (path_of(builder, make, name) for name in elsewhere(base, asked))
 
 
-def path_of(builder: "Builder", make: Make, name: str) -> str:
+def path_of(builder: Builder, make: Make, name: str) -> str:
     """Where a name leads from the folder of a make."""
     return builder.names.find(make.folder, name, True).path
 
 
-def compared(builder: "Builder", make: Make, who: int) -> Iterator[str]:
+def compared(builder: Builder, make: Make, who: int) -> Iterator[str]:
     """The paths whose ages a make compares, except for targets that only this recipe makes, and that were not there: it makes them anyway."""
     for one in make.words.rounds:
         base, ran = one.base or Base(), {job.target for job in one.jobs}
@@ -65,7 +64,7 @@ def compared(builder: "Builder", make: Make, who: int) -> Iterator[str]:
         yield from (paths[name] for name in asked if name in paths)
 
 
-def is_there(builder: "Builder", make: Make, name: str) -> bool:
+def is_there(builder: Builder, make: Make, name: str) -> bool:
     """Whether a name is a file from before the build that nobody writes: make does not look for it in search paths."""
     path = path_of(builder, make, name)
     return bool(builder.before.get(path)) and path not in builder.build.writers

@@ -5,13 +5,12 @@ make it makes no difference, except to those who look whether it is there. What 
 """
 
 from dataclasses import dataclass, field
-from typing import TYPE_CHECKING, Dict, Set
+from typing import Dict, Set
 
+from record.build.builder import Builder
 from record.make.folders import each
 from record.trace.events import CHANGES, CREATED, LOCKED, MODE_GIVEN
 
-if TYPE_CHECKING:
-    from record.make.build import Builder
 
 
 @dataclass
@@ -24,7 +23,7 @@ class Lock:
     is_changed: bool = False  # by more than a lock
 
 
-def pass_locks(builder: "Builder") -> None:
+def pass_locks(builder: Builder) -> None:
     """Tasks that only lock a file do not write it, where all of them make it alike, and each task that asks for it comes behind one of them."""
     tasks, build = builder.build.tasks, builder.build
     for path, lock in gather(builder).items():
@@ -36,7 +35,7 @@ def pass_locks(builder: "Builder") -> None:
                 tasks[at].writes.discard(path)
 
 
-def gather(builder: "Builder") -> Dict[str, Lock]:
+def gather(builder: Builder) -> Dict[str, Lock]:
     """All files that recipes lock so."""
     table = {path: Lock() for _, events in each(builder) for kind, path, _ in events if kind == LOCKED}
     for at, events in each(builder) if table else ():

@@ -4,21 +4,21 @@ import os
 import re
 from bisect import bisect
 from functools import lru_cache
-from typing import TYPE_CHECKING, Dict, Iterable, Iterator, List, Optional, Set
+from typing import Dict, Iterable, Iterator, List, Optional, Set
 
+from record.build.tasks import Node
+from record.build.work import Work
 from record.make.asked import MAGIC
 from record.make.database import Base
 from record.make.globs import BOUND, WORD_EVAL, arguments, binds_any, composes, with_values
-from record.make.graph import Node
 from record.make.macros import Macros
-from record.make.owners import Make, Work
+from record.make.owners import Make
 from record.make.references import ANY, evals, with_functions
+from record.make.targets import RoundBuilder
 from record.make.words import LATER, numbers_of
 from record.trace.events import ASKS, LISTED, MAKE_LISTED, MAKE_OPENED, MODE_CHANGED, ORDER_SEEN, SEEN
 from record.trace.names import Names
 
-if TYPE_CHECKING:
-    from record.make.build import Builder
 
 LIBRARIES = "lib%.so lib%.a"
 UNCLEAR = re.compile(r"[$\\~]")  # a macro without a value, a word that goes on behind a blank, somebody's home folder
@@ -26,7 +26,7 @@ OF_PREREQUISITES = re.compile(r"\$(?:[<^+?]|[({][<^+?][)}])")
 LOOP = re.compile(r"\$[({](?:foreach|let)\s+([^,$]+),")
 
 
-def place_listings(builder: "Builder") -> None:
+def place_listings(builder: RoundBuilder) -> None:
     """A folder that make opens, or lists, while it makes a target is listed by the recipe, if that may ask for names there. Else make searches for a
     file: whether the folder is there makes no difference then, except for the names in it."""
     acts = {name: work for (number, name), work in builder.make.acts.items() if number == builder.number}
@@ -63,7 +63,7 @@ def exported_lists(known: Macros) -> bool:
     return bool(found) and any(known.is_exported(name) for name in known.reaching(found))
 
 
-def own_folders(builder: "Builder", node: Node) -> Optional[Set[str]]:
+def own_folders(builder: RoundBuilder, node: Node) -> Optional[Set[str]]:
     """The folders that a target's recipe lists by `wildcard`; None where nobody can say which."""
     base, known = builder.graph.base, builder.known
     text = "\n".join(base.recipes.get(node.name, ()))
@@ -82,7 +82,7 @@ def may_list(known: Macros, text: str) -> bool:
     return not is_known or any("wildcard" in one for body in inner for one in (body, *map(known.text_of, known.reached(body))))
 
 
-def share_listings(builder: "Builder") -> None:
+def share_listings(builder: RoundBuilder) -> None:
     """Make lists a folder once. A recipe that looks for names there later sees the same, and in another order it may be the first. Since GNU make 4.4
     it does so only until a command ends."""
     make, began = builder.make, first_birth(builder)
@@ -118,7 +118,7 @@ class Lists:
         return self.keeps or any(since < place < start for place in self.places.get(folder, ()))
 
 
-def births(builder: "Builder", node: Node) -> List[int]:
+def births(builder: RoundBuilder, node: Node) -> List[int]:
     """When the processes of a target's recipe began."""
     works = [builder.make.work[id(job)] for job in node.jobs if id(job) in builder.make.work]
     return [life.born for work in works for life in work.lives] or [1 << 60]
@@ -155,14 +155,14 @@ def folders_asked(known: Macros, names: Names, node: Node) -> Optional[Set[str]]
     return None if words is None else folders_of(known, names, words)
 
 
-def folders_listed(builder: "Builder", node: Node) -> Optional[Set[str]]:
+def folders_listed(builder: RoundBuilder, node: Node) -> Optional[Set[str]]:
     """Those of them that make lists for that; None where nobody can say which. For a name without a sign of a pattern it asks the disk itself, and lists no folder."""
     words = words_asked(builder.known, node)
     return None if words is None else folders_of(builder.known, builder.names, (word for word in words if MAGIC.search(word) or not asks_disk(builder)))
 
 
 @lru_cache(maxsize=4)
-def asks_disk(builder: "Builder") -> bool:
+def asks_disk(builder: RoundBuilder) -> bool:
     """Whether the trace shows that of one such name of some recipe: then make has not come to those of which it shows no look."""
     words = (word for node in builder.graph.nodes.values() if node.jobs for word in words_asked(builder.known, node) or ())
     return any(is_asked(builder.make, builder.names, word) for word in words if not MAGIC.search(word))
@@ -202,7 +202,7 @@ def filled(text: str, target: str, values: Dict[str, str]) -> str:
     return with_values(with_target(text, target), values)
 
 
-def libraries(builder: "Builder", node: Node) -> List[str]:
+def libraries(builder: RoundBuilder, node: Node) -> List[str]:
     """The paths of a target's prerequisites that makefiles may call `-lNAME`: make looks for those when it first considers the target."""
     nodes = builder.graph.nodes
     names = [name for name in node.prerequisites if name in nodes and builder.build.writers.get(nodes[name].path)]
@@ -214,7 +214,7 @@ def libraries(builder: "Builder", node: Node) -> List[str]:
     return [nodes[name].path for name, stem in stems.items() if "-l" + stem in words or any(word.startswith("-l") and "$" in word for word in words)]
 
 
-def stems_of(builder: "Builder", name: str) -> Iterator[str]:
+def stems_of(builder: RoundBuilder, name: str) -> Iterator[str]:
     """What NAME may be where make has found a file for `-lNAME`."""
     for pattern in builder.graph.base.values.get(".LIBPATTERNS", LIBRARIES).split():
         head, _, tail = pattern.partition("%")
@@ -223,7 +223,7 @@ def stems_of(builder: "Builder", name: str) -> Iterator[str]:
             yield last[len(head): len(last) - len(tail)]
 
 
-def first_birth(builder: "Builder") -> int:
+def first_birth(builder: RoundBuilder) -> int:
     """When the first recipe of a make began, since that was started anew."""
     if builder.began < 0:
         since = builder.make.begin(builder.graph.round.start)

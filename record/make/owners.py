@@ -6,9 +6,10 @@ import os
 import re
 from dataclasses import dataclass, field
 from functools import cached_property
-from typing import TYPE_CHECKING, Container, Dict, Iterable, List, Optional, Set, Tuple
+from typing import Container, Dict, Iterable, List, Optional, Set, Tuple
 
 from record import machine
+from record.build.work import Tool, Work, take_piece, written_by
 from record.commands.system import OF_SYSTEM
 from record.commands.texts import text_of
 from record.make.asked import EVERYTHING, Asked, asked_in, is_of_linker
@@ -20,31 +21,12 @@ from record.make.programs import Programs
 from record.make.searches import asked_names
 from record.make.slots import says_one_job
 from record.make.words import SEVERAL, Job, Round, Words, makefiles
-from record.trace.events import ABSENT, CHANGES, ENTERED, LISTED, LOOKS, MAKE_LISTED, MAKE_OPENED, ORDER_SEEN, READ, REMOVED, SEEN
-from record.trace.lives import Key, Life
-
-if TYPE_CHECKING:
-    from record.ninja.runs import Ninja
-
-
-@dataclass
-class Work:
-    """What a recipe did: its processes, their events, and the makes below it."""
-
-    events: Dict[Key, int] = field(default_factory=dict)
-    lives: List[Life] = field(default_factory=list)
-    makes: List["Make"] = field(default_factory=list)
-    ninjas: List["Ninja"] = field(default_factory=list)
-
-    def add(self, kind: str, path: str, place: int) -> None:
-        """Takes one event; its first place counts."""
-        key = (kind, path)
-        if key not in self.events or self.events[key] > place:
-            self.events[key] = place
+from record.trace.events import ABSENT, ENTERED, LISTED, LOOKS, MAKE_LISTED, MAKE_OPENED, ORDER_SEEN, READ, REMOVED, SEEN
+from record.trace.lives import Life
 
 
 @dataclass(eq=False)
-class Make:
+class Make(Tool):
     """A make process: its words, its life, its folder, and what each of its jobs did."""
 
     words: Words
@@ -137,6 +119,11 @@ def beginning(make: Make, number: int) -> int:
     return max([make.ready[start] if start < len(make.ready) else make.life.born, *ended])
 
 
+def makes_of(work: Work) -> List[Make]:
+    """The makes below a recipe."""
+    return [one for one in work.makes if isinstance(one, Make)]
+
+
 def only_places(wanted: List[int], there: List[int]) -> Optional[List[int]]:
     """The places at which numbers stand in a row in their order; nothing where they do not, or in more than one way."""
     first, last = places_of(wanted, there), places_of(wanted[::-1], there[::-1])
@@ -149,25 +136,6 @@ def places_of(wanted: List[int], there: List[int]) -> List[int]:
     for place, number in enumerate(there):
         if len(found) < len(wanted) and number == wanted[len(found)]:
             found.append(place)
-    return found
-
-
-def take_piece(work: Work, ran: Work, events: List[Tuple[str, str, int]]) -> None:
-    """What make did by itself, and what it ran for that, belongs to a recipe."""
-    work.lives += ran.lives
-    work.makes += ran.makes
-    for kind, path, place in events:
-        work.add(kind, path, place)
-
-
-def written_by(lives: List[Life]) -> Dict[str, Tuple[int, int]]:
-    """When each file was first and last written."""
-    found: Dict[str, Tuple[int, int]] = {}
-    for life in lives:
-        for path, last in life.changed.items():
-            first = min(life.events.get((kind, path), last) for kind in CHANGES)
-            known = found.get(path, (first, last))
-            found[path] = (min(first, known[0]), max(last, known[1]))
     return found
 
 

@@ -1,25 +1,25 @@
 """Whether a recipe makes a folder in a quiet form, which does not show who was first: `mkdir d || true`, `-mkdir d`, `test -d d || mkdir -p d`."""
 
 import re
-from typing import TYPE_CHECKING, List
+from typing import List
 
+from record.build.builder import Builder
 from record.commands import shelltext
 from record.commands.traced import shows_commands
+from record.make.targets import RoundBuilder
 from record.trace.events import MADE, MADE_BEFORE
 from record.trace.lives import Life
 
-if TYPE_CHECKING:
-    from record.make.build import Builder
 
 
-def excused(builder: "Builder", at: int, folder: str) -> bool:
+def excused(builder: Builder, at: int, folder: str) -> bool:
     """Whether a recipe makes a folder in a quiet form, which does not show who was first."""
     lives = [life for work in builder.build.tasks[at].works for life in work.lives]
-    kept = builder.make.words.kept_errors if builder.build.tool == "make" else ""
+    kept = builder.make.words.kept_errors if isinstance(builder, RoundBuilder) else ""
     if makes_quietly(lives, folder, bool(kept)) or not kept and is_ignored(builder, at, folder):
         return True
     found = kept == "pipe" and (makes_quietly(lives, folder, False) or is_ignored(builder, at, folder))
-    if found:  # who comes second says so, to a program
+    if found and isinstance(builder, RoundBuilder):  # who comes second says so, to a program
         builder.assumed.add("output", "make " + builder.make.words.args)
     return found
 
@@ -43,10 +43,10 @@ def is_of_form(life: Life, folder: str, is_kept: bool) -> bool:
     return any(is_quiet(argv, folder, is_kept) for argv in starter.ran)
 
 
-def is_ignored(builder: "Builder", at: int, folder: str) -> bool:
+def is_ignored(builder: Builder, at: int, folder: str) -> bool:
     """Whether it is `-mkdir d` that makes a folder in a recipe: make itself runs it, and goes on where the folder is there."""
     task = builder.build.tasks[at]
-    if builder.build.tool != "make" or task.kind != "recipe":
+    if not isinstance(builder, RoundBuilder) or task.kind != "recipe":
         return False
     makers = [life for work in task.works for life in work.lives if life.events.keys() & {(MADE, folder), (MADE_BEFORE, folder)}]
     heeded = [line for line in builder.graph.base.recipes.get(task.node.name, []) if not re.match(r"\s*[@+]*-", line)]
@@ -70,11 +70,11 @@ def keeps_errors(life: Life, own: List[str]) -> bool:
     return False
 
 
-def makes_itself(builder: "Builder", at: int, path: str) -> bool:
+def makes_itself(builder: Builder, at: int, path: str) -> bool:
     """Whether a task is make's look at a folder that was there already, and its recipe, which did not run, is `mkdir -p` of the folder
     alone: then whoever waits for this target finds the folder, and whether the recipe runs makes no difference."""
     task = builder.build.tasks[at]
-    if builder.build.tool != "make" or task.kind != "decision" or task.node.path != path:
+    if not isinstance(builder, RoundBuilder) or task.kind != "decision" or task.node.path != path:
         return False
     lines = builder.graph.base.recipes.get(task.node.name, [])
     only = re.compile(r"\s*[@+-]*\s*mkdir\s+(?:-p|--parents)\s+(?:\$@|\$\(@\)|%s)/?\s*" % re.escape(task.node.name))

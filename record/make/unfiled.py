@@ -5,17 +5,17 @@ import os
 import re
 from collections import Counter
 from itertools import islice
-from typing import TYPE_CHECKING, Dict, Iterator, List, Set, Tuple
+from typing import Dict, Iterator, List, Set, Tuple
 
+from record.build.builder import Builder
 from record.make.folders import each, mark
 from record.make.kept import keepers
 from record.make.macros import Macros
 from record.make.owners import Make
 from record.make.references import ANY, SECOND, end_of, evals, named, with_functions
+from record.make.targets import RoundBuilder
 from record.trace.events import AGE_TAKEN, ORDER_SEEN
 
-if TYPE_CHECKING:
-    from record.make.build import Builder
 
 Created = Dict[str, Dict[str, Set[int]]]
 SEARCHES = re.compile(r"(?<![\w.-])vpath[ \t\n)}]")
@@ -27,7 +27,7 @@ AS_IT_STANDS = re.compile(r"\$[({](?:call[ \t]+)?value[ \t,]")
 TARGET = re.compile(r"\$(?:[@*]|[({][@*])")
 
 
-def add_macros(builder: "Builder", created: Created) -> None:
+def add_macros(builder: RoundBuilder, created: Created) -> None:
     """A recipe that changes a macro, and those that ask for it. Make expands the recipe of a leaf where it looks at the leaf."""
     if builder.known.is_used:
         builder.assumed.add("evals", ("make " + builder.build.words[:60]).strip())
@@ -80,7 +80,7 @@ def reads_output(known: Macros, text: str) -> bool:
     return any(PRINTED.search(one) for body in bodies for one in (body, *(known.text_of(n).replace("$$", "  ") for n in known.reached_by(named(body), False))))
 
 
-def is_set_late(builder: "Builder") -> bool:
+def is_set_late(builder: RoundBuilder) -> bool:
     """Whether a second expansion of prerequisites sets a macro that a recipe asks for."""
     known, base = builder.known, builder.graph.base
     names = set_by_expansion(known) if known.is_used else set()
@@ -116,7 +116,7 @@ def flat(text: str) -> str:
     return re.sub(r"\$\$(?:\$\$)+", "$$", text)
 
 
-def count_inherited(builder: "Builder") -> None:
+def count_inherited(builder: RoundBuilder) -> None:
     """Targets with macros that they inherit of who asks first, where make looks at them at a time that the schedule settles."""
     graph, users = builder.graph, Counter(one for node in builder.graph.nodes.values() for one in node.prerequisites)
     scoped = graph.reached_from([node.label for node in graph.nodes.values() if node.name in graph.base.scoped])
@@ -126,7 +126,7 @@ def count_inherited(builder: "Builder") -> None:
             builder.assumed.add("inherited", graph.nodes[label].name)
 
 
-def count_grouped(builder: "Builder") -> None:
+def count_grouped(builder: RoundBuilder) -> None:
     """Recipes of several targets that name the one for which they run, where the schedule may settle which that is."""
     graph = builder.graph
     for name, others in graph.base.also.items():
@@ -137,7 +137,7 @@ def count_grouped(builder: "Builder") -> None:
                 builder.assumed.add("grouped", name)
 
 
-def add_keepers(builder: "Builder", targets: List[str], who: Dict[str, List[int]], created: Created) -> None:
+def add_keepers(builder: RoundBuilder, targets: List[str], who: Dict[str, List[int]], created: Created) -> None:
     """A macro that works out its value when it is first asked for: whoever asks may be the first, and then does what that takes."""
     events: Set[Tuple[str, str]] = set()
     for target in targets:
@@ -148,7 +148,7 @@ def add_keepers(builder: "Builder", targets: List[str], who: Dict[str, List[int]
             builder.add_events(looker, events, created)
 
 
-def add_outputs(builder: "Builder") -> None:
+def add_outputs(builder: RoundBuilder) -> None:
     """The lines of a make whose output is kept in a file come in the order of its recipes, and a recipe may look into that file; another
     program may drop that order."""
     words = builder.make.words
@@ -164,12 +164,12 @@ def add_outputs(builder: "Builder") -> None:
         builder.assumed.add("output", "make " + words.args if words.args else "make")
 
 
-def unordered(builder: "Builder", tasks: List[int]) -> Iterator[Tuple[int, int]]:
+def unordered(builder: Builder, tasks: List[int]) -> Iterator[Tuple[int, int]]:
     """Those that follow each other in the serial order, where nothing orders them. None: all are in one row."""
     return ((low, high) for low, high in zip(tasks, tasks[1:]) if builder.build.unordered(low, high))
 
 
-def count_listings(builder: "Builder", created: Created) -> None:
+def count_listings(builder: Builder, created: Created) -> None:
     """Programs that may show the names of a folder in the order in which they were made, where the schedule settles that order."""
     table: Dict[str, Tuple[List[int], List[Tuple[int, int]]]] = {}
     moves = [path.split("\0") for _, events in each(builder) for kind, path, _ in events if kind == AGE_TAKEN and path.partition("\0")[0] in builder.made]

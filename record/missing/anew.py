@@ -10,15 +10,16 @@ import re
 from fnmatch import fnmatchcase
 from typing import Callable, Iterable, Iterator, List, Set, Tuple
 
+from record.build.tasks import Node
 from record.make.asked import MAGIC
 from record.make.considered import is_deep
 from record.make.database import Base
-from record.make.graph import Build, Node
+from record.make.graph import MakeBuild
 from record.make.macros import Macros
 from record.make.memory import filled
 from record.make.references import SECOND, evals, matching, named, read_again, with_functions
-from record.make.searches import DEPTH, Searches
 from record.make.searches import filled as placed
+from record.make.searches import DEPTH, Searches
 from record.missing.later import phony_of
 from record.trace.names import Names
 
@@ -61,7 +62,7 @@ def hands_all(recipe: List[str]) -> bool:
 class Anew:
     """What differs in a later build; `holes` has a text for each."""
 
-    def __init__(self, build: Build, later: Base, names: Names) -> None:
+    def __init__(self, build: MakeBuild, later: Base, names: Names) -> None:
         self.build, self.first, self.later, self.names = build, build.graph.base, later, names
         self.known = Macros(build.make, self.first)
         self.phony = phony_of(self.first, later)

@@ -6,14 +6,15 @@ A task that makes a file and whose prerequisites are known says both. Each other
 import os
 from typing import Any, Dict, Iterator, List, Mapping, Optional, Set
 
-from record.assumptions import Assumptions
+from record.build.assumptions import Assumptions
+from record.build.tasks import Node, Task, order_tasks
+from record.build.text import labels_of, lines_of, relative
 from record.make.database import Base
-from record.make.graph import Build, Node, Task, order_tasks
+from record.make.graph import MakeBuild
 from record.make.macros import Macros
 from record.missing.keeping import asks_what_is_newer, expands_by_files, keeps
 from record.missing.later import needs_of, phony_of
 from record.missing.looked import Footprints
-from record.tasks import labels_of, lines_of, relative
 from record.trace.names import Names
 
 NEVER = "@never"  # folders that no project has: names below this one stand for targets that never have a file,
@@ -24,7 +25,7 @@ NODES, EDGES, PATHS = 20_000, 200_000, 1_000_000  # what a text of tasks may hol
 class OldTree:
     """Makes the text; see the module."""
 
-    def __init__(self, build: Build, names: Names, later: Base, premises: Assumptions, out: str, turned: Mapping[int, Set[str]] = {}) -> None:
+    def __init__(self, build: MakeBuild, names: Names, later: Base, premises: Assumptions, out: str, turned: Mapping[int, Set[str]] = {}) -> None:
         self.build, self.names, self.later, self.premises = build, names, later, premises
         self.first = build.graph.base
         self.phony = phony_of(self.first, later)

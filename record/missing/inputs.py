@@ -13,16 +13,17 @@ from dataclasses import dataclass, field, replace
 from pathlib import Path
 from typing import Any, Dict, Iterator, List, Set, Tuple
 
-from record.assumptions import Assumptions
+from record.build.assumptions import Assumptions
+from record.build.tasks import Build
+from record.build.text import relative, shown
 from record.folder import Record
 from record.judge import ended, unshown
 from record.make.called import called
-from record.make.graph import Build
+from record.make.graph import MakeBuild
 from record.missing.anew import Anew
 from record.missing.due import KEPT, OldTree
 from record.missing.later import Laters, phony_of
 from record.missing.turned import Turned
-from record.tasks import relative, shown
 from record.trace.lives import Life
 from record.trace.names import Names
 
@@ -43,11 +44,12 @@ def write_missing(out: Path, record: Record, builds: List[Build], names: Names, 
     for name in record.warm + record.configured:
         premises.add("not-run", relative(record.folder, name))
     holes: List[str] = []
-    turned = Turned(builds, names, lives, str(out))
+    makes = [build for build in builds if isinstance(build, MakeBuild)]
+    turned = Turned(makes, names, lives, str(out))
     judged = 0
     for number, build in zip(record.builds, builds):
-        later = laters.base(build.make) if build.tool == "make" else None
-        if build.tool != "make":
+        later = laters.base(build.make) if isinstance(build, MakeBuild) else None
+        if not isinstance(build, MakeBuild):
             holes.append("statements of ninja are not looked at: %s in %s" % (build.words or "ninja", build.folder))
         elif later is not None:
             holes += ["a later build is another one, where nothing is edited: " + why for why in Anew(build, later, names).holes()]
@@ -55,7 +57,7 @@ def write_missing(out: Path, record: Record, builds: List[Build], names: Names, 
                 judged += write_old_tree(out / "builds" / number, OldTree(build, names, later, premises, str(out), turned.reads.get(id(build), {})))
             else:
                 count_always(build, premises)
-    for kind, paths in (("not-run", made_elsewhere(builds, turned)), ("called", called(builds, turned)), ("again", turned.again)):
+    for kind, paths in (("not-run", made_elsewhere(makes, turned)), ("called", called(makes, turned)), ("again", turned.again)):
         for path in sorted(paths):
             premises.add(kind, relative(record.folder, path))
     holes += ["a later build finds %s otherwise, where nothing is edited: %s looks for it, and it changes behind that" % (relative(record.folder, path), who)
@@ -72,16 +74,15 @@ def ahead(builds: List[Build]) -> List[str]:
     return sorted(path for path in paths if os.path.isfile(path) and os.path.getmtime(path) > time.time() + SLACK)
 
 
-def made_elsewhere(builds: List[Build], turned: Turned) -> Set[str]:
+def made_elsewhere(makes: List[MakeBuild], turned: Turned) -> Set[str]:
     """Targets that a make found up to date, since something else had made them in this build, and not by the same recipe."""
-    makes = [build for build in builds if build.tool == "make"]
     ran = {(build.folder, task.node.name, *build.graph.base.recipes.get(task.node.name, ())) for build in makes for task in build.tasks if task.kind == "recipe"}
     return {node.path for build in makes for node in build.graph.nodes.values() if node.has_recipe and not node.jobs and not node.phony
             and node.path in turned.changes and node.path not in turned.names.before
             and (build.folder, node.name, *build.graph.base.recipes.get(node.name, ())) not in ran}
 
 
-def asks(build: Build) -> bool:
+def asks(build: MakeBuild) -> bool:
     """Whether a recipe of a build may be one that does not run in every build."""
     phony = phony_of(build.graph.base)
     return any(task.kind == "recipe" and task.node.name not in phony for task in build.tasks)

@@ -7,10 +7,10 @@ import os
 import re
 from typing import Dict, Optional
 
+from record.build.tasks import Task
+from record.build.work import Work
 from record.make.database import Base
-from record.make.graph import Task
 from record.make.macros import Macros
-from record.make.owners import Work
 
 COMPARES = re.compile(r"\bcmp\b|\bdiff\b.*(\|\||&&)|if[-_]change|if[-_]different|\b(cp|mv)\b.* (-[a-zA-Z]*u|--update)|\binstall\b.* (-[a-zA-Z]*C|--compare)"
                       r"|\brsync\b", re.S)

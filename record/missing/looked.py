@@ -6,9 +6,10 @@ from dataclasses import dataclass
 from fnmatch import fnmatchcase
 from typing import Dict, Iterable, List, Mapping, Set, Tuple
 
+from record.build.tasks import Task
 from record.commands.shelltext import is_removal
 from record.make.called import called_by
-from record.make.graph import Build, Task
+from record.make.graph import MakeBuild
 from record.tools.python import BYTE_CODE
 from record.trace.names import Names
 
@@ -33,7 +34,7 @@ class Seen:
 class Footprints:
     """What each recipe of a build reads and writes in the project."""
 
-    def __init__(self, build: Build, names: Names, out: str, turned: Mapping[int, Set[str]] = {}) -> None:
+    def __init__(self, build: MakeBuild, names: Names, out: str, turned: Mapping[int, Set[str]] = {}) -> None:
         self.build, self.names, self.out = build, names, out
         self.reads: List[Set[str]] = [set() for _ in build.tasks]
         self.writes: List[Set[str]] = [set() for _ in build.tasks]

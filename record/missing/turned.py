@@ -7,14 +7,16 @@ What make itself looks for is no part of it: anew.py compares what it knows.
 import os
 from typing import Dict, Iterator, List, Optional, Sequence, Set, Tuple
 
+from record.build.tasks import Task
+from record.build.work import Work
 from record.commands.shelltext import base_name, is_removal, shell_text
 from record.make.asked import MAGIC
 from record.make.called import called_by
 from record.make.globs import arguments
-from record.make.graph import Build, Task
+from record.make.graph import MakeBuild
 from record.make.macros import Macros
 from record.make.memory import folders_asked
-from record.make.owners import Make, Work
+from record.make.owners import Make
 from record.missing.looked import is_below
 from record.tools.python import BYTE_CODE
 from record.trace.lists import fits
@@ -35,16 +37,16 @@ def words_said(texts: List[str]) -> Set[str]:
     return {word for text in texts for call in arguments(text) for word in (call or "").split() if "$" not in word}
 
 
-def makes_of(builds: Sequence[Build]) -> List[Make]:
+def makes_of(builds: Sequence[MakeBuild]) -> List[Make]:
     """The makes of some builds, those above first."""
-    found = {id(build.make): build.make for build in builds if build.tool == "make"}
+    found = {id(build.make): build.make for build in builds}
     return sorted(found.values(), key=lambda make: sum(life.is_make for life in make.life.up()))
 
 
 class Turned:
     """All looks of recipes that a later build answers otherwise."""
 
-    def __init__(self, builds: Sequence[Build], names: Names, lives: Sequence[Life], out: str) -> None:
+    def __init__(self, builds: Sequence[MakeBuild], names: Names, lives: Sequence[Life], out: str) -> None:
         self.names, self.out = names, out
         self.makes = makes_of(builds)
         self.chains: Dict[int, List[Work]] = {}  # by id of a life: the recipes that it works for, the innermost last
@@ -52,7 +54,7 @@ class Turned:
             for work in make.work.values():
                 for life in work.lives:
                     self.chains.setdefault(id(life), []).append(work)
-        self.tasks = {id(work): (build, at) for build in builds if build.tool == "make" for at, task in enumerate(build.tasks) for work in task.works}
+        self.tasks = {id(work): (build, at) for build in builds for at, task in enumerate(build.tasks) for work in task.works}
         self.changes: Dict[str, List[Tuple[int, Life]]] = {}  # by name: who changed it, and when last
         self.there: Dict[str, bool] = {}  # by name: whether it is there at the end
         self.created: Dict[str, int] = {}  # by name: when it was first made
@@ -113,10 +115,8 @@ class Turned:
             if one != folder and is_below(one, folder) and one not in self.names.before:
                 yield from self.folders[one]
 
-    def note_expanding(self, build: Build) -> None:
+    def note_expanding(self, build: MakeBuild) -> None:
         """What processes look for that make calls when it expands a recipe, and the folders that a recipe lists by `$(wildcard ..)`."""
-        if build.tool != "make":
-            return
         make, base = build.make, build.graph.base
         seen = {event for life in called_by(make) for event in life.events}
         known = Macros(make, base)
@@ -127,7 +127,7 @@ class Turned:
                 events.update(self.expanded_lists(build, known, task))
                 self.note_looks(make.life, [*self.chain(make.life), task.works[0]], events)
 
-    def expanded_lists(self, build: Build, known: Macros, task: Task) -> Iterator[Tuple[Key, int]]:
+    def expanded_lists(self, build: MakeBuild, known: Macros, task: Task) -> Iterator[Tuple[Key, int]]:
         """What a recipe asks for by `$(wildcard ..)`. Make keeps a list once it has read it: that of a later build may say more."""
         base, make = build.graph.base, build.make
         text = "\n".join(base.recipes.get(task.node.name, ()))
@@ -169,7 +169,7 @@ class Turned:
             else:
                 self.reads.setdefault(id(task[0]), {}).setdefault(task[1], set()).add(path)
 
-    def task_apart(self, mine: List[Work], theirs: List[Work]) -> Optional[Tuple[Build, int]]:
+    def task_apart(self, mine: List[Work], theirs: List[Work]) -> Optional[Tuple[MakeBuild, int]]:
         """The task of whom looks, in the build that has both as tasks of their own."""
         for one, other in zip(mine, theirs):
             if one is not other:

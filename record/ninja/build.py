@@ -1,17 +1,17 @@
 """One stage of a ninja as a build: a task for each build statement whose command ran, and for each that passes order on."""
 
 import os
-from typing import Any, Dict, Iterable, List, Set, Tuple
+from typing import Any, Dict, List, Set
 
-from record.assumptions import Assumptions
+from record.build.assumptions import Assumptions
+from record.build.builder import Builder
+from record.build.tasks import Build, Node, Task, befores, drop_lonely, order_tasks
+from record.build.work import Work
 from record.make.ages import ages_by_words, ages_in_archives, inner_ages, note_sources
-from record.make.build import Builder
-from record.make.elsewhere import Askers, add_elsewhere, find_askers
+from record.make.elsewhere import add_elsewhere, find_askers
 from record.make.folders import add_folders, apart, parents
-from record.make.graph import Build, Node, Task, befores, drop_lonely, order_tasks
 from record.make.inner import add_inner
 from record.make.locks import pass_locks
-from record.make.owners import Work
 from record.make.unfiled import count_listings
 from record.ninja.fix import owner_of
 from record.ninja.manifest import Edge
@@ -38,13 +38,9 @@ class NinjaBuild(Build):
     tool = "ninja"
 
     def __init__(self, ninja: Ninja, stage: Stage, name: str) -> None:
-        super().__init__(ninja, name, None)  # type: ignore[arg-type]
+        super().__init__(ninja, name)
         self.ninja, self.from_manifest = ninja, stage
         self.edges: List[Edge] = []  # of each task
-
-    @property
-    def folder(self) -> str:
-        return self.ninja.folder
 
     @property
     def words(self) -> str:
@@ -70,21 +66,9 @@ class NinjaBuilder(Builder):
 
     def __init__(self, ninja: Ninja, number: int, before: Dict[str, str], removed: Set[str], names: Names, assumed: Assumptions) -> None:
         self.ninja, self.stage = ninja, ninja.stages[number]
-        self.make, self.number, self.names, self.assumed = ninja, number, names, assumed  # type: ignore[assignment]
         is_last = number == len(ninja.stages) - 1
-        self.build = NinjaBuild(ninja, self.stage, "goals" if is_last else "manifest")
-        self.before, self.removed = before, removed
-        self.holes: List[str] = []
-        self.of_node: Dict[str, int] = {}
-        self.look_of: Dict[str, int] = {}
-        self.made: Set[str] = set()
-        self.tried: Set[str] = set()
-        self.timed: Dict[str, Set[int]] = {}
-        self.timers: Dict[str, Set[int]] = {}
-        self.births: Dict[str, Set[int]] = {}
-        self.askers = Askers([], [], set())
-        self.aged: Dict[str, Set[int]] = {}
-        self.sources: Dict[str, List[Set[str]]] = {}
+        super().__init__(ninja, number, names, assumed, NinjaBuild(ninja, self.stage, "goals" if is_last else "manifest"), before)
+        self.removed = removed
 
     def run(self) -> Build:
         """All steps."""
@@ -230,10 +214,6 @@ class NinjaBuilder(Builder):
                 self.holes.append("ninja made the folder %s, and no statement needs it" % path)
 
     # ---------------------------------------------------------------- footprints
-    def events(self, task: Task) -> Iterable[Tuple[str, str]]:
-        for work in task.works:
-            yield from work.events
-
     def fill(self) -> None:
         """What each task reads and writes."""
         created = self.created()

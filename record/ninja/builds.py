@@ -3,10 +3,10 @@
 import os
 from typing import List, Tuple
 
-from record.assumptions import Assumptions
+from record.build.assumptions import Assumptions
+from record.build.tasks import Build
 from record.granted import add_granted_by_ninja
 from record.make.elsewhere import Elsewhere
-from record.make.graph import Build
 from record.make.owners import Owners
 from record.ninja.build import NinjaBuild, NinjaBuilder
 from record.ninja.log import Kept, Missing, ask_missing, version_of

@@ -5,11 +5,12 @@ import os
 import re
 from collections import Counter
 from dataclasses import dataclass, field
-from typing import Callable, Dict, Iterator, List, Optional, Set, Tuple
+from typing import Callable, Dict, Iterable, List, Optional, Set, Tuple
 
 from record import machine
+from record.build.work import Pair, Tool, Work
 from record.commands import shelltext
-from record.make.owners import Owners, Work
+from record.make.owners import Owners
 from record.ninja.dyndep import read_dyndep
 from record.ninja.log import Kept, ends, new_outputs, text_of
 from record.ninja.manifest import Edge, Manifest, Unreadable, canonical, read_manifest
@@ -49,7 +50,7 @@ class Stage:
 
 
 @dataclass(eq=False)
-class Ninja:
+class Ninja(Tool):
     """One ninja process."""
 
     life: Life
@@ -82,10 +83,8 @@ class Ninja:
         maker = manifest.makers.get(canonical(self.file))
         return manifest.below([maker]) if maker is not None else set()
 
-    def compared(self) -> Iterator[Tuple[str, str]]:
-        """Outputs, each with the inputs whose ages ninja compares with its own."""
-        for stage in self.stages:
-            yield from stage.manifest.compared()
+    def compared_by_stage(self) -> List[Iterable[Pair]]:
+        return [stage.manifest.compared() for stage in self.stages]
 
 
 def options_of(argv: List[str]) -> "Optional[Tuple[Dict[str, str], List[str]]]":

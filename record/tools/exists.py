@@ -9,9 +9,10 @@ import re
 from dataclasses import dataclass
 from typing import Dict, Iterable, List, Optional, Set, Tuple
 
+from record.build.work import Work
 from record.commands.shelltext import contents
 from record.make.database import Base
-from record.make.owners import Owners, Work
+from record.make.owners import Owners
 from record.make.words import Round, Words
 from record.trace.events import LISTED, MAKER_SEEN, READ, REMOVED, WRITTEN
 from record.trace.lives import Life

@@ -26,7 +26,7 @@ import record.importing  # noqa: E402,F401  (once, for all recordings of this pr
 import record.main  # noqa: E402,F401
 from fuzz_directed import Holds, Watch, schedules  # noqa: E402
 from fuzz_places import Place, Ran  # noqa: E402
-from record.assumptions import TEXTS  # noqa: E402
+from record.build.assumptions import TEXTS  # noqa: E402
 
 RECORDER = HERE.parent.parent / "record" / "race-record"
 SECONDS = 120

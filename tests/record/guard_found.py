@@ -62,6 +62,6 @@ FOUND_GUARDS: List[Guard] = [
     Guard("missing: second expansions that look at nothing", "missing/anew.py", "return any(LOOKS.search(one) for text in texts", "return any(True for text in texts", later("second_expansion_that_looks_at_nothing")),
     Guard("searches: names that begin as a rule says", "make/searches.py", " or stem.startswith(self.heads)", "", "test_found.Searches.test_names_that_are_kept"),
     Guard("searches: names that end as a rule says", "make/searches.py", " or stem.endswith(self.tails)", "", "test_found.Searches.test_names_that_are_kept"),
-    Guard("names with blanks behind a bar", "make/build.py", ".difference(self.graph.base.prerequisites.get(node.name, ()))", "", found("name_with_a_blank_behind_a_bar"), YES),
+    Guard("names with blanks behind a bar", "make/targets.py", ".difference(self.graph.base.prerequisites.get(node.name, ()))", "", found("name_with_a_blank_behind_a_bar"), YES),
     Guard("names with blanks of one recipe", "make/graph.py", "for other in (one for one in others if one not in parts):", "for other in others:", found("name_with_a_blank_beside_another"), YES),
 ]

@@ -64,7 +64,7 @@ MISSING_GUARDS: List[Guard] = [
     Guard("missing: phony recipes", "missing/inputs.py", "if asks(build) or id(build) in turned.reads:", "if asks(build):", later("phony_recipes_too")),
     Guard("missing: what nobody orders", "missing/inputs.py", "              for path, who in turned.holes.items()]", "              for path, who in ()]", one_later("hole", "not called")),
     Guard("missing: looks of who calls a make", "missing/turned.py", "                self.again[path] = None\n", "                pass\n", one_later("premise", "a stamp")),
-    Guard("missing: what another recipe made", "missing/inputs.py", '("not-run", made_elsewhere(builds, turned)), ', "", one_later("premise", "another recipe")),
+    Guard("missing: what another recipe made", "missing/inputs.py", '("not-run", made_elsewhere(makes, turned)), ', "", one_later("premise", "another recipe")),
     Guard("missing: files of who calls a make", "make/called.py", "found = turned.settling()", "found = set()", one_later("premise", "a caller")),
     Guard("missing: files that make reads", "make/called.py", "found.update(act.path for act in make.life.acts if act.kind", "found.update(act.path for act in () if act.kind", one_later("premise", "a file that make reads")),
     Guard("missing: makefiles of dependencies", "make/called.py", "return bool(MACRO.search(text)) or any(", "return bool(MACRO.search(text)) or False and any(", one_later("premise", "a makefile of dependencies alone")),

@@ -33,7 +33,7 @@ SOUGHT_GUARDS: List[Guard] = [
     Guard("folders: that are made by a shell which is traced", "commands/traced.py", " or any(re.match(", " or False and any(re.match(", sought("folder_made_or_true_and_traced_by_a_word"), YES),
     Guard("folders: that are made by a text which is traced for nobody", "commands/traced.py", "traces and (is_kept", "traces and (True", sought("folder_made_or_true_and_traced_for_nobody"), FALSE_RACE),
     Guard("folders: that are made by a text which asks for its last word", "commands/traced.py", "SEES.search(text) or ", "", sought("folder_made_or_true_and_last_word"), YES),
-    Guard("folders: errors that a make above keeps", "make/quiet.py", "builder.make.words.kept_errors if builder", '"" if builder', sought("folder_made_or_true_in_a_make_with_errors"), YES),
+    Guard("folders: errors that a make above keeps", "make/quiet.py", "builder.make.words.kept_errors if isinstance", '"" if isinstance', sought("folder_made_or_true_in_a_make_with_errors"), YES),
     Guard("folders: errors that are kept with the output", "make/words.py", "return self.output if self.is_joined else self.errors", "return self.errors", sought("folder_made_or_true_in_a_make_with_errors"), YES),
     Guard("folders: errors of a line that may fail", "make/quiet.py", " or not kept and is_ignored(", " or is_ignored(", sought("folder_made_by_a_line_in_a_make_with_errors"), YES),
     Guard("folders: output that a make above keeps", "make/words.py", "return self.output if self.is_joined else self.errors", "return self.errors or self.output", sought("folder_made_or_true_in_a_make_with_output"), FALSE_RACE),

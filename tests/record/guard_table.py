@@ -77,7 +77,7 @@ def warm(name: str) -> str:
 
 
 # Make's own looks lead to the same paths: without them a target is found by its name and its folder alone.
-LOOKS = ("make/build.py", "return {**self.make.looked.get(spelled, {}), **self.make.looked.get(node.name, {})}", "return {}")
+LOOKS = ("make/targets.py", "return {**self.make.looked.get(spelled, {}), **self.make.looked.get(node.name, {})}", "return {}")
 
 TRACE: List[Guard] = [
     Guard("devices are no files", "trace/replay.py", "if path.startswith(KERNEL) and DEVICES.match(path) and not self.is_inside(path):", "if False:", small("devices_are_no_files"), FALSE_RACE),
@@ -138,9 +138,9 @@ NAMES: List[Guard] = [
     Guard("rename: two names in one step", "trace/moves.py", 'self.holes.append("two names were exchanged', 'str("two names were exchanged', "test_replay.Footprints.test_names_that_are_exchanged_are_a_hole"),
     Guard("rename: the new name holds the file", "trace/moves.py", "        self.names.put(new.folder, new.name, inode)\n\n    def move_folder", "\n    def move_folder", "test_replay.Footprints.test_folder_that_gets_a_third_name"),
     Guard("links are followed when they are met", "trace/names.py", "hops < LINK_LIMIT:", "False:", case("link-replaced"), LOST_RACE),
-    Guard("failed looks are reads", "make/build.py", "elif kind in ASKS and path in writers:", 'elif kind in "RSPK" and path in writers:', small("absent_file"), YES),
+    Guard("failed looks are reads", "build/builder.py", "elif kind in ASKS and path in writers:", 'elif kind in "RSPK" and path in writers:', small("absent_file"), YES),
     Guard("removals are writes", "trace/events.py", "CHANGES = WRITTEN + CREATED + REMOVED + LOCKED\n", "CHANGES = WRITTEN + CREATED + LOCKED\n", small("removed_file"), YES),
-    Guard("listings see what is created", "make/build.py", "task.read_by_list(join(folder, name))", "pass", small("pattern_of_eval"), YES),
+    Guard("listings see what is created", "build/builder.py", "task.read_by_list(join(folder, name))", "pass", small("pattern_of_eval"), YES),
     Guard("patterns of computed text are *", "commands/shelltext.py", 'cut or "$" in text or', "cut or", "test_shellvalues.Makefiles.test_loop_over_names_of_the_environment", YES),
     Guard("patterns of eval are *", "commands/shelltext.py", r' or re.search(r"\beval\b", text)', "", small("pattern_of_eval"), YES,
           ("commands/shelltext.py", 'OPTIONS.search(" ".join(argv)) or TAKES_IN.search(text)', "False")),
@@ -148,7 +148,7 @@ NAMES: List[Guard] = [
     Guard("lists of make: makefiles that are not there", "make/owners.py", "return ABSENT in kinds", "return False and ABSENT in kinds", small("search_that_lists_a_folder"), FALSE_RACE),
     Guard("lists of make: exported macros", "make/memory.py", "open_names = exported_lists(builder.known)", "open_names = False", small("wildcard_that_a_target_exports"), YES),
     Guard("macros: exports of a target", "make/exports.py", r"(?:[^\t\n#][^\n]*?:)??", "", small("macro_that_a_target_exports"), YES),
-    Guard("patterns keep other names out", "make/build.py", " and fits(pattern, join(folder, name), self.names):", ":", case("glob-other-names"), FALSE_RACE),
+    Guard("patterns keep other names out", "build/builder.py", " and fits(pattern, join(folder, name), self.names):", ":", case("glob-other-names"), FALSE_RACE),
     Guard("scripts are of their interpreter", "trace/started.py", "argv = argv if own == found.path else shelltext.with_interpreter(argv, found.path, self.first_words(found.path))", "pass", small("script_that_compares_ages"), YES),
 ]
 FOLDERS: List[Guard] = [
@@ -179,14 +179,14 @@ GRAPH: List[Guard] = [
     Guard("decisions: ages that somebody asks for", "make/fixed.py", " or node.label in asked))", "))", small("age_that_somebody_asks_for"), YES),
     Guard("decisions: files that are replaced", "make/fixed.py", " if kind in (CREATED, REMOVED)}", ' if kind in ""}', small("file_that_is_replaced"), YES),
     Guard("decisions: files that were not there", "make/fixed.py", 'builder.before.get(node.path) == "f" and node.path not in replaced', "True", case("no-rule"), YES),
-    Guard("decisions: cold targets depend on no age", "make/build.py", "([] if was_absent(self, node, own) else", "([] if False else", small("folder_as_prerequisite_cold"), FALSE_RACE),
-    Guard("decisions: order-only has no age", "make/build.py", "p not in only and self.graph", "self.graph", small("folder_behind_a_bar"), FALSE_RACE),
+    Guard("decisions: cold targets depend on no age", "make/targets.py", "([] if was_absent(self, node, own) else", "([] if False else", small("folder_as_prerequisite_cold"), FALSE_RACE),
+    Guard("decisions: order-only has no age", "make/targets.py", "p not in only and self.graph", "self.graph", small("folder_behind_a_bar"), FALSE_RACE),
     Guard("looks of leaves", "make/build.py", "elif own >= 0 and self.is_leaf(node):", "elif False:", small("macro_of_leaves"), FALSE_RACE),
-    Guard("looks at links: what the first look led to", "make/build.py", "return [path for path, place in self.seen(node).items() if place < began] or [node.path]", "return [node.path]", small("link_to_a_file_that_was_there"), FALSE_RACE),
+    Guard("looks at links: what the first look led to", "make/targets.py", "return [path for path, place in self.seen(node).items() if place < began] or [node.path]", "return [node.path]", small("link_to_a_file_that_was_there"), FALSE_RACE),
     Guard("looks at links: what stood behind them", "make/build.py", "needed = self.looked_at(node, own) + self.followed(node, own)", "needed = self.looked_at(node, own)", small("link_of_a_target_that_is_kept"), YES),
     Guard("looks at links: they are read", "make/build.py", "        task.reads.update(path for path in self.followed(node, at)", "        set().update(path for path in self.followed(node, at)", small("link_that_is_replaced_later"), YES),
     Guard("looks at links: no act beside the look", "trace/replay.py", "self.put(life, READ, link, word)", "self.put(life, READ, link)", small("link_that_make_looks_at_again"), FALSE_RACE),
-    Guard("looks of leaves: not where a recipe runs below", "make/build.py", "return node.label not in self._busy", "return True", small("look_behind_a_recipe"), YES),
+    Guard("looks of leaves: not where a recipe runs below", "make/targets.py", "return node.label not in self._busy", "return True", small("look_behind_a_recipe"), YES),
     Guard("first looks", "make/build.py", "        self.make_first_looks()\n", "", small("first_look_at_a_target"), YES),
     Guard("first looks: by what they change", "make/build.py", "and (self.has_effect(node) or", "and (True or", small("first_look_that_changes_nothing"), FALSE_RACE),
     Guard("first looks: not where the target is remade anyway", "make/build.py", "not remade_anyway(self, node, others) and ", "", small("archive_members_in_order"), FALSE_RACE),

@@ -4,8 +4,9 @@ import unittest
 from typing import Dict, List, Mapping, Sequence, Tuple
 
 import support  # noqa: F401
-from record.assumptions import Assumptions
-from record.make.build import Build, Builder
+from record.build.assumptions import Assumptions
+from record.build.tasks import Build
+from record.make.build import MakeBuilder
 from record.make.owners import Owners
 from record.make.words import read_words
 from record.trace.lives import Life
@@ -43,7 +44,7 @@ def build_of(rules: Mapping[str, Sequence[str]], done: Mapping[str, Events], the
         names.put(folder, name, Inode(kind))
     owners = Owners([make, *make.children], [read_words(7, 0, words_of(rules))])
     assert not owners.holes, owners.holes
-    return Builder(owners.makes[0], 0, names, Assumptions()).run()
+    return MakeBuilder(owners.makes[0], 0, names, Assumptions()).run()
 
 
 def meetings(build: Build) -> Dict[str, Tuple[str, str]]:

@@ -17,7 +17,7 @@ from guard_found import FOUND_GUARDS
 from guard_hidden import HIDDEN_GUARDS
 from guard_shapes import SHAPES
 from guard_table import GUARDS
-from record.assumptions import TEXTS
+from record.build.assumptions import TEXTS
 from record.ninja.manifest import read_manifest
 
 RACE = Project(1, [Block(["a"], "a: ; sleep 0.2; echo a > a\n"), Block(["b"], "b: ; cat a > b || true\n")])

@@ -4,7 +4,8 @@ import unittest
 from typing import Dict, List, Set
 
 import support  # noqa: F401
-from record.make.graph import Graph, befores, order_tasks, Task, Node
+from record.build.tasks import Node, Task, befores, order_tasks
+from record.make.graph import Graph
 from record.make.owners import Make
 from record.make.words import read_words
 from record.trace.lives import Life

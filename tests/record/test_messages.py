@@ -12,7 +12,7 @@ from pathlib import Path
 from typing import Dict, List, Optional, Tuple
 
 import support
-from record.assumptions import TEXTS
+from record.build.assumptions import TEXTS
 from record.judge import Race, Verdict, ended, explained
 from record.missing.report import Question, missing_text
 from record.report import Colours, Judged, report

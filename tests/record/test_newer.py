@@ -5,7 +5,7 @@ from types import SimpleNamespace
 from typing import Dict, cast
 
 import support
-from record.assumptions import Assumptions
+from record.build.assumptions import Assumptions
 from record.make.considered import Considered, is_by_search, looked_with, takes_for_file
 from record.make.database import Base, read_base
 from record.make.macros import Macros

@@ -4,7 +4,7 @@ import unittest
 from typing import List, Sequence
 
 import support
-from record.assumptions import Assumptions
+from record.build.assumptions import Assumptions
 from record.make.owners import Owners
 from record.ninja.build import NinjaBuilder
 from record.ninja.log import Kept

@@ -5,7 +5,7 @@ import re
 from typing import TYPE_CHECKING, Any, Dict, Iterator, List, Mapping, Sequence, Set, Tuple
 
 if TYPE_CHECKING:
-    from record.make.graph import Task
+    from record.build.tasks import Task
 
 LABEL_LIMIT = 4096
 # What stands for something else than a file: for its age, for who makes a folder.

@@ -1,0 +1,133 @@
+"""A build in the making: its tasks, and what each of them reads and writes, for make and for ninja."""
+
+import os
+from typing import Dict, Iterable, List, NamedTuple, Optional, Protocol, Set, Tuple
+
+from record.build.assumptions import Assumptions
+from record.build.tasks import Build, Node, Task
+from record.build.work import Tool, Work
+from record.trace.events import AGE_SEEN, ASKS, CHANGES, CREATED, ENTERED, FOLDER_KEPT, FOLDER_REMOVED, LISTED, MAKES, REMOVED
+from record.trace.lists import fits
+from record.trace.names import Names, join
+
+Events = List[Tuple[int, List[Tuple[str, str, int]]]]
+
+
+class Askers(NamedTuple):
+    """Who may ask for ages of what the recipes of a build leave: pairs of paths, what programs did, and names that take over an age there."""
+
+    pairs: List[Tuple[str, str]]
+    works: List[Tuple[str, Work]]  # with words for who it was
+    copies: Set[str]
+
+
+class Recording(Protocol):
+    """All makes, ninjas and programs of a recording that ask for ages."""
+
+    def beside(self, builder: "Builder") -> Askers:
+        """Those of them that may ask for what the recipes of a build leave."""
+
+
+class Builder:
+    """What is known of a build so far."""
+
+    events_of_all: Optional[Events] = None
+    elsewhere: Optional[Recording] = None
+    works_late = False  # make does something for a recipe when that starts
+
+    def __init__(self, make: Tool, number: int, names: Names, assumed: Assumptions, build: Build, before: Dict[str, str]) -> None:
+        self.make, self.number, self.names, self.assumed = make, number, names, assumed
+        self.build, self.before = build, before
+        self.holes: List[str] = []
+        self.of_node: Dict[str, int] = {}
+        self.look_of: Dict[str, int] = {}
+        self.made: Set[str] = set()
+        self.tried: Set[str] = set()  # folders that a recipe could not remove, as they held something
+        self.timed: Dict[str, Set[int]] = {}  # name: who depends on its time
+        self.timers: Dict[str, Set[int]] = {}  # folder: who changes its time
+        self.births: Dict[str, Set[int]] = {}  # folder: who makes it, as far as its time is asked for
+        self.askers = Askers([], [], set())
+        self.aged: Dict[str, Set[int]] = {}  # name: who settles its age, as far as that was asked
+        self.sources: Dict[str, List[Set[str]]] = {}  # name: those whose ages it may have
+
+    def looked_at(self, node: Node, own: int) -> List[str]:
+        """The paths by which make decides whether a target is remade, its own first; ninja goes by its log."""
+        return []
+
+    def events(self, task: Task) -> Iterable[Tuple[str, str]]:
+        """The kinds and paths of all that the processes of a task did."""
+        for work in task.works:
+            yield from work.events
+
+    @property
+    def acts_at(self) -> Dict[str, int]:
+        """By label: the look that has what make did by itself for a recipe. What it does when the recipe starts may come later, as
+        where a bound on the load (`-l`) lets that wait: then the recipe has all."""
+        return {} if self.works_late else self.look_of
+
+    def acts_work(self, node: Node) -> Optional[Work]:
+        """What make did itself for a target; of a double-colon target it may have been for each of its rules."""
+        return self.make.acts.get((self.number, node.name))
+
+    def acts_of(self, node: Node) -> Iterable[Tuple[str, str]]:
+        """The same of what make did itself for a target; once the writers are known, its looks at names that nobody writes are left out."""
+        work = self.acts_work(node)
+        if work is None:
+            return ()
+        if not self.build.writers:
+            return work.events
+        return [(k, p) for k, p in work.events if k not in ASKS + AGE_SEEN + ENTERED or self.is_written(p)]
+
+    def note_writers(self) -> None:
+        """Which recipe writes, creates or removes which name, and who makes which folder."""
+        found: Dict[str, Set[int]] = {}
+        for at, task in enumerate(self.build.tasks):
+            looker = self.acts_at.get(task.label, at) if task.kind == "recipe" else at
+            acts = self.acts_of(task.node) if task.kind == "recipe" else ()
+            for who, events in ((at, self.events(task)), (looker, acts)):
+                for kind, path in events:
+                    if kind in CHANGES and not path.endswith("/"):
+                        found.setdefault(path, set()).add(who)
+                    elif kind in MAKES + FOLDER_REMOVED:
+                        self.made.add(path)
+                    elif kind == FOLDER_KEPT:
+                        self.tried.add(path)
+        self.build.writers = found
+
+    def is_written(self, path: str, but: int = -1) -> bool:
+        """Whether a recipe writes a name, other than the task `but`, or makes a folder of that name."""
+        return bool(self.build.writers.get(path, set()) - {but}) or path in self.made
+
+    def created(self) -> Dict[str, Dict[str, Set[int]]]:
+        """By folder: the names that recipes create or remove directly in it."""
+        table: Dict[str, Dict[str, Set[int]]] = {}
+        for at, task in enumerate(self.build.tasks):
+            if task.kind != "recipe":
+                continue
+            looker = self.acts_at.get(task.label, at)
+            for who, events in ((at, self.events(task)), (looker, self.acts_of(task.node))):
+                for kind, path in events:
+                    if kind in (CREATED, REMOVED, FOLDER_REMOVED):
+                        path = path.rstrip("/")
+                        table.setdefault(os.path.dirname(path), {}).setdefault(os.path.basename(path), set()).add(who)
+        return table
+
+    def add_events(self, at: int, events: Iterable[Tuple[str, str]], created: Dict[str, Dict[str, Set[int]]]) -> None:
+        """What a task reads and writes, by its events. `created`: by folder and name, the tasks that create or remove the name."""
+        task, writers = self.build.tasks[at], self.build.writers
+        for kind, path in events:
+            if kind in CHANGES and not path.endswith("/"):
+                task.writes.add(path)
+            elif kind in ASKS and path in writers:
+                task.read(path)
+            elif kind == LISTED:
+                folder, pattern = path.split("\0")
+                for name, who in created.get(folder, {}).items():
+                    if (who != {at}) and join(folder, name) not in self.made and fits(pattern, join(folder, name), self.names):
+                        task.read_by_list(join(folder, name))
+            elif kind == AGE_SEEN:
+                self.timed.setdefault(path, set()).add(at)
+
+    def is_known(self, path: str) -> bool:
+        """Whether the tree before the build says if a name was there."""
+        return any(path == top or path.startswith(top.rstrip("/") + "/") for top in self.names.tops)

@@ -1,0 +1,153 @@
+"""Tasks: what each reads and writes, what it waits for, and the order of them."""
+
+import heapq
+from dataclasses import dataclass, field
+from typing import Any, Dict, List, Protocol, Set, Tuple
+
+from record.build.work import Tool, Work
+
+
+class Run(Protocol):
+    """What a tool said of a recipe that ran."""
+
+    target: str
+    is_said: bool
+
+
+@dataclass(eq=False)
+class Node:
+    """A target that make looked at, or one rule of a double-colon target."""
+
+    name: str
+    label: str
+    first: int
+    done: int
+    prerequisites: Dict[str, None] = field(default_factory=dict)  # labels of other nodes
+    jobs: List[Run] = field(default_factory=list)
+    must: bool = False
+    has_recipe: bool = False
+    phony: bool = False
+    path: str = ""
+    rule: int = 0
+
+
+@dataclass(eq=False)
+class Task:
+    """One line of the text of tasks."""
+
+    label: str
+    node: Node
+    kind: str  # recipe, decision, look, group
+    after: Set[int] = field(default_factory=set)
+    reads: Set[str] = field(default_factory=set)
+    writes: Set[str] = field(default_factory=set)
+    works: List[Work] = field(default_factory=list)
+    listed: Set[str] = field(default_factory=set)  # what it reads by a list of the folder alone
+
+    def read(self, path: str) -> None:
+        """Reads a name, or asks for it."""
+        self.reads.add(path)
+        self.listed.discard(path)
+
+    def read_by_list(self, path: str) -> None:
+        """Reads a name of a folder that it lists."""
+        if path not in self.reads:
+            self.reads.add(path)
+            self.listed.add(path)
+
+
+@dataclass
+class Build:
+    """The tasks of one round of a make, or of one stage of a ninja, in a serial order."""
+
+    make: Tool
+    stage: str
+    tasks: List[Task] = field(default_factory=list)
+    bits: List[int] = field(default_factory=list)
+    writers: Dict[str, Set[int]] = field(default_factory=dict)
+    meanings: Dict[str, str] = field(default_factory=dict)
+    askers: Dict[str, int] = field(default_factory=dict)  # by name that stands for an age: the first task that asks for it, -1 where none does
+    tool = ""
+
+    @property
+    def folder(self) -> str:
+        """Where the process works; paths are relative to it."""
+        return self.make.folder
+
+    @property
+    def words(self) -> str:
+        """Its words."""
+        raise NotImplementedError
+
+    @property
+    def considered(self) -> int:
+        """How many targets it looked at."""
+        raise NotImplementedError
+
+    def about(self, at: int) -> Dict[str, Any]:
+        """Where the recipe of a task stands, and its first line."""
+        raise NotImplementedError
+
+    def is_before(self, first: int, second: int) -> bool:
+        """Whether one task has ended before another starts."""
+        return bool(self.bits[second] >> first & 1)
+
+    def unordered(self, first: int, second: int) -> bool:
+        """Whether nothing orders two tasks."""
+        return first != second and not self.is_before(first, second) and not self.is_before(second, first)
+
+
+def order_tasks(tasks: List[Task], after: List[Set[int]], keys: List[Tuple[int, int]]) -> Tuple[List[int], int]:
+    """A serial order of tasks; edges that close a cycle are dropped and counted."""
+    users: List[List[int]] = [[] for _ in tasks]
+    left = [len(a) for a in after]
+    for at, earlier in enumerate(after):
+        for one in earlier:
+            users[one].append(at)
+    heap = [(keys[at], at) for at in range(len(tasks)) if not left[at]]
+    heapq.heapify(heap)
+    order: List[int] = []
+    done = [False] * len(tasks)
+    dropped = 0
+    while len(order) < len(tasks):
+        if not heap:
+            at = min((a for a in range(len(tasks)) if not done[a]), key=lambda a: (left[a], keys[a]))
+            dropped += left[at]
+            after[at] = {p for p in after[at] if done[p]}
+            left[at] = 0
+            heapq.heappush(heap, (keys[at], at))
+        _, at = heapq.heappop(heap)
+        if done[at]:
+            continue
+        done[at] = True
+        order.append(at)
+        for user in users[at]:
+            if not done[user] and at in after[user]:
+                left[user] -= 1
+                if left[user] == 0:
+                    heapq.heappush(heap, (keys[user], user))
+    return order, dropped
+
+
+def befores(after: List[Set[int]], order: List[int]) -> List[int]:
+    """For each task the set, as bits, of all that have ended before it starts."""
+    bits = [0] * len(after)
+    for at in order:
+        value = 0
+        for one in after[at]:
+            value |= bits[one] | (1 << one)
+        bits[at] = value
+    return bits
+
+
+def drop_lonely(tasks: List[Task], kept: Set[str]) -> None:
+    """Paths that one task alone touches say nothing, except those to keep; nor do reads of what nobody writes."""
+    count: Dict[str, int] = {}
+    written: Set[str] = set()
+    for task in tasks:
+        written |= task.writes
+        for path in task.reads | task.writes:
+            count[path] = count.get(path, 0) + 1
+    for task in tasks:
+        task.reads = {p for p in task.reads if p in written and count[p] > 1 and p not in task.writes}
+        task.writes = {p for p in task.writes if count[p] > 1 or p in kept}

@@ -1,0 +1,61 @@
+"""Who did what: what the processes of a recipe did, and the makes and ninjas below it."""
+
+from dataclasses import dataclass, field
+from typing import Dict, Iterable, Iterator, List, Tuple
+
+from record.trace.events import CHANGES
+from record.trace.lives import Key, Life
+
+Pair = Tuple[str, str]  # an output, and an input whose age is compared with its own
+
+
+@dataclass
+class Work:
+    """What a recipe did: its processes, their events, and the makes below it."""
+
+    events: Dict[Key, int] = field(default_factory=dict)
+    lives: List[Life] = field(default_factory=list)
+    makes: List["Tool"] = field(default_factory=list)
+    ninjas: List["Tool"] = field(default_factory=list)
+
+    def add(self, kind: str, path: str, place: int) -> None:
+        """Takes one event; its first place counts."""
+        key = (kind, path)
+        if key not in self.events or self.events[key] > place:
+            self.events[key] = place
+
+
+class Tool:
+    """A process that builds: a make or a ninja."""
+
+    life: Life
+    folder: str
+    acts: Dict[Tuple[int, str], Work]  # by number of the round and target: what it did by itself for a recipe
+
+    def compared_by_stage(self) -> List[Iterable[Pair]]:
+        """For each stage of a ninja: whose ages it compares."""
+        return []
+
+    def compared(self) -> Iterator[Pair]:
+        """The same of all stages."""
+        for pairs in self.compared_by_stage():
+            yield from pairs
+
+
+def take_piece(work: Work, ran: Work, events: List[Tuple[str, str, int]]) -> None:
+    """What make did by itself, and what it ran for that, belongs to a recipe."""
+    work.lives += ran.lives
+    work.makes += ran.makes
+    for kind, path, place in events:
+        work.add(kind, path, place)
+
+
+def written_by(lives: List[Life]) -> Dict[str, Tuple[int, int]]:
+    """When each file was first and last written."""
+    found: Dict[str, Tuple[int, int]] = {}
+    for life in lives:
+        for path, last in life.changed.items():
+            first = min(life.events.get((kind, path), last) for kind in CHANGES)
+            known = found.get(path, (first, last))
+            found[path] = (min(first, known[0]), max(last, known[1]))
+    return found
