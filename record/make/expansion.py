@@ -9,15 +9,12 @@ from dataclasses import dataclass, field
 from functools import cached_property
 from itertools import product
 from math import prod
-from typing import TYPE_CHECKING, AbstractSet, Callable, Dict, FrozenSet, Iterable, Iterator, List, NamedTuple, Optional, Sequence, Set, Tuple
+from typing import AbstractSet, Callable, Dict, FrozenSet, Iterable, Iterator, List, NamedTuple, Optional, Sequence, Set, Tuple
 
-from record.make.pieces import BLANKS, FUNCTION, KEPT, Reference, Unclear, pieces, words_of
+from record.make.pieces import BLANKS, FUNCTION, KEPT, OPEN, Reference, Unclear, pieces, words_of
 from record.make.references import ANY, ENDS, with_functions
+from record.make.steady import Steady
 
-if TYPE_CHECKING:
-    from record.make.macros import Macros
-
-OPEN = "\0"
 UNKNOWN = frozenset((OPEN,))
 NOTHING = frozenset(("",))
 WORDS = re.compile("[^%s]+" % BLANKS)
@@ -71,8 +68,9 @@ class Expansion:
     """One text that make expands, for a recipe whose target has one of some names, where these are known. `common`: what was worked out of macros that ask
     for no target."""
 
-    def __init__(self, known: "Macros", targets: Tuple[str, ...], common: Dict[Key, Held]) -> None:
-        self.known, self.common = known, common
+    def __init__(self, steady: Steady, targets: Tuple[str, ...], common: Dict[Key, Held]) -> None:
+        self.steady, self.known, self.common = steady, steady.known, common
+        known = self.known
         target = targets[0] if len(targets) == 1 else ""
         is_known = target and target not in known.base.double and PRINTABLE.fullmatch(known.base.stems.get(target, OPEN))
         self.own = {"@": frozenset(targets) or UNKNOWN, "*": frozenset((known.base.stems[target],)) if is_known else UNKNOWN}  # what make itself gives macros of a recipe
@@ -136,7 +134,7 @@ class Expansion:
             return self.own.get(name, UNKNOWN)
         if not (PLAIN_NAME.fullmatch(name) or PARTS.fullmatch(name)) or name == ".VARIABLES":
             raise Unclear
-        if self.known.steady.is_odd(name):
+        if self.steady.is_odd(name):
             self.take(name)
             return UNKNOWN
         return self.held(name, scope)
@@ -157,8 +155,8 @@ class Expansion:
             raise Unclear
         outer, self.asked, self.done[key] = self.asked, Asked(), RING
         try:
-            found = {text: self.text(text, scope) for text in self.known.steady.texts(key[0])}
-            values = self.known.steady.values(key[0])
+            found = {text: self.text(text, scope) for text in self.steady.texts(key[0])}
+            values = self.steady.values(key[0])
             held = Held(union(found[text] if text in found else self.text(text, scope) for text in values) if values is not None else UNKNOWN, self.asked)
         finally:
             outer.add(self.asked)
@@ -278,11 +276,11 @@ class Answer(NamedTuple):
     may_be_less: bool
 
 
-def asked(known: "Macros", text: str, targets: Tuple[str, ...], common: Dict[Key, Held]) -> Answer:
+def asked(steady: Steady, text: str, targets: Tuple[str, ...], common: Dict[Key, Held]) -> Answer:
     """What a text asks for."""
-    if known.is_lost or ANY in known.changed:
+    if steady.known.is_lost or ANY in steady.known.changed:
         return Answer(None, False)
-    one = Expansion(known, targets, common)
+    one = Expansion(steady, targets, common)
     try:
         one.text(text, {})
     except (Unclear, RecursionError):
@@ -293,8 +291,8 @@ def asked(known: "Macros", text: str, targets: Tuple[str, ...], common: Dict[Key
 class Answers:
     """What the texts of one make ask for."""
 
-    def __init__(self, known: "Macros") -> None:
-        self.known = known
+    def __init__(self, steady: Steady) -> None:
+        self.steady, self.known = steady, steady.known
         self.found: Dict[Tuple[str, Tuple[str, ...]], Answer] = {}
         self.common: Dict[Key, Held] = {}
 
@@ -303,7 +301,7 @@ class Answers:
         found: Optional[FrozenSet[str]] = None
         for names in ((), self.names_of(target)):
             if (text, names) not in self.found:
-                self.found[text, names] = asked(self.known, with_functions(text), names, self.common)
+                self.found[text, names] = asked(self.steady, with_functions(text), names, self.common)
             answer = self.found[text, names]
             found = answer.reads if answer.reads is not None else found
             if not answer.may_be_less:
@@ -342,6 +340,6 @@ class Answers:
 
     def texts_of_recipe(self, target: str) -> List[str]:
         """The texts of these macros that make may expand for the recipe. What it worked out when it read the makefiles is none of them."""
-        steady, is_sure = self.known.steady, self.sure("\n".join(self.known.base.recipes.get(target, ())), target) is not None
+        steady, is_sure = self.steady, self.sure("\n".join(self.known.base.recipes.get(target, ())), target) is not None
         late = {name for name in self.of_recipe(target) if is_sure and not steady.is_odd(name)}
         return ["\n".join(steady.texts(name)) if name in late else self.known.text_of(name) for name in self.of_recipe(target)]

@@ -2,15 +2,11 @@
 
 import re
 from functools import cached_property
-from typing import TYPE_CHECKING, Iterator, List, Optional, Set
+from typing import Iterator, List, Optional, Set
 
+from record.make.macrotexts import ALONE, WORD, MacroTexts
 from record.make.references import evals, joined, with_functions
 
-if TYPE_CHECKING:
-    from record.make.macros import Macros
-
-ALONE = re.compile(r"(?<!\S)\$[({]([\w.-]+)[)}](?!\S)")  # a macro that stands for whole words
-WORD = re.compile(r"[\w.-]+")
 BEGINS = r"[ \t]*(?:(?:override|private)[ \t]+)*export\b"
 EXPORTED = re.compile(r"(?m)^(?:[^\t\n#][^\n]*?:)??" + BEGINS + r"([^\n]*)")  # of a macro or of all, for one target too: the first of a line
 IN_EVAL = re.compile(r"\bexport\b([^\n]*)")
@@ -25,7 +21,7 @@ FLAGS = ("MAKEFLAGS", "GNUMAKEFLAGS", "MAKEOVERRIDES", "MFLAGS")  # macros with 
 class Exports:
     """Those of one make."""
 
-    def __init__(self, known: "Macros") -> None:
+    def __init__(self, known: MacroTexts) -> None:
         self.known = known
 
     @cached_property
@@ -34,18 +30,13 @@ class Exports:
         if ".EXPORT_ALL_VARIABLES" in self.known.text or ".EXPORT_ALL_VARIABLES" in self.known.base.prerequisites:
             return None
         flags = [text for name in FLAGS for text in self.known.texts.get(name, ())]
-        found = set(GIVEN.findall(" ".join((*self.words_of_make, *flags))))
+        found = set(GIVEN.findall(" ".join((*self.known.words_of_make, *flags))))
         for text in self.texts:
             words = self.words(text)
             if words is None:
                 return None
             found |= words
         return found
-
-    @property
-    def words_of_make(self) -> List[str]:
-        """The words of make, and those that it was handed."""
-        return [self.known.make.words.args, self.known.make.words.flags]
 
     @cached_property
     def texts(self) -> List[str]:
@@ -56,7 +47,7 @@ class Exports:
 
     def in_words(self) -> Iterator[str]:
         """The same in the words of make."""
-        for text in self.words_of_make:
+        for text in self.known.words_of_make:
             for found in EVALUATED.finditer(text.replace("\\ ", " ")):
                 yield from IN_EVAL.findall(found.group(1))
 

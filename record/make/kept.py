@@ -3,13 +3,11 @@ sees who that was where all would have set the same."""
 
 import re
 from functools import cached_property
-from typing import TYPE_CHECKING, Dict, Iterator, List, Set
+from typing import Dict, Iterator, List, Set
 
 from record.make.assigned import once
-from record.make.references import ANY, BINDS, EVAL, Eval, evals, fits, name_at, named
-
-if TYPE_CHECKING:
-    from record.make.macros import Macros, Use
+from record.make.macrotexts import MacroTexts, Use
+from record.make.references import ANY, EVAL, Eval, evals, fits, name_at, named
 
 OWN = re.compile(r"\$[({]?(?:[@<^+*?|%]|\d)")  # names of a target and its prerequisites, and arguments
 LOOKS = re.compile(r"\$[({](?:value|flavor|origin)[ \t]+")  # what sees whether a macro was asked for
@@ -18,7 +16,7 @@ LOOKS = re.compile(r"\$[({](?:value|flavor|origin)[ \t]+")  # what sees whether 
 class Kept:
     """Those of one make."""
 
-    def __init__(self, known: "Macros") -> None:
+    def __init__(self, known: MacroTexts) -> None:
         self.known = known
         self.found: Dict[str, bool] = {}
 
@@ -59,12 +57,7 @@ def readings(text: str) -> Iterator[str]:
     yield text.replace("$$", "$").replace("$$", "  ")
 
 
-def bound_in(text: str) -> Set[str]:
-    """The macros to which loops in a text give values."""
-    return {ANY if "$" in name else name for found in BINDS.finditer(text) for name in found.group(1).split()}
-
-
-def keepers(found: Dict[str, "Use"]) -> Dict[str, List[str]]:
+def keepers(found: Dict[str, Use]) -> Dict[str, List[str]]:
     """For each macro that works out its value once: the targets whose recipes ask for it."""
     table: Dict[str, List[str]] = {}
     for target, use in found.items():

@@ -6,7 +6,7 @@ import os
 import re
 from dataclasses import dataclass, field
 from functools import cached_property
-from typing import Container, Dict, Iterable, List, Optional, Set, Tuple
+from typing import Container, Dict, Iterable, Iterator, List, Optional, Set, Tuple
 
 from record import machine
 from record.build.work import Tool, Work, take_piece, written_by
@@ -117,6 +117,16 @@ def beginning(make: Make, number: int) -> int:
     ended = (life.died for job in jobs if id(job) in make.work for life in make.work[id(job)].lives[:1])
     start = rounds[number].start
     return max([make.ready[start] if start < len(make.ready) else make.life.born, *ended])
+
+
+def called_by(make: Make) -> Iterator[Life]:
+    """The processes that make itself calls, as with `$(shell ..)`, and all below them."""
+    own = {id(life) for work in make.work.values() for life in work.lives}
+    todo = [life for life in make.life.children if id(life) not in own]
+    while todo:
+        life = todo.pop()
+        yield life
+        todo.extend(life.children)
 
 
 def makes_of(work: Work) -> List[Make]:
@@ -312,7 +322,7 @@ class Owners:
         births = [t[0] for t in table]
         names = {n for _, r in rounds for n in r.nodes} | {v for _, r in rounds for v in r.vpath.values()}
         apart = self.removed_last(make) | self.read_archives(make, names)
-        programs = Programs(make)
+        programs = Programs(make.words, make.life)
         pieces: List[Tuple[int, List[Tuple[str, str, int]], Work]] = []
         for act in make.life.acts:
             if ready < act.place < end and (act.word not in names or programs.are_at(act.word)) and id(act) not in apart:

@@ -4,6 +4,7 @@ import re
 from functools import lru_cache
 from typing import Iterator, List, NamedTuple, Optional, Sequence, Tuple
 
+OPEN = "\0"
 CLOSES = {"(": ")", "{": "}"}
 BRACKETS = {"(": re.compile("[()]"), "{": re.compile("[{}]")}
 SIGNS = {"(": re.compile("[(),]"), "{": re.compile("[{},]")}

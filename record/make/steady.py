@@ -2,15 +2,13 @@
 
 import re
 from functools import cached_property
-from typing import TYPE_CHECKING, Dict, Iterator, List, Optional, Set, Tuple
+from typing import Dict, Iterator, List, Optional, Set, Tuple
 
 from record.make.assigned import BEHIND_TWO, all_defined, late_in, once, signed_in
 from record.make.database import LINES_TEXT
-from record.make.expansion import OPEN
+from record.make.macrotexts import MacroTexts
+from record.make.pieces import OPEN
 from record.make.references import CONTINUED, EVAL, read_again, with_functions
-
-if TYPE_CHECKING:
-    from record.make.macros import Macros
 
 AT_ONCE = (":", "::")  # signs before `=` by which make works a value out when it reads the line
 FIXED = ("environment", "environment under -e", "command line", "default")  # what gives a macro its value and is no makefile
@@ -39,7 +37,7 @@ def sets(line: str, name: str) -> bool:
 class Steady:
     """Those of one make."""
 
-    def __init__(self, known: "Macros") -> None:
+    def __init__(self, known: MacroTexts) -> None:
         self.known = known
         self.by_name: Dict[str, List[str]] = {}
         self.at_end: Dict[str, Optional[List[str]]] = {}  # by name: its values while recipes run
@@ -174,7 +172,7 @@ class Steady:
 
     def given_by_words(self) -> Iterator[Tuple[str, bool, Set[str]]]:
         """The same that the words of make give, such as `--eval='V = $(Z)'`."""
-        text = " ".join(self.known.exports.words_of_make)
+        text = " ".join(self.known.words_of_make)
         acts = (self.setters(text) | ({""} if EVAL.search(text) else set())) if "$" in text else set()
         yield from ((one.end, False, acts) for one in late_in(text))
         yield from ((name, True, acts) for name in GIVEN.findall(text))

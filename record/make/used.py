@@ -3,7 +3,8 @@
 from typing import Dict, Set, Tuple
 
 from record.make.database import Base
-from record.make.macros import Macros, Use
+from record.make.macros import Macros
+from record.make.macrotexts import Use
 from record.make.owners import Make
 from record.make.references import ANY, matching
 

@@ -18,9 +18,9 @@ from record.build.tasks import Build
 from record.build.text import relative, shown
 from record.folder import Record
 from record.judge import ended, unshown
-from record.make.called import called
 from record.make.graph import MakeBuild
 from record.missing.anew import Anew
+from record.missing.called import called
 from record.missing.due import KEPT, OldTree
 from record.missing.later import Laters, phony_of
 from record.missing.turned import Turned

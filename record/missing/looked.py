@@ -8,8 +8,8 @@ from typing import Dict, Iterable, List, Mapping, Set, Tuple
 
 from record.build.tasks import Task
 from record.commands.shelltext import is_removal
-from record.make.called import called_by
 from record.make.graph import MakeBuild
+from record.make.owners import called_by
 from record.tools.python import BYTE_CODE
 from record.trace.names import Names
 

@@ -11,12 +11,11 @@ from record.build.tasks import Task
 from record.build.work import Work
 from record.commands.shelltext import base_name, is_removal, shell_text
 from record.make.asked import MAGIC
-from record.make.called import called_by
 from record.make.globs import arguments
 from record.make.graph import MakeBuild
 from record.make.macros import Macros
 from record.make.memory import folders_asked
-from record.make.owners import Make
+from record.make.owners import Make, called_by
 from record.missing.looked import is_below
 from record.tools.python import BYTE_CODE
 from record.trace.lists import fits

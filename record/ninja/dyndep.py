@@ -1,19 +1,8 @@
 """The reader of dyndep files, which say while ninja runs what a build statement needs and makes besides."""
 
-from dataclasses import dataclass, field
 from typing import List
 
-from record.ninja.manifest import LET, Reader, Scope, canonical, evaluate, logical_lines, split_build
-
-
-@dataclass
-class Found:
-    """What a dyndep file says of one build statement."""
-
-    output: str
-    outputs: List[str] = field(default_factory=list)
-    inputs: List[str] = field(default_factory=list)
-    restat: bool = False
+from record.ninja.manifest import LET, Found, Reader, Scope, canonical, evaluate, logical_lines, split_build
 
 
 def read_dyndep(text: str) -> List[Found]:

@@ -7,19 +7,26 @@ import os
 import re
 from dataclasses import dataclass, field
 from functools import cached_property
-from typing import TYPE_CHECKING, Callable, Dict, Iterator, List, Optional, Set, Tuple
+from typing import Callable, Dict, Iterator, List, Optional, Set, Tuple
 
 from record.ninja.depfile import depfile_inputs
 from record.ninja.log import read_deps
-
-if TYPE_CHECKING:
-    from record.ninja.dyndep import Found
 
 VARIABLE = re.compile(r"\$(?:\{([A-Za-z0-9_.-]+)\}|([A-Za-z0-9_-]+)|(.?))", re.S)
 TOKEN = re.compile(r" *(?:(\|\||\|@|\||:)|((?:\$(?:\{[A-Za-z0-9_.-]+\}|[A-Za-z0-9_-]+|[ $:|])|[^ :|$])+)|$)")
 LET = re.compile(r" *([A-Za-z0-9_.-]+) *= *(.*)", re.S)
 PLAIN = re.compile(r"[A-Za-z0-9_+./-]*\Z")
 SECTIONS = {"|": "implicit", "||": "order_only", "|@": "validations"}
+
+
+@dataclass
+class Found:
+    """What a dyndep file says of one build statement."""
+
+    output: str
+    outputs: List[str] = field(default_factory=list)
+    inputs: List[str] = field(default_factory=list)
+    restat: bool = False
 
 
 class Unreadable(Exception):
@@ -196,7 +203,7 @@ class Manifest:
         """Notes who makes a path; whether nobody did before."""
         return self.makers.setdefault(path, edge) is edge
 
-    def add_found(self, edge: Edge, file: str, found: "Found") -> None:
+    def add_found(self, edge: Edge, file: str, found: Found) -> None:
         """What a dyndep file says of a statement."""
         edge.implicit += found.inputs
         self.added.setdefault(file, []).extend(found.inputs)

@@ -12,7 +12,7 @@ from record import machine
 from record.commands import shelltext
 from record.make.database import BEGINS, Base
 from record.make.globs import composes, with_values
-from record.make.macros import CHANGES
+from record.make.macrotexts import CHANGES
 from record.make.owners import Owners
 from record.make.references import ANY as ANY_MACRO
 from record.make.references import COMPUTED, FILES, evals, with_functions

@@ -129,7 +129,7 @@ SEEN_GUARDS: List[Guard] = [
     Guard("makes: scripts are none", "commands/copies.py", "in MAKES and not first_words(path)", "in MAKES", seen("script_that_is_called_make")),
     Guard("macros: of makefiles that are gone", "make/macros.py", "*base.values.values(), *recipes, *(line", "*base.values.values(), *(line", seen("macro_of_a_makefile_that_goes"), YES),
     Guard("macros: of lines that are gone", "make/macros.py", "use.writes |= {ANY} if self.is_lost and", "use.writes |= {ANY} if False and", seen("macro_of_lines_of_a_makefile_that_goes"), YES,
-          ("make/macros.py", ', *((name, "\\n".join(lines)) for name, lines in self.base.bodies.items())', ""), SHOWN),
+          ("make/macrotexts.py", ', *((name, "\\n".join(lines)) for name, lines in self.base.bodies.items())', ""), SHOWN),
     Guard("sockets: their names", "trace/calls.py", "            self.write(life, found)\n        elif found is not None and", "            pass\n        elif found is not None and", seen("name_of_a_socket"), YES),
     Guard("sockets: memory: said", "trace/calls.py", "elif name in SHARING and ok:", "elif False:", seen("memory"), WITHHELD),
     Guard("processes: listed: said", "trace/calls.py", 'elif where[0] == "/proc":', "elif False:", seen("processes"), UNSAID),

@@ -58,7 +58,7 @@ SAID = ("make/macros.py", "self.is_used or bool(self.steady.set_by_recipes)", "s
 EARLIER = ("make/globs.py", 'if name in self.environment and sign != "?":', "if False:")
 
 # What turns off that texts are worked out (guard_expansion.py), for guards of what counts where they cannot be.
-COARSE = ("make/expansion.py", "if known.is_lost or ANY in known.changed:", "if True:")
+COARSE = ("make/expansion.py", "if steady.known.is_lost or ANY in steady.known.changed:", "if True:")
 
 
 def case(name: str) -> str:
@@ -317,7 +317,7 @@ UNFILED: List[Guard] = [
     Guard("wrapper: intermediate files", "make/lines.py", "REMOVING[:-1], ", "", "test_output.Output.test_intermediate_files"),
     Guard("wrapper: order-only prerequisites", "make/lines.py", """b"' is order-only for target '", """, "", "test_output.Output.test_order_only_prerequisite_of_a_target_that_is_there"),
     Guard("macros that recipes change", "make/build.py", "        add_macros(self, created)\n", "", small("macro_that_a_recipe_changes"), YES),
-    Guard("macros: by way of others", "make/macros.py", "todo = set().union(*(self.named_by(name, again) for name in todo)) - seen", "todo = set()", small("macro_by_way_of_another"), YES, COARSE),
+    Guard("macros: by way of others", "make/macrotexts.py", "todo = set().union(*(self.named_by(name, again) for name in todo)) - seen", "todo = set()", small("macro_by_way_of_another"), YES, COARSE),
     Guard("macros: by computed names", "make/references.py", 'found + "*", end_of(text, at + 1)', "found, end_of(text, at + 1)", small("macro_by_a_part_of_its_name"), YES, COARSE),
     Guard("macros: by patterns that fit", "make/references.py", "if fits(name, pattern)", "", small("macro_by_a_part_of_another_name"), FALSE_RACE, COARSE),
     Guard("macros: asked for by origin", "make/references.py", "value|origin|flavor)\\s+", "value)\\s+", small("macro_by_its_origin"), YES, COARSE),

@@ -7,7 +7,8 @@ from unittest import mock
 
 from record.make.database import read_base
 from record.make.expansion import OPEN, put_in_place, replaced
-from record.make.macros import Macros, Use
+from record.make.macros import Macros
+from record.make.macrotexts import Use
 from record.make.owners import Make
 from record.make.pieces import Unclear, pieces, words_of
 from record.make.steady import Steady

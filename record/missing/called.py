@@ -3,33 +3,20 @@
 import os
 import re
 from pathlib import Path
-from typing import TYPE_CHECKING, Dict, Iterator, List, Sequence, Set
+from typing import Dict, List, Sequence, Set
 
 from record.make.graph import MakeBuild
-from record.make.owners import Make
+from record.make.owners import called_by
 from record.make.words import makefiles
 from record.missing.anew import hands_all
+from record.missing.turned import Turned
 from record.trace.events import READ
-from record.trace.lives import Life
-
-if TYPE_CHECKING:
-    from record.missing.turned import Turned
 
 MACRO = re.compile(r"^[^#\n]*=|^ *define\b|^\t", re.M)  # or a recipe: makefiles that compilers write have neither
 TARGETS = re.compile(r"^([^\s#:][^#:\n]*):", re.M)
 
 
-def called_by(make: Make) -> Iterator[Life]:
-    """The processes that make itself calls, as with `$(shell ..)`, and all below them."""
-    own = {id(life) for work in make.work.values() for life in work.lives}
-    todo = [life for life in make.life.children if id(life) not in own]
-    while todo:
-        life = todo.pop()
-        yield life
-        todo.extend(life.children)
-
-
-def called(builds: Sequence[MakeBuild], turned: "Turned") -> Set[str]:
+def called(builds: Sequence[MakeBuild], turned: Turned) -> Set[str]:
     """What decides on macros before recipes run: what makefiles read with `$(shell ..)` and `$(file ..)`, what is read by who calls a
     make, and makefiles that the build makes."""
     found = turned.settling()
