@@ -18,12 +18,12 @@ from confirm.text import body, heading, summary
 from confirm.tree import copy, remove, take_back
 from confirm.trial import Trial
 from record import RELEASE
-from record.entry import printable, reason
+from record.build.text import shown
 from record.folder import NotWhole, reading
 from record.judge import find_race, no_race
 from record.main import SERIAL_FAILED, Missing
+from record.messages import printable, reason
 from record.pages import after_no_verdict
-from record.build.text import shown
 from report.asking import judge
 from report.model import BadRecord, Report, read_json
 from report.plain import counted

@@ -20,7 +20,7 @@ from confirm.races import CannotConfirm, Chosen
 from confirm.tree import copy, names_its_folder, remove
 from record.commands.shelltext import first_words
 from record.main import Missing, version_of
-from record.ninja.again import by_name, with_jobs
+from record.ninja.retry import by_name, with_jobs
 
 HOLD = Path(__file__).resolve().parent / "hold.c"
 NEW_MOUNTS, NEW_USER = 0x20000, 0x10000000

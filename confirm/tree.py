@@ -12,9 +12,9 @@ from pathlib import Path
 from typing import Any
 
 from confirm.races import CannotConfirm, written
-from record.ninja.again import OWN
-from record.ninja.manifest import Unreadable, read_manifest
 from record.ninja.log import text_of
+from record.ninja.manifest import Unreadable, read_manifest
+from record.ninja.retry import OWN
 from record.ninja.runs import options_of
 from report.model import BadRecord, read_json
 

@@ -5,7 +5,7 @@ from typing import Dict, Iterable, List
 
 from record.trace.lives import Life
 from record.trace.names import Names
-from record.trace.past import Change, Past
+from record.trace.snapshots import Change, Past
 
 
 class Cleaned:

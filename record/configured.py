@@ -13,7 +13,7 @@ from typing import Dict, Iterator, List, Optional, Set
 from record import machine
 from record.make.owners import Make
 from record.make.words import makefiles
-from record.missing.looked import CHANGES
+from record.missing.footprints import CHANGES
 from record.trace.lives import Life
 from record.trace.names import Names
 

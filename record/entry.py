@@ -3,10 +3,8 @@
 Python itself would end with 1 where it breaks, which says races.
 """
 
-import errno
 import io
 import os
-import re
 import signal
 import subprocess
 import sys
@@ -16,14 +14,13 @@ from importlib import import_module
 from pathlib import Path
 from typing import Iterator, List
 
+from record.messages import reason
+
 STOPPING = (signal.SIGINT, signal.SIGTERM, signal.SIGHUP, signal.SIGQUIT, signal.SIGALRM, signal.SIGUSR1, signal.SIGUSR2, signal.SIGXCPU)  # the last ones by batch systems
 UNHEARD: List[signal.Signals] = []  # what this program hears, and its caller ignores, as a build would
 FAILED = 3
 SHORT = 100  # bytes of a path that may stand in the first line of a script
-HELPS = {errno.ENOSPC: " (make room there, and run it again)", errno.EFBIG: " (raise the limit on the size of files, ulimit -f, and run it again)"}
 PATIENCE = 10  # so many seconds a build has to end
-# Signs that a terminal obeys, or that a page must not have; and the colours that race-record prints itself.
-CONTROL = re.compile(r"(\x1b\[(?:1;3[12]|0)m)|[\x00-\x08\x0b-\x1f\x7f-\x9f]")
 OF_ITS_OWN = "Nothing of your project or its build is lost. Please report it: the command, and the lines above from Traceback on, which say where it stopped"
 
 
@@ -129,22 +126,9 @@ def speak_utf8() -> None:
             stream.reconfigure(encoding="utf-8", errors="backslashreplace")
 
 
-def printable(text: str, has_colours: bool = False) -> str:
-    """A text in which such signs, as names may have them, stand as `\\x` and two digits."""
-    return CONTROL.sub(lambda found: found[0] if found[1] and has_colours else "".join("\\x%02x" % ord(it) if it < " " or it > "~" else it for it in found[0]), text)
-
-
 def close_output() -> None:
     """What is left in the buffer may not be writable, and Python would try to write it at its end."""
     os.dup2(os.open(os.devnull, os.O_WRONLY), 1)
-
-
-def reason(error: OSError) -> str:
-    """What the system says of a file, in a line."""
-    many = error.args[0] if error.args else None  # of shutil: files that could not be copied, each with what the system says
-    what = error.strerror or str(many[0][-1] if isinstance(many, list) and many else error) or type(error).__name__
-    what += HELPS.get(error.errno or 0, "")
-    return "%s: %s" % (os.fsdecode(error.filename), what) if isinstance(error.filename, (str, bytes)) else what
 
 
 def ended(name: str, module: str, without: str) -> int:

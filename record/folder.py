@@ -13,7 +13,7 @@ from typing import TYPE_CHECKING, Any, Dict, Iterator, List, Optional
 
 from record import VERSION
 from record.build.text import labels_of, lines_of, relative, shown
-from record.entry import reason
+from record.messages import reason
 
 if TYPE_CHECKING:
     from record.build.assumptions import Assumptions

@@ -21,19 +21,18 @@ from record.facts import Facts
 from record.failed import explained, failures, lacked, tried
 from record.folder import Record, write_record
 from record.footprints import write_footprints
-from record.granted import add_granted, idle_targets, named_by_ninja
 from record.make.build import MakeBuilder as Builder
 from record.make.cover import copy_of, way_to_cover
 from record.make.elsewhere import Elsewhere
 from record.make.owners import Owners, beginning
 from record.make.spellings import twice
-from record.make.unasked import unasked
 from record.make.words import read_logs
 from record.missing.inputs import write_missing
 from record.ninja.builds import versions as ninja_versions
-from record.ninja.builds import add_granted_by_ninjas, beside, find_ninjas, import_ninjas
+from record.ninja.builds import beside, find_ninjas, import_ninjas
 from record.ninja.log import Kept
 from record.ninja.runs import Ninja
+from record.premises import add_granted, add_granted_by_ninjas, idle_targets, named_by_ninja
 from record.progress import watched
 from record.tools.caches import settle_caches
 from record.tools.exists import credit_makes, settle_exists
@@ -45,9 +44,10 @@ from record.tools.scripts import settle_scripts
 from record.tools.tex import settle_tex
 from record.trace.lives import Life
 from record.trace.names import Names, mounts_below
-from record.trace.past import Past
-from record.trace.skips import SYSTEM, unseen_changes
+from record.trace.sifting import SYSTEM, unseen_changes
+from record.trace.snapshots import Past
 from record.trace.strace import read_trace
+from record.unasked import unasked
 from record.warm import did_nothing, made_unseen, stand_alone, warm_names
 
 

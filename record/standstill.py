@@ -7,7 +7,8 @@ from contextlib import suppress
 from dataclasses import dataclass
 from typing import IO, Callable, Dict, Optional, Tuple
 
-from record.entry import printable, traced
+from record.entry import traced
+from record.messages import printable
 
 PATIENCE, STEP = 600.0, 1.0  # seconds without a change until the line comes; between two looks at what strace writes
 WIDTH = 100  # signs of a command

@@ -12,7 +12,7 @@ from record.commands.system import OF_SYSTEM
 from record.make.graph import Graph, MakeBuild
 from record.make.inner import DEFAULTS
 from record.make.owners import Make
-from record.missing.looked import is_below
+from record.missing.footprints import is_below
 from record.ninja.runs import Ninja
 from record.trace.names import Names
 

@@ -7,10 +7,11 @@ import os
 from typing import Any
 from urllib.parse import quote
 
-from report import VERSION
+from record.build.text import shown
+from record.messages import reason
 from record.missing.inputs import Found
 from record.missing.report import Judged, Question
-from record.build.text import shown
+from report import VERSION
 from report.kinds import KINDS
 from report.model import BadRecord, Race, Recipe, Report, Side
 from report.plain import summary

@@ -12,15 +12,11 @@ from dataclasses import dataclass, field
 from pathlib import Path
 from typing import Any
 
-from record.entry import reason
-from record.fixes import Remedy, is_needed, remedy
-from record.folder import name_from
-from record.judge import Race as Found
-from record.judge import Verdict
-from record.kinds import FORGOTTEN, Kind, kind_of
+from record.build.text import file_of
+from record.fixes import in_project
+from record.messages import reason
 from record.missing.report import Question
 from record.report import verb, without_line
-from record.build.text import file_of
 from report.kinds import Kind, kind_of
 
 # What a path ends with that stands for something else than a file, and for two tasks by their numbers.

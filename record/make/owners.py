@@ -16,10 +16,10 @@ from record.make.asked import EVERYTHING, Asked, asked_in, is_of_linker
 from record.make.database import Base
 from record.make.globs import listed, patterns
 from record.make.idle import TAKES, idle_of, without_defaults, without_idle
+from record.make.one_job import says_one_job
 from record.make.options import asks_jobs
 from record.make.programs import Programs
 from record.make.searches import asked_names
-from record.make.slots import says_one_job
 from record.make.words import SEVERAL, Job, Round, Words, makefiles
 from record.trace.events import ABSENT, ENTERED, LISTED, LOOKS, MAKE_LISTED, MAKE_OPENED, ORDER_SEEN, READ, REMOVED, SEEN
 from record.trace.lives import Life

@@ -8,8 +8,8 @@ from typing import Dict, List, Sequence, Set
 from record.make.graph import MakeBuild
 from record.make.owners import called_by
 from record.make.words import makefiles
-from record.missing.anew import hands_all
-from record.missing.turned import Turned
+from record.missing.later_graph import hands_all
+from record.missing.later_looks import Turned
 from record.trace.events import READ
 
 MACRO = re.compile(r"^[^#\n]*=|^ *define\b|^\t", re.M)  # or a recipe: makefiles that compilers write have neither

@@ -1,6 +1,6 @@
 """Missing inputs: files that a recipe reads and whose edit does not make its target again.
 
-What make knows in a later build, and what the recipes read, become the tasks of an old tree (due.py); `race missing --tasks` judges them.
+What make knows in a later build, and what the recipes read, become the tasks of an old tree (old_tree.py); `race missing --tasks` judges them.
 """
 
 import json
@@ -19,11 +19,11 @@ from record.build.text import relative, shown
 from record.folder import Record
 from record.judge import ended, unshown
 from record.make.graph import MakeBuild
-from record.missing.anew import Anew
 from record.missing.called import called
-from record.missing.due import KEPT, OldTree
-from record.missing.later import Laters, phony_of
-from record.missing.turned import Turned
+from record.missing.later_base import Laters, phony_of
+from record.missing.later_graph import Anew
+from record.missing.later_looks import Turned
+from record.missing.old_tree import KEPT, OldTree
 from record.trace.lives import Life
 from record.trace.names import Names
 

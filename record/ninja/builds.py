@@ -5,7 +5,6 @@ from typing import List, Tuple
 
 from record.build.assumptions import Assumptions
 from record.build.tasks import Build
-from record.granted import add_granted_by_ninja
 from record.make.elsewhere import Elsewhere
 from record.make.owners import Owners
 from record.ninja.build import NinjaBuild, NinjaBuilder
@@ -14,7 +13,7 @@ from record.ninja.manifest import Unreadable
 from record.ninja.runs import Ninja, Runs, removed_names
 from record.trace.lives import Life
 from record.trace.names import Names
-from record.trace.past import Past
+from record.trace.snapshots import Past
 
 
 def find_ninjas(lives: List[Life], owners: Owners, names: Names, kept: Kept, has_ended: bool) -> Tuple[List[Ninja], List[str], List[str]]:
@@ -38,29 +37,6 @@ def import_ninjas(ninjas: List[Ninja], lives: List[Life], elsewhere: Elsewhere, 
         builds.append(builder.run())
         holes += builder.holes
     return builds, holes
-
-
-def add_granted_by_ninjas(ninjas: List[Ninja], ties: List[str], owners: Owners, assumed: Assumptions) -> None:
-    """What ninjas take for granted, whatever their tasks are."""
-    for ninja in ninjas:
-        if ninja.is_tried:
-            assumed.add("tried", ninja.folder)
-    for text in ties:
-        assumed.add("ties", text[:60])
-    for argv in side_by_side(ninjas, owners):
-        assumed.add("tops", " ".join(argv)[:60])
-    add_granted_by_ninja(ninjas, owners, assumed)
-    if ninjas:
-        assumed.add("ninja", "")
-
-
-def side_by_side(ninjas: List[Ninja], owners: Owners) -> List[List[str]]:
-    """The words of ninjas and makes that ran beside a ninja, where no make or ninja started them."""
-    lives = [n.life for n in ninjas] + [m.life for m in owners.makes]
-    lives = [l for l in lives if not any(up.is_make or up.is_ninja for up in l.up() if up is not l)]
-    lives.sort(key=lambda life: life.born)
-    pairs = [(a, b) for a, b in zip(lives, lives[1:]) if b.born < a.died and (a.is_ninja or b.is_ninja)]
-    return [second.argv for _, second in pairs]
 
 
 def versions(ninjas: List[Ninja]) -> str:

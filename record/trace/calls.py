@@ -1,7 +1,7 @@
 """What each system call does to the name space, and which events it is: the table HANDLERS says which method takes which calls of Linux.
 
 A finished call of a life goes in; events of that life come out (`put`), a name space that has changed, and what nobody can know: holes, and what
-is printed under a yes (sockets, locks, watchers). moves.py, processes.py, opened.py and started.py have the other methods.
+is printed under a yes (sockets, locks, watchers). moves.py, processes.py, descriptors.py and started.py have the other methods.
 """
 
 import os
@@ -12,13 +12,13 @@ from record.commands import shellages, shelltext
 from record.commands.system import SETTINGS, TEMPORARY
 from record.trace.arguments import TEXT_END, Opening, opening, spelled
 from record.trace.classes import SHARING
+from record.trace.descriptors import CHANGING, OF_KERNEL, READING, requests
 from record.trace.events import (
     ABSENT, AGE_SEEN, AGE_TAKEN, AGE_UNKNOWN, CREATED, ENTERED, FOLDER_KEPT, FOLDER_REMOVED, LINKS_CHANGED, LINKS_SEEN, LISTED, MADE,
     MADE_BEFORE, MADE_QUIETLY, MAKE_LISTED, MODE_CHANGED, MODE_GIVEN, ORDER_SEEN, READ, REMOVED, SEEN, TIME_CHANGED,
 )
 from record.trace.lives import Life
 from record.trace.names import Found, Inode
-from record.trace.opened import CHANGING, OF_KERNEL, READING, requests
 from record.trace.proc import plain_path
 from record.trace.replay import DEVICES
 from record.trace.started import Started

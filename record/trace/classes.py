@@ -1,5 +1,5 @@
 """The system calls of Linux, by what each can do to a file. strace traces all of them except those of LEFT_OUT, so a call that nobody has
-heard of is in the trace, and the record has a hole (opened.py). Calls without a name in strace do not run at all (newer.py).
+heard of is in the trace, and the record has a hole (descriptors.py). Calls without a name in strace do not run at all (unfollowed.py).
 
 Which calls are followed, calls.py says by its handlers. A call stands here for a reason, and the tests want each call of the kernel's
 headers to stand here or to have a handler.

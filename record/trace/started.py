@@ -8,11 +8,11 @@ from record import machine
 from record.commands import shellages, shelltext
 from record.commands.computed import runs_unseen
 from record.commands.copies import is_other_make
+from record.trace.descriptors import Opened
 from record.trace.events import AGE_SEEN, AGE_UNKNOWN, READ
 from record.trace.lives import Life
 from record.trace.loader import interpreter_words
 from record.trace.names import Found
-from record.trace.opened import Opened
 from record.trace.processes import sets_others
 from record.trace.strace import Call, first_text, folders, is_cut, texts
 

@@ -54,5 +54,5 @@ HUNTED_GUARDS: List[Guard] = [
     Guard("system: projects below it", "commands/shelltext.py", "    if not text or OF_SYSTEM.match(path):", '    if not text or path.startswith("/usr/"):', "test_hunted.System.test_file_that_a_shell_takes_in"),
     Guard("warm: targets outside of the project", "warm.py", "            beyond.update(node.path for node in nodes if", "            beyond.update(node.path for node in () if", "test_hunted.Beyond.test_target_that_is_there"),
     Guard("warm: outputs outside of the project", "warm.py", "        beyond.update(path for path in own - made if", "        beyond.update(path for path in () if", "test_hunted.Beyond.test_statement_of_ninja"),
-    Guard("warm: makes outside of the project", "granted.py", ' in ("f", "l") or is_beyond(path, names)]', ' in ("f", "l")]', "test_hunted.Beyond.test_make_that_has_nothing_to_do"),
+    Guard("warm: makes outside of the project", "premises.py", ' in ("f", "l") or is_beyond(path, names)]', ' in ("f", "l")]', "test_hunted.Beyond.test_make_that_has_nothing_to_do"),
 ]

@@ -80,7 +80,7 @@ LATE_GUARDS: List[Guard] = [
     Guard("settings of the kernel: calls", "trace/classes.py", ', "sethostname", "setdomainname"}', "}", trace("settings_of_the_kernel"), "",
           ("trace/classes.py", "getcpu getrandom vhangup", "getcpu getrandom sethostname vhangup")),
     Guard("calls: a folder without a name", "trace/calls.py", "        if not path:  # none that the process can read\n            return\n", "", trace("folder_without_a_name")),
-    Guard("system: links that lead out", "trace/skips.py", " or not (real + \"/\").startswith(self.inside)", "", trace("link_that_leads_out_of_the_system")),
+    Guard("system: links that lead out", "trace/sifting.py", " or not (real + \"/\").startswith(self.inside)", "", trace("link_that_leads_out_of_the_system")),
     Guard("texts: what cannot be read again", "commands/texts.py", "return machine.isfile(path) and not", "return machine.exists(path) and not", "test_late.Texts.test_what_cannot_be_read_again"),
     Guard("texts: what is of each process", "commands/texts.py", " and not os.path.normpath(path).startswith(OF_PROCESS)", "", "test_late.Texts.test_what_cannot_be_read_again"),
     Guard("words of make: marks of an encoding", "make/lines.py", """, (b"Skipping UTF-8 BOM in makefile '", (b"'",)),""", ",", "test_late.Changed.test_makefile_with_a_mark_of_its_encoding"),

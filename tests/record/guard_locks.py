@@ -10,7 +10,7 @@ def lock(name: str) -> str:
     return "test_locks.Makefiles.test_" + name
 
 
-LOCKS, OPENED, FOLDERS = "make/locks.py", "trace/opened.py", "make/folders.py"
+LOCKS, OPENED, FOLDERS = "make/locks.py", "trace/descriptors.py", "make/folders.py"
 
 LOCK_GUARDS: List[Guard] = [
     Guard("locks of files: who makes one first", LOCKS, "tasks[at].writes.discard(path)", "pass", lock("file_that_recipes_make"), FALSE_RACE),

@@ -173,7 +173,7 @@ PROJECT_GUARDS: List[Guard] = [
     Guard("texts: quoted signs", "tools/shellvalues.py", "return [quoted(piece.text) if piece.quoted else piece.text]", "return [piece.text]", shells("Texts.test_known")),
     Guard("modules: names that were read", "tools/modules.py", "        if may_ask(life, name, texts) or", "        if", compilers("Compilers.test_modules_of_ocaml")),
     Guard("modules: the standard library", "tools/modules.py", "return not (OF_SYSTEM.match(path) or OF_COMPILER.match(path)) or path.endswith(COMPILED)", "return not (OF_SYSTEM.match(path) or OF_COMPILER.match(path))", compilers("Compilers.test_modules_of_the_standard_library")),
-    Guard("modules: those of the system are read", "trace/skips.py", "pyz|cm[iox])$", "pyz)$", "test_skips.Skips.test_modules_of_ocaml_are_read"),
+    Guard("modules: those of the system are read", "trace/sifting.py", "pyz|cm[iox])$", "pyz)$", "test_skips.Skips.test_modules_of_ocaml_are_read"),
     Guard("modules: what each compiler looks for", "tools/modules.py", " or BUILT_IN.fullmatch(stem)", "", compilers("Compilers.test_modules_that_every_compiler_looks_for")),
     Guard("modules: large letters", "tools/modules.py", "    module = stem[:1].upper() + stem[1:]\n", "    module = stem\n", compilers("Compilers.test_modules_of_ocaml")),
     Guard("modules: words of the compiler", "tools/modules.py", "return not linked.isdisjoint(spelled) or", "return", compilers("Compilers.test_modules_of_ocaml")),

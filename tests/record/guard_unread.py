@@ -70,7 +70,7 @@ UNREAD_GUARDS: List[Guard] = [
     Guard("folders in a pattern: of a script", "tools/shellvalues.py", "pattern if at == len(parts) - 1 else shelltext.folders_of(pattern))", "pattern)", unread("file_beside_folders"), FALSE_RACE),
     Guard("folders in a pattern: a slash that is not known", "tools/shellvalues.py", '                yield Asked("", shelltext.folders_of("*"))\n', "                pass\n", unread("file_with_a_slash_in_a_macro"), YES),
     Guard("folders in a pattern: behind a quote", "commands/shelltext.py", 'return (pattern if pattern.strip("*") else "?*") + "/"', 'return (pattern if pattern != "*" else "?*") + "/"', unread("link_beside_folders_behind_a_quote"), YES),
-    Guard("folders in a pattern: of a later build", "missing/turned.py", "fits(pattern, name, self.names, not os.path.isfile(name))", "fits(pattern, name, self.names)",
+    Guard("folders in a pattern: of a later build", "missing/later_looks.py", "fits(pattern, name, self.names, not os.path.isfile(name))", "fits(pattern, name, self.names)",
           "test_unread.Later.test_folder_that_a_later_recipe_makes"),
     Guard("folders in a pattern: of a text", "commands/shelltext.py", "middle = {folders_of(part) for", "middle = {part for", unread("file_beside_folders_of_a_text"), FALSE_RACE),
 ]

@@ -17,8 +17,8 @@ from typing import Any, Callable, Dict, Iterable, List, Optional, Sequence, Tupl
 
 # Modules that act before the build has ended. A guard of theirs builds anew; test_kept.py wants each one that does to stand here, or among those that
 # also read the kept trace.
-BUILDING = {"main.py", "entry.py", "folder.py", "standstill.py", "trace/pipe.py", "trace/newer.py", "trace/classes.py", "trace/skips.py", "ninja/again.py", "ninja/fresh.py",
-            "users.py", "make/cover.py", "make/limits.py", "make/lines.py", "make/given.py", "make/copied.py", "make/heard.py", "make/options.py", "make/outputs.py", "make/wrapper.py"}
+BUILDING = {"main.py", "entry.py", "folder.py", "standstill.py", "trace/pipe.py", "trace/unfollowed.py", "trace/classes.py", "trace/sifting.py", "ninja/retry.py", "ninja/cold_copy.py",
+            "unseen_makes.py", "make/cover.py", "make/limits.py", "make/lines.py", "make/given.py", "make/copied.py", "make/heard.py", "make/options.py", "make/outputs.py", "make/wrapper.py"}
 READING = {"trace/arguments.py", "trace/strace.py"}  # what reads a trace ahead, too
 PREFIX = "race-record-"  # of the folders that the recorder makes for itself
 MAKES = "race-make-"  # of those in which it copies make (record/make/cover.py)

@@ -30,8 +30,8 @@ sys.path.insert(0, str(TOP))
 import record.importing  # noqa: E402,F401  (once, for all recordings of this process)
 import record.main  # noqa: E402,F401
 from record.make.words import numbers_of  # noqa: E402
-from record.trace.newer import first_unknown  # noqa: E402
-from record.trace.skips import skipping  # noqa: E402
+from record.trace.sifting import skipping  # noqa: E402
+from record.trace.unfollowed import first_unknown  # noqa: E402
 
 # What is found here is kept for all children.
 skipping([])

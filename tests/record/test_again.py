@@ -6,10 +6,11 @@ import unittest
 from typing import Dict
 
 import support
-from record.ninja.again import by_name, folders_of, source_of, tops_of, undo, with_jobs
+from record.fixes import in_project
 from record.ninja.fix import fix_text, owner_of, pool_text
 from record.ninja.log import Kept, Missing, ends, new_outputs, read_missing
 from record.ninja.manifest import Manifest, read_manifest
+from record.ninja.retry import by_name, folders_of, source_of, tops_of, undo, with_jobs
 from record.ninja.runs import options_of
 from record.trace.lives import Life
 from record.trace.names import Names

@@ -11,7 +11,7 @@ from typing import List, Set, Tuple
 from unittest import mock
 
 import support
-from record.trace import classes, newer
+from record.trace import classes, unfollowed as newer
 from record.trace.calls import HANDLERS
 from test_replay import TOP, events_of, lives_of, played
 from test_skips import Skips

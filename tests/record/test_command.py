@@ -13,7 +13,7 @@ from unittest import mock
 
 import forked
 import support
-from record.users import other_user
+from record.unseen_makes import other_user
 
 RACE = "all: a b\na: ; echo a > a\nb: ; cp a b\n"
 SAFE = "all: a b\na: ; echo a > a; echo said; echo aside >&2\nb: a ; cp a b\n"

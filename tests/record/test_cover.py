@@ -14,7 +14,7 @@ from support import races_of
 
 from record.make import cover
 from record.make.cover import OWN_MOUNTS, Cover
-from record.users import SCRIPT
+from record.unseen_makes import SCRIPT
 
 MAKE = str(shutil.which("make"))
 RACE, ORDERED = "all: a b\na: ; echo a > a\nb: ; cat a > b\n", "all: a b\na: ; echo a > a\nb: a ; cat a > b\n"

@@ -18,8 +18,9 @@ from unittest import mock
 import forked
 import support
 from record import folder as places
-from record.entry import STOPPING, end_traced, have_ended, printable, reason
+from record.entry import STOPPING, end_traced, have_ended
 from record.folder import Taken, alone as alone_at, aside, come_back, move
+from record.messages import printable, reason
 from record.trace.pipe import Pipe
 
 SLOW = {"Makefile": "all: ; @echo $$PPID $$$$ > pids; echo \"$$PATH\" > path; : > begun; exec sleep 100\n"}  # a shell that waits for a child may go on behind an interrupt

@@ -9,7 +9,7 @@ from typing import Dict, Tuple
 import support
 from ninja_table import RULES, sh
 
-from record.ninja import fresh
+from record.ninja import cold_copy as fresh
 
 NOBODY = 65534
 BUILD = ["ninja", "-C", "b"]

@@ -12,8 +12,8 @@ from record.ninja.log import Kept
 from record.make.owners import Make
 from record.make.words import Words
 from record.trace.names import Names
-from record.trace.past import Past
-from record.trace.skips import sift
+from record.trace.sifting import sift
+from record.trace.snapshots import Past
 from test_replay import TOP, events_of, lives_of, played
 from test_small import COMMANDS, Small, test_of
 

@@ -60,7 +60,7 @@ class Recordings(unittest.TestCase):
             ran = forked.run(self.watched, project.folder, support.SECONDS)
             acting = set(json.loads((project.folder / "acting").read_text()))
         self.assertEqual(0, ran.returncode, ran.stderr)
-        self.assertLess({"main.py", "trace/pipe.py", "trace/skips.py"}, acting)
+        self.assertLess({"main.py", "trace/pipe.py", "trace/sifting.py"}, acting)
         self.assertEqual(set(), acting - kept.BUILDING - kept.READING)
         self.assertEqual(record.make.cover.ROOM, kept.MAKES)
         self.assertLess({name.replace(".", "/").partition("/")[2] + ".py" for name in record.main.WRAPPER}, kept.BUILDING)

@@ -16,7 +16,7 @@ from record.make.owners import Make
 from record.make.words import Words
 from record.trace.lives import Act, Life
 from record.trace.names import Names
-from record.trace.skips import Skip
+from record.trace.sifting import Skip
 from test_replay import TOP, events_of, lives_of, played
 from test_small import Small, test_of
 

@@ -6,7 +6,7 @@ from typing import List
 import support  # noqa: F401  (it finds the recorder)
 from record.make.database import read_base
 from record.missing.inputs import Answer, Found, count_of, read_answer
-from record.missing.later import Unknown, makefiles_in, needs_of, phony_of, words_again, words_of
+from record.missing.later_base import Unknown, makefiles_in, needs_of, phony_of, words_again, words_of
 from record.missing.report import Judged, build_text
 from record.report import Colours
 

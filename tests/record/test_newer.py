@@ -6,11 +6,12 @@ from typing import Dict, cast
 
 import support
 from record.build.assumptions import Assumptions
-from record.make.considered import Considered, is_by_search, looked_with, takes_for_file
+from record.make.considered import Considered, is_by_search, takes_for_file
 from record.make.database import Base, read_base
 from record.make.macros import Macros
 from record.make.memory import Lists, keeps_lists
 from record.make.owners import Make
+from record.make.targets import looked_with
 from record.make.unfiled import set_by_expansion
 from record.make.words import LATER, Words
 from record.trace.events import MAKE_LISTED

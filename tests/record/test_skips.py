@@ -12,7 +12,7 @@ from record.facts import Facts
 from record.importing import replay_trace
 from record.ninja.log import Kept
 from record.trace.names import Inode, Names
-from record.trace.skips import PIECE, Skip, pieces, sift
+from record.trace.sifting import PIECE, Skip, pieces, sift
 from record.trace.strace import read_trace
 
 

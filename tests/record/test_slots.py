@@ -3,7 +3,7 @@
 import unittest
 
 import support  # noqa: F401
-from record.make.slots import ONE_JOB
+from record.make.one_job import ONE_JOB
 
 
 class Words(unittest.TestCase):

@@ -20,7 +20,7 @@ from record.make.memory import filled
 from record.make.references import SECOND, evals, matching, named, read_again, with_functions
 from record.make.searches import filled as placed
 from record.make.searches import DEPTH, Searches
-from record.missing.later import phony_of
+from record.missing.later_base import phony_of
 from record.trace.names import Names
 
 ALL = re.compile(r"\$(?:[\^+|]|[({][\^+|][DF]?[)}])")

@@ -1,7 +1,7 @@
 """What a recipe finds otherwise in a later build, with no edit at all: files that a later recipe made, changed or removed.
 
 Where one build holds both recipes such a look counts as a read, and `race missing` says that the writer comes too late. Else it is a hole.
-What make itself looks for is no part of it: anew.py compares what it knows.
+What make itself looks for is no part of it: later_graph.py compares what it knows.
 """
 
 import os
@@ -16,7 +16,7 @@ from record.make.graph import MakeBuild
 from record.make.macros import Macros
 from record.make.memory import folders_asked
 from record.make.owners import Make, called_by
-from record.missing.looked import is_below
+from record.missing.footprints import is_below
 from record.tools.python import BYTE_CODE
 from record.trace.lists import fits
 from record.trace.lives import Key, Life

@@ -12,9 +12,9 @@ from record.build.text import labels_of, lines_of, relative
 from record.make.database import Base
 from record.make.graph import MakeBuild
 from record.make.macros import Macros
-from record.missing.keeping import asks_what_is_newer, expands_by_files, keeps
-from record.missing.later import needs_of, phony_of
-from record.missing.looked import Footprints
+from record.missing.footprints import Footprints
+from record.missing.later_base import needs_of, phony_of
+from record.missing.left_alone import asks_what_is_newer, expands_by_files, keeps
 from record.trace.names import Names
 
 NEVER = "@never"  # folders that no project has: names below this one stand for targets that never have a file,

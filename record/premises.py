@@ -94,6 +94,29 @@ def add_granted_by_ninja(ninjas: List[Ninja], owners: Owners, assumed: Assumptio
         outlived_of(job.life, owners, assumed)
 
 
+def add_granted_by_ninjas(ninjas: List[Ninja], ties: List[str], owners: Owners, assumed: Assumptions) -> None:
+    """What ninjas take for granted, whatever their tasks are."""
+    for ninja in ninjas:
+        if ninja.is_tried:
+            assumed.add("tried", ninja.folder)
+    for text in ties:
+        assumed.add("ties", text[:60])
+    for argv in side_by_side(ninjas, owners):
+        assumed.add("tops", " ".join(argv)[:60])
+    add_granted_by_ninja(ninjas, owners, assumed)
+    if ninjas:
+        assumed.add("ninja", "")
+
+
+def side_by_side(ninjas: List[Ninja], owners: Owners) -> List[List[str]]:
+    """The words of ninjas and makes that ran beside a ninja, where no make or ninja started them."""
+    lives = [n.life for n in ninjas] + [m.life for m in owners.makes]
+    lives = [l for l in lives if not any(up.is_make or up.is_ninja for up in l.up() if up is not l)]
+    lives.sort(key=lambda life: life.born)
+    pairs = [(a, b) for a, b in zip(lives, lives[1:]) if b.born < a.died and (a.is_ninja or b.is_ninja)]
+    return [second.argv for _, second in pairs]
+
+
 def named_by_ninja(ninjas: List[Ninja], assumed: Assumptions, spool: str) -> None:
     """Commands of ninjas that name what holds the recorder's words, or show it; those below a make are its recipes."""
     for life in (life for ninja in ninjas for stage in ninja.stages for job in stage.jobs for life in job.work.lives):

@@ -15,9 +15,9 @@ from contextlib import contextmanager, suppress
 from pathlib import Path
 from typing import Dict, Iterator, List, Set, Tuple
 
-from record.entry import reason
-from record.ninja.again import named_folders
+from record.messages import reason
 from record.ninja.manifest import Manifest, Unreadable, read_manifest
+from record.ninja.retry import named_folders
 
 SAVED = ".race-saved"
 FULL = re.compile(r"ninja: error: remove\(.*\): Directory not empty")

@@ -1,0 +1,22 @@
+"""Messages: what the system says of a file, and texts without the signs that a terminal obeys."""
+
+import errno
+import os
+import re
+
+HELPS = {errno.ENOSPC: " (make room there, and run it again)", errno.EFBIG: " (raise the limit on the size of files, ulimit -f, and run it again)"}
+# Signs that a terminal obeys, or that a page must not have; and the colours that race-record prints itself.
+CONTROL = re.compile(r"(\x1b\[(?:1;3[12]|0)m)|[\x00-\x08\x0b-\x1f\x7f-\x9f]")
+
+
+def printable(text: str, has_colours: bool = False) -> str:
+    """A text in which such signs, as names may have them, stand as `\\x` and two digits."""
+    return CONTROL.sub(lambda found: found[0] if found[1] and has_colours else "".join("\\x%02x" % ord(it) if it < " " or it > "~" else it for it in found[0]), text)
+
+
+def reason(error: OSError) -> str:
+    """What the system says of a file, in a line."""
+    many = error.args[0] if error.args else None  # of shutil: files that could not be copied, each with what the system says
+    what = error.strerror or str(many[0][-1] if isinstance(many, list) and many else error) or type(error).__name__
+    what += HELPS.get(error.errno or 0, "")
+    return "%s: %s" % (os.fsdecode(error.filename), what) if isinstance(error.filename, (str, bytes)) else what
