@@ -9,7 +9,7 @@ import json
 import shutil
 from dataclasses import dataclass
 from pathlib import Path
-from typing import Any, Dict, List, Sequence
+from typing import Dict, List, Sequence
 
 from record import machine
 from record.folder import Record
@@ -54,17 +54,4 @@ def begun(words: List[str], folder: str, status: int, seconds: float, tools: Dic
     record = Record(words, folder, status, seconds, tools)
     if status != 0:
         record.holes.append("the build ended with status %d" % status + (": signal %d stopped it" % -status if status < 0 else ""))
-    return record
-
-
-def import_again(folder: Path, out: Path) -> Record:
-    """Makes the record of a build again, of what was kept of it; the machine is not asked. Not what of `--missing` and `--footprints` was in it."""
-    from record.importing import complete
-
-    about: Dict[str, Any] = json.loads((folder / "facts.json").read_text(encoding="utf-8"))
-    with machine.answering(machine.Answers.written(folder / "before")):
-        names, kept = first_tree(about["tops"], about["linked"])
-    record = begun(about["words"], about["folder"], about["status"], about["seconds"], about["tools"])
-    with machine.answering(machine.Answers.written(folder / "after")):
-        complete(record, Facts(folder, about["place"], about["real"], names, kept), out, argparse.Namespace(warm=about["warm"], footprints=False, missing=False))
     return record

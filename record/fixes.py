@@ -9,7 +9,7 @@ from record.judge import Race, Verdict
 from record.kinds import FORGOTTEN, OUTPUT, TEMPORARY, TWO, Kind, is_of_folder, kind_of, target
 from record.ninja.fix import by_cmake, by_meson, owner
 from record.rules import Lines, edited, logical, parts, rule_above
-from record.tasks import file_of
+from record.build.text import file_of
 
 # CMake's makefiles have a makefile for all targets, whose rules run a make for each.
 CMAKE_FILE = re.compile(r"(?:^|/)CMakeFiles/Makefile2$")

@@ -12,8 +12,9 @@ from pathlib import Path
 from typing import TYPE_CHECKING, Any, Dict, Iterator, List, Optional
 
 from record import VERSION
-from record.build.text import labels_of, lines_of, relative, shown
 from record.messages import reason
+from record.places import Places
+from record.build.text import labels_of, lines_of, relative, shown
 
 if TYPE_CHECKING:
     from record.build.assumptions import Assumptions
@@ -101,8 +102,7 @@ def write_build(folder: Path, build: "Build", within: Optional[Dict[str, str]], 
     labels = labels_of(build.tasks)
     root = build.folder
     about: Dict[str, Any] = {}
-    read = [*build.make.words.read, build.make.words.included] if build.tool == "make" else []
-    places = Places(root, list(dict.fromkeys(name for names in read for name in names)))
+    places = Places(root, build.makefiles)
     for at, (label, task) in enumerate(zip(labels, build.tasks)):
         own = build.about(at)
         edited = places.of(task.node.name, own)

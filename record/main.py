@@ -19,25 +19,24 @@ from itertools import islice
 from pathlib import Path
 from typing import Dict, List, Optional, Set, Tuple, cast
 
-from record import RELEASE, VERSION
+from record import RELEASE, VERSION, machine
 from record.entry import STOPPING, UNHEARD, Stopped, end_traced, interpreter
+from record.messages import printable
+from record.facts import Facts, begun, first_tree
 from record.folder import NO_ROOM, NotWhole, Record, Taken, accept_warm, alone, aside, is_record, reading, rewrite, room_of_programs, rooms_of_programs, what_stands
 from record.judge import find_race, judge, no_race
 from record.make.cover import Cover
 from record.make.options import forget_coerced
 from record.make.outputs import note_output
 from record.make.unwrapped import name_real_makes
-from record.messages import printable
-from record.ninja.cold_copy import CannotClean, cold_copy, fresh_folder, saved_name
-from record.ninja.log import Kept
 from record.ninja.retry import JOBS, TRIES, by_hand, by_name, hints, tops_of, undo, with_jobs
+from record.ninja.cold_copy import CannotClean, cold_copy, fresh_folder, saved_name
 from record.report import Judged, colours, read_json, report
 from record.standstill import Standstill
 from record.trace.classes import traced
-from record.trace.names import Names
+from record.trace.unfollowed import Older
 from record.trace.pipe import Pipe
 from record.trace.sifting import sift
-from record.trace.unfollowed import Older
 from record.unseen_makes import unseen
 
 STRACE = ["strace", "-f", "-q", "-y", "--seccomp-bpf", "-s", str(32 * os.sysconf("SC_PAGE_SIZE")), "-e", "signal=hup,int,quit,abrt,kill,segv,pipe,term,xfsz", "-e", "trace=" + traced()]

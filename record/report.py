@@ -4,16 +4,16 @@ import json
 import os
 import sys
 import textwrap
-from dataclasses import dataclass
+from dataclasses import dataclass, field
 from pathlib import Path
 from typing import Any, Dict, List, Sequence, Tuple
 
-from record.build.text import OWN_NAME, file_of, shown
-from record.fixes import in_project, later_rule
+from record.fixes import Remedy, is_needed, merged, remedy
 from record.judge import Race, Verdict, explained
 from record.kinds import kind_of, target, whole
 from record.ninja.fix import pool_text
 from record.pages import after_no_verdict
+from record.build.text import OWN_NAME, file_of, shown
 
 SHOWN_BLOCKS, SHOWN_LINES, SHOWN_FILES, SHOWN_HOLES = 10, 3, 3, 20
 SHOWN_SIGNS = 80  # of an example

@@ -5,10 +5,11 @@ from __future__ import annotations
 from pathlib import Path
 
 from record import VERSION
-from record.build.text import shown
-from record.judge import judge as ask
+from record.fixes import merged
 from record.judge import explained
+from record.judge import judge as ask
 from record.missing.report import Question
+from record.build.text import shown
 from report.model import Assumption, BadRecord, Report, read_build, read_json
 
 

@@ -7,14 +7,13 @@ import os
 from typing import Any
 from urllib.parse import quote
 
-from record.build.text import shown
-from record.messages import reason
+from report import VERSION
 from record.missing.inputs import Found
 from record.missing.report import Judged, Question
-from report import VERSION
-from report.kinds import KINDS
-from report.model import BadRecord, Race, Recipe, Report, Side
-from report.plain import summary
+from record.build.text import shown
+from record.kinds import KINDS
+from report.model import Race, Recipe, Report, Side
+from report.plain import asks, summary
 
 SCHEMA = "https://json.schemastore.org/sarif-2.1.0.json"
 

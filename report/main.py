@@ -9,9 +9,9 @@ import sys
 from pathlib import Path
 
 from record import RELEASE
+from record.messages import printable, reason
 from record.folder import NotWhole, reading
 from record.judge import find_race, no_race
-from record.messages import printable, reason
 from report.asking import judge
 from report.direct import inputs, judge_makefile
 from report.machine import as_json, as_sarif

@@ -12,12 +12,14 @@ from dataclasses import dataclass, field
 from pathlib import Path
 from typing import Any
 
-from record.build.text import file_of
-from record.fixes import in_project
 from record.messages import reason
+from record.fixes import Remedy, is_needed, remedy
+from record.folder import name_from
+from record.judge import Race as Found
+from record.judge import Verdict
+from record.kinds import FORGOTTEN, Kind, kind_of
 from record.missing.report import Question
-from record.report import verb, without_line
-from report.kinds import Kind, kind_of
+from record.report import group_of, name_of, near, rows, spot, verb
 
 # What a path ends with that stands for something else than a file, and for two tasks by their numbers.
 NUMBERS = re.compile(r"(/\d+)+$")

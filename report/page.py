@@ -6,10 +6,9 @@ from collections.abc import Iterator
 from html import escape
 from pathlib import PurePath
 
-from record.build.text import shown
 from record.missing.report import missing_text
 from record.report import Colours
-from report.kinds import FORGOTTEN
+from record.build.text import shown
 from report.model import Race, Report
 from report.pictures import graph, schedule
 from report.plain import HEADLINES, counted, summary

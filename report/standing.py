@@ -10,7 +10,7 @@ from fnmatch import fnmatchcase
 from pathlib import Path
 from typing import Any
 
-from record.entry import reason
+from record.messages import reason
 from report import VERSION
 from report.model import BadRecord, Gone, Report
 

@@ -80,6 +80,11 @@ class Build:
         raise NotImplementedError
 
     @property
+    def makefiles(self) -> List[str]:
+        """The makefiles that it read, each once."""
+        return []
+
+    @property
     def considered(self) -> int:
         """How many targets it looked at."""
         raise NotImplementedError

@@ -178,6 +178,11 @@ class MakeBuild(Build):
         return self.make.words.args
 
     @property
+    def makefiles(self) -> List[str]:
+        read = [*self.make.words.read, self.make.words.included]
+        return list(dict.fromkeys(name for names in read for name in names))
+
+    @property
     def considered(self) -> int:
         return len(self.graph.round.nodes)
 

@@ -7,12 +7,13 @@ from dataclasses import dataclass
 from pathlib import Path
 from typing import Any, Dict, Iterator, List, Tuple
 
-from record.build.text import shown
+from record.folder import name_from
 from record.judge import explained
 from record.kinds import target
 from record.missing.inputs import Answer, Found, judge_missing
 from record.pages import after_no_verdict
-from record.report import Colours, listed, place, plural, read_json, target
+from record.report import Colours, listed, near, place, plural, read_json, spot
+from record.build.text import shown
 
 SHOWN_FILES, SHOWN_TARGETS = 40, 5
 HEADERS = (".h", ".hh", ".hpp", ".hxx", ".inc", ".def")

@@ -12,7 +12,7 @@ from typing import Dict, Iterator, Set
 
 import support
 from record import machine
-from record.facts import import_again
+from record.importing import import_again
 from record.folder import rewrite
 
 ASKS = {"os.path.%s" % name for name in ("isfile", "isdir", "islink", "exists", "lexists", "realpath", "getsize", "samefile")} | {
