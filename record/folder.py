@@ -11,7 +11,7 @@ from dataclasses import asdict, dataclass, field
 from pathlib import Path
 from typing import TYPE_CHECKING, Any, Dict, Iterator, List, Optional
 
-from record import VERSION
+from record import VERSION, machine
 from record.messages import reason
 from record.places import Places
 from record.build.text import labels_of, lines_of, relative, shown
@@ -108,7 +108,7 @@ def write_build(folder: Path, build: "Build", within: Optional[Dict[str, str]], 
         edited = places.of(task.node.name, own)
         place = {key: shown(value) if isinstance(value, str) else value for key, value in own.items()}
         lists = sorted(relative(root, path) for path in task.listed & task.reads)
-        is_loose = task.kind == "recipe" and not os.path.isfile(os.path.join(root, task.node.name))
+        is_loose = task.kind == "recipe" and not machine.isfile(os.path.join(root, task.node.name))
         about[label] = {"target": shown(task.node.name), "kind": task.kind, **place, **({"lists": lists} if lists else {}),
                         **({"order_only": True} if is_loose else {}), **({"place": [shown(edited[0]), edited[1]]} if edited else {})}
     edges = 0

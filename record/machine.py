@@ -126,6 +126,12 @@ def opened(path: str, errors: str = "surrogateescape", newline: Optional[str] = 
 
 
 @asked
+def found(folder: str, pattern: str) -> List[str]:
+    """The names below a folder that fit a pattern, in order."""
+    return sorted(map(str, Path(folder).glob(pattern)))
+
+
+@asked
 def variable(name: str) -> Optional[str]:
     """A variable of the environment."""
     return os.environ.get(name)

@@ -8,6 +8,7 @@ from dataclasses import dataclass, field
 from pathlib import Path
 from typing import Any, Dict, Iterator, List, Optional, Tuple
 
+from record import machine
 from record.rules import HEAD, lines_of
 
 Place = Tuple[str, int]  # a file, from the folder of the build on or whole, and a line
@@ -70,13 +71,13 @@ class CMake:
         found = SOURCE.search("\n".join(lines_of(str(top / "CMakeCache.txt"))))
         self.top, self.source = top, Path(found.group(1)) if found else top
         self.known = dict(self.replied())
-        self.files = [path for path in [self.source / "CMakeLists.txt", *sorted(self.source.rglob("CMakeLists.txt"))][:FILES] if not within(path, top)]
+        self.files = [path for path in [self.source / "CMakeLists.txt", *map(Path, machine.found(str(self.source), "**/CMakeLists.txt"))][:FILES] if not within(path, top)]
 
     def replied(self) -> Iterator[Tuple[str, Place]]:
         """The targets of its file API, where somebody asked for that before it configured."""
-        for index in sorted((self.top / ".cmake/api/v1/reply").glob("codemodel-v2-*.json"))[-1:]:
-            for target in read(index)["configurations"][0]["targets"]:
-                found = read(index.parent / target["jsonFile"])
+        for index in machine.found(str(self.top / ".cmake/api/v1/reply"), "codemodel-v2-*.json")[-1:]:
+            for target in read(Path(index))["configurations"][0]["targets"]:
+                found = read(Path(index).parent / target["jsonFile"])
                 graph, at = found["backtraceGraph"], found.get("backtrace")
                 node = graph["nodes"][at] if at is not None else {}
                 if "line" in node:
@@ -96,7 +97,7 @@ class CMake:
 
 def within(path: Path, folder: Path) -> bool:
     """Whether a path is below a folder which is not the folder of the sources."""
-    return folder in path.parents and not (folder / "CMakeLists.txt").is_file()
+    return folder in path.parents and not machine.isfile(str(folder / "CMakeLists.txt"))
 
 
 def meson_place(folder: str, name: str) -> Optional[Place]:
@@ -111,6 +112,6 @@ def meson_place(folder: str, name: str) -> Optional[Place]:
 def read(path: Path) -> Any:
     """A file of JSON; nothing where it is none."""
     try:
-        return json.loads(path.read_text(encoding="utf-8"))
+        return json.loads(machine.read(str(path)))
     except (OSError, ValueError):
         return None

@@ -6,6 +6,8 @@ from dataclasses import dataclass
 from functools import lru_cache
 from typing import List, Optional, Tuple
 
+from record import machine
+
 HEAD = re.compile(r"(?P<targets>[^:=#\t][^:=#]*?)\s*(?P<colons>&?::?)(?![:=])(?P<rest>[^;]*)(?P<recipe>;.*)?", re.S)
 
 
@@ -23,8 +25,7 @@ class Lines:
 def lines_of(path: str) -> Tuple[str, ...]:
     """The lines of a file; none where it cannot be read."""
     try:
-        with open(path, encoding="utf-8", errors="surrogateescape", newline="\n") as file:
-            return tuple(file.read().split("\n"))
+        return tuple(machine.opened(path, newline="\n").read().split("\n"))
     except OSError:
         return ()
 
