@@ -3,16 +3,19 @@ from __future__ import annotations
 
 import argparse
 import difflib
+import re
 import shutil
 import sys
 from pathlib import Path
 
 from explain.plain import plain
-from explain.topics import Topic, topics
+from explain.topics import Topic, topics, topics_of_records
 from record import RELEASE
 
-ABOUT = "Prints what a fault, a refusal of a log, a kind of race or a missing input means, and what to do about it."
-PAGE = Path(__file__).resolve().parents[1] / "docs" / "FAULTS.md"
+ABOUT = "Prints what an answer, a fault, a refusal of a log, a kind of race, a missing input or a premise means, and what to do about it."
+DOCS = Path(__file__).resolve().parents[1] / "docs"
+PAGE = DOCS / "FAULTS.md"
+OF_RECORDS = (DOCS / "RECORD.md", DOCS / "MISSING.md")
 EXAMPLE = """
 examples:
   race-explain F16              a fault, by its number
@@ -20,6 +23,8 @@ examples:
   race-explain race             what a race is, and the kinds of races
   race-explain shared-log       one kind
   race-explain missing          what race missing prints
+  race-explain NO VERDICT       an answer of race-record: also SAFE, WARM
+  race-explain unasked          a line below `safe, if`, by its key
   race-explain                  lists all that can be asked for
 
 status: 0 printed; 1 a name is not known, near ones are listed; 3 usage, or the page cannot be read or the output written
@@ -30,7 +35,7 @@ WIDEST = 100
 def parse(words: list[str] | None) -> argparse.Namespace:
     parser = argparse.ArgumentParser(prog="race-explain", description=ABOUT, epilog=EXAMPLE,
                                      formatter_class=argparse.RawDescriptionHelpFormatter)
-    parser.add_argument("names", nargs="*", metavar="NAME", help="F16, V3, a word such as NoRule, race, or a kind such as shared-log (all are listed)")
+    parser.add_argument("names", nargs="*", metavar="NAME", help="F16, V3, a word such as NoRule, race, a kind such as shared-log, SAFE, WARM, NO VERDICT, or the key of a premise (all are listed)")
     parser.add_argument("-V", "--version", action="version", version=f"%(prog)s {RELEASE}", help="print the version")
     return parser.parse_args(words)
 
@@ -71,6 +76,7 @@ def answer(names: list[str], found: list[Topic]) -> tuple[int, str]:
     if not names:
         return 0, listed(found, width() if sys.stdout.isatty() else sys.maxsize)
     known = index(found)
+    names = re.sub("(?i)no verdict", "no-verdict", " ".join(names)).split()
     missing = [it for it in names if it.lower() not in known]
     for name in missing:
         close = ", ".join(near(name, found))
@@ -86,12 +92,13 @@ def main(words: list[str] | None = None) -> int:
     except SystemExit as end:
         return 3 if end.code else 0
     try:
-        status, text = answer(args.names, topics(PAGE.read_text("utf-8")))
+        records = "\n".join(it.read_text("utf-8") for it in OF_RECORDS)
+        status, text = answer(args.names, [*topics(PAGE.read_text("utf-8")), *topics_of_records(records)])
         if text:
             sys.stdout.buffer.write(f"{text}\n".encode("utf-8", "backslashreplace"))
             sys.stdout.buffer.flush()
     except OSError as error:
-        how = "; it has what is explained: ./install puts it there" if error.filename == str(PAGE) else ""
+        how = "; it has what is explained: ./install puts it there" if error.filename in (str(PAGE), *map(str, OF_RECORDS)) else ""
         print(f"race-explain: {error.filename or 'standard output'}: {error.strerror or error}{how}", file=sys.stderr)
         return 3
     return status

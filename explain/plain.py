@@ -37,7 +37,8 @@ def groups(lines: tuple[str, ...]) -> Iterator[tuple[str, list[str]]]:
 
 
 def bare(text: str) -> str:
-    """A line of Markdown without the marks of bold text and of code."""
+    """A line of Markdown without the marks of bold text, of code and of links."""
+    text = re.sub(r"\[([^\]]+)\]\([^)]*\)", r"\1", text)
     return re.sub(r"\*\*([^*]+)\*\*", r"\1", re.sub(r"`([^`]*)`", r"\1", text))
 
 

@@ -5,6 +5,8 @@ import re
 from collections.abc import Iterator
 from dataclasses import dataclass
 
+from record.build.assumptions import TEXTS
+
 HEADING = re.compile(r"^(#+) (.*)$")
 NUMBERED = re.compile(r"^([FV]\d+) (\w+)$")
 RULER = re.compile(r"^\|[\s|:-]+\|$")
@@ -15,7 +17,7 @@ MISSING = "what a build after an edit may leave old, though nothing races"
 WHOLE = {
     "race": (("race", "races"), RACE),
     "races": (("race", "races"), RACE),
-    "missing inputs": (("missing", "late", "shared", "present", "unlisted"), MISSING),
+    "missing inputs": (("missing", "late", "shared", "present"), MISSING),
 }
 
 
@@ -26,6 +28,10 @@ class Topic:
     names: tuple[str, ...]
     title: str
     lines: tuple[str, ...]
+
+
+ANSWERS = {"SAFE": (), "WARM": ("cold and warm",), "NO VERDICT": ("no verdict, and what to do",)}  # with the sections that say more of each
+PREMISE = re.compile(r"^`(.*)` \(`([a-z-]+)`\)$")
 
 
 @dataclass(frozen=True)
@@ -102,6 +108,25 @@ def united(found: list[Topic]) -> Iterator[Topic]:
         same.setdefault(topic.names, []).append(topic)
     for names, parts in same.items():
         yield Topic(names, parts[-1].title, tuple(line for it in reversed(parts) for line in (*it.lines, ""))[:-1])
+
+
+def of_record(row: dict[str, str], pages: list[Section]) -> Topic | None:
+    """What a row says of a record: an answer of the recorder, or what a yes takes for granted, by its key."""
+    first = next(iter(row.values()), "")
+    premise, name = PREMISE.match(first), first.strip("`")
+    if premise:
+        whole = TEXTS.get(premise[2], premise[1])
+        return Topic((premise[2],), f"taken for granted: {whole}", (f"Taken for granted: {whole}.", "", *shown(row)))
+    if name not in ANSWERS or len(row) < 4:
+        return None
+    more = [line for it in pages if it.heading.lower() in ANSWERS[name] for line in ("", *it.lines)]
+    return Topic((name.replace(" ", "-"),), list(row.values())[2].replace("`", ""), (*shown(row), *more))
+
+
+def topics_of_records(text: str) -> list[Topic]:
+    """What the pages of records explain: the answers, and what a yes takes for granted."""
+    pages = [*sections(text)]
+    return [it for section in pages for row in rows(section.lines) if (it := of_record(row, pages))]
 
 
 def topics(page: str) -> list[Topic]:

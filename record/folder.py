@@ -30,6 +30,10 @@ class Taken(Exception):
     """The place of the record is in use."""
 
 
+class Idle(Exception):
+    """Nothing was to be done, so there is nothing to record; the holes."""
+
+
 class NotWhole(Exception):
     """A record of which a file is cut, changed or of another kind."""
 
@@ -228,21 +232,30 @@ def room_of_programs(tops: List[str]) -> Optional[str]:
 
 
 @contextmanager
-def aside(folder: Path) -> Iterator[None]:
-    """Takes an older record out of the tree, in which the build may look around. It comes back where no new one is written."""
+def aside(folder: Path) -> Iterator[bool]:
+    """Takes an older record out of the tree, in which the build may look around, and says whether there was one. It comes back where no new one
+    is written."""
     room = Path(tempfile.mkdtemp(prefix="race-record-older-", dir=ROOMS))
     older, is_away = room / "record", False
     try:
         move(folder, older) if folder.exists() else folder.mkdir()  # where nothing can be written, nothing need be built
         is_away = True
         shutil.rmtree(folder, ignore_errors=True)
-        yield
+        yield (older / "record.json").is_file()
     except BaseException:
         if is_away or older.exists():
             come_back(older, folder)
         shutil.rmtree(room, ignore_errors=True)
         raise
     shutil.rmtree(room, ignore_errors=True)
+
+
+def seconds_of(folder: Path) -> float:
+    """How long the build of a record took; 0 where there is no record."""
+    try:
+        return float(json.loads((folder / "record.json").read_text(encoding="utf-8"))["seconds"])
+    except (OSError, ValueError, KeyError, TypeError):
+        return 0.0
 
 
 def is_record(folder: Path) -> bool:

@@ -19,11 +19,10 @@ from itertools import islice
 from pathlib import Path
 from typing import Dict, List, Optional, Set, Tuple, cast
 
-from record import RELEASE, VERSION, machine
+from record import RELEASE, VERSION
 from record.entry import STOPPING, UNHEARD, Stopped, end_traced, interpreter
 from record.messages import printable
-from record.facts import Facts, begun, first_tree
-from record.folder import NO_ROOM, NotWhole, Record, Taken, accept_warm, alone, aside, is_record, reading, rewrite, room_of_programs, rooms_of_programs, what_stands
+from record.folder import NO_ROOM, Idle, NotWhole, Record, Taken, accept_warm, alone, aside, is_record, reading, rewrite, room_of_programs, rooms_of_programs, seconds_of, what_stands
 from record.judge import find_race, judge, no_race
 from record.make.cover import Cover
 from record.make.options import forget_coerced
@@ -31,6 +30,8 @@ from record.make.outputs import note_output
 from record.make.unwrapped import name_real_makes
 from record.ninja.retry import JOBS, TRIES, by_hand, by_name, hints, tops_of, undo, with_jobs
 from record.ninja.cold_copy import CannotClean, cold_copy, fresh_folder, saved_name
+from record.ninja.log import Kept
+from record.progress import Elapsed
 from record.report import Judged, colours, read_json, report
 from record.standstill import Standstill
 from record.trace.classes import traced
@@ -156,7 +157,7 @@ def environment(spool: Path) -> Dict[str, str]:
     return env
 
 
-def run_build(words: List[str], spool: Path, tops: List[str], cover: Cover) -> Tuple[int, float]:
+def run_build(words: List[str], spool: Path, tops: List[str], cover: Cover, expected: float) -> Tuple[int, float]:
     """The build under strace; meanwhile its trace is sifted, and the modules are loaded that read it. Its status and seconds; `Missing` where nobody may trace."""
     env = environment(spool)
     began = time.monotonic()
@@ -170,7 +171,13 @@ def run_build(words: List[str], spool: Path, tops: List[str], cover: Cover) -> T
         held = cast(Set[signal.Signals], signal.pthread_sigmask(signal.SIG_BLOCK, STOPPING))  # until what has begun would be ended
         process = subprocess.Popen(words, env=env, close_fds=False, preexec_fn=lambda: enter(cover, older, heard, held))  # what the caller has opened for the build stays open
         ended, filled = threading.Event(), threading.Event()
-        filling = pool.submit(pipe.fill, ended.wait, Standstill(process.pid).see)
+        standstill, elapsed = Standstill(process.pid), Elapsed(expected)
+
+        def see(data: bytes) -> None:
+            standstill.see(data)
+            elapsed.see(data)
+
+        filling = pool.submit(pipe.fill, ended.wait, see)
         filling.add_done_callback(lambda _: filled.set())
         covered = [cover.real] if cover.is_ready else []
         sifting, loading = pool.submit(sift, pipe.file, tops, spool / "sifted", filled.wait, covered), pool.submit(import_module, "record.importing")
@@ -183,7 +190,9 @@ def run_build(words: List[str], spool: Path, tops: List[str], cover: Cover) -> T
         finally:
             ended.set()
             signal.signal(signal.SIGINT, old)
-        filling.result(), sifting.result(), loading.result()
+        filling.result()
+        elapsed.end()
+        sifting.result(), loading.result()
     if interrupts and status != 0:
         raise Stopped("SIGINT")
     if status != 0 and not has_calls(pipe.file):
@@ -207,7 +216,7 @@ def parser_of_words() -> argparse.ArgumentParser:
     parser.add_argument("--missing", action="store_true", help="report missing inputs too: files whose edit does not make a target again")
     parser.add_argument("-V", "--version", action="version", version="%(prog)s " + RELEASE, help="print the version")
     parser.add_argument("words", nargs=argparse.REMAINDER, metavar="-- COMMAND ..", help="what builds the project")
-    parser.set_defaults(linked=[])  # files of a copy that have names outside of it, in the folder itself
+    parser.set_defaults(linked=[], expected=0.0)  # files of a copy that have names outside of it, in the folder itself; seconds of the former record
     return parser
 
 
@@ -273,7 +282,7 @@ def attempt(options: argparse.Namespace, words: List[str], tools: Dict[str, str]
         cover.prepare(names.tops)
         if options.missing:
             (spool / "again").touch()
-        status, seconds = run_build(by_name(words, real, is_covered=cover.can_be_laid), spool, names.tops, cover)
+        status, seconds = run_build(by_name(words, real, is_covered=cover.can_be_laid), spool, names.tops, cover, options.expected)
         record, facts = begun(options.words, folder, status, round(seconds, 2), dict(tools)), Facts(spool, str(spool), real, names, kept)
         from record.importing import complete  # it was loaded while the build ran
         with machine.answering(after):
@@ -341,14 +350,20 @@ def run(options: argparse.Namespace) -> int:
     try:
         with alone(out):
             return record_and_judge(options, tools, out, race)
+    except Idle as idle:
+        print("\n".join(["NO VERDICT", *("  - %s" % why for why in idle.args), "  the record that was in %s stays: race-report shows it" % out]))
+        return 2
     except (CannotClean, Missing, Taken) as fault:
         return stop(str(fault))
 
 
 def record_and_judge(options: argparse.Namespace, tools: Dict[str, str], out: Path, race: str) -> int:
-    """Records in the place of an older record, and judges."""
-    with aside(out):
+    """Records in the place of an older record, and judges. Where nothing was to be done, the older one stays."""
+    options.expected = seconds_of(out)
+    with aside(out) as has_older:
         record = record_fresh(options, tools, out) if options.fresh else record_all(options, tools, out)
+        if has_older and import_module("record.importing").IDLE in record.holes:
+            raise Idle(*record.holes)
     ended, judged = judge_record(out, race)
     if ended == 0 and record.warm and not (options.warm or record.stands_alone):
         ended = 2

@@ -7,7 +7,7 @@ TOP = Path(__file__).resolve().parent.parent  # the checkout, or PREFIX/share/ra
 
 def page(name: str) -> str:
     """The path of a page of docs/, such as RECORD.md; where none is there, as the repository names it."""
-    places = (TOP / "docs" / name, TOP.parent / "doc" / "race" / "docs" / name)
+    places = (TOP.parent / "doc" / "race" / "docs" / name, TOP / "docs" / name)
     return next((str(place) for place in places if place.is_file()), "docs/" + name)
 
 

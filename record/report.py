@@ -220,7 +220,8 @@ def assumptions_text(record: Dict[str, Any], is_safe: bool) -> List[str]:
     for one in record["assumptions"]:
         example = "" if one["count"] == 1 and not one["example"] else " (%d, such as %s)" % (one["count"], shortened(one["example"], record["folder"]))
         lines += textwrap.wrap(one["text"] + example, 78, initial_indent="  - ", subsequent_indent="    ", break_long_words=False, break_on_hyphens=False)
-    return lines if len(lines) > 1 else []
+    keys = "race-explain says what to do about a line, by its key: " + ", ".join(one["kind"] for one in record["assumptions"])
+    return lines + textwrap.wrap(keys, 78, initial_indent="  ", subsequent_indent="  ", break_on_hyphens=False) if len(lines) > 1 else []
 
 
 def shortened(example: str, folder: str) -> str:

@@ -135,7 +135,7 @@ _race() {
       --baseline) mapfile -t COMPREPLY < <(compgen -f -- "$word"); return ;;
       --race) mapfile -t COMPREPLY < <(compgen -f -- "$word"); return ;;
     esac
-    case $word in -*) mapfile -t COMPREPLY < <(compgen -W "-h --help --format -o --output --baseline --race -V --version" -- "$word"); return ;; esac
+    case $word in -*) mapfile -t COMPREPLY < <(compgen -W "-h --help --format -o --output --baseline --all --race -V --version" -- "$word"); return ;; esac
     mapfile -t COMPREPLY < <(compgen -d -- "$word") ;;
   esac
 }

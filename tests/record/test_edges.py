@@ -158,6 +158,17 @@ class Reports(unittest.TestCase):
         self.assertIn(IDLE, shown.stdout.decode())
 
 
+    def test_the_older_record_stays(self) -> None:
+        with support.Project({"Makefile": "all: a\na: ; touch a\n"}) as project:
+            words = ["--race", support.race_program(), "--", "make"]
+            first, again = project.run(words), project.run(words)
+            shown = project.plain([str(support.TOP / "report" / "race-report"), "--race", support.race_program()])
+            hidden = (project.folder / ".race" / ".gitignore").read_text()
+        self.assertEqual([0, 2, 0, "*\n"], [first.status, again.status, shown.returncode, hidden])
+        self.assertRegex(again.text(), r"(?m)^NO VERDICT\n  - nothing was to be done, .*\n  the record that was in .*/\.race stays: race-report shows it$")
+        self.assertTrue(shown.stdout.decode().startswith("SAFE"))
+
+
 class Texts(unittest.TestCase):
     """What is printed is short."""
 

@@ -63,14 +63,14 @@ def program_items(program: Path, is_proved: bool) -> Iterator[Item]:
 
 
 def companion_items(top: Path) -> Iterator[Item]:
-    """The companions and their launchers, and the page that one of them reads."""
+    """The companions and their launchers, and the pages that one of them reads."""
     for script in companions(top):
         folder = script.parent.name
         text = LAUNCHER.format(here=HERE, library=LIBRARY, folder=folder, name=script.name)
         yield Item(f"bin/{script.name}", text=text, is_program=True)
         for it in files_below(script.parent):
             yield Item(f"{LIBRARY}/{folder}/{it.relative_to(script.parent)}", it, is_program=it == script)
-    yield Item(f"{LIBRARY}/docs/FAULTS.md", top / "docs" / "FAULTS.md")
+    yield from (Item(f"{LIBRARY}/docs/{it}", top / "docs" / it) for it in ("FAULTS.md", "RECORD.md", "MISSING.md"))
 
 
 def files_below(folder: Path) -> Iterator[Path]:
