@@ -19,9 +19,10 @@ from itertools import islice
 from pathlib import Path
 from typing import Dict, List, Optional, Set, Tuple, cast
 
-from record import RELEASE, VERSION
+from record import RELEASE, VERSION, machine
 from record.entry import STOPPING, UNHEARD, Stopped, end_traced, interpreter
 from record.messages import printable
+from record.facts import Facts, begun, first_tree
 from record.folder import NO_ROOM, Idle, NotWhole, Record, Taken, accept_warm, alone, aside, is_record, reading, rewrite, room_of_programs, rooms_of_programs, seconds_of, what_stands
 from record.judge import find_race, judge, no_race
 from record.make.cover import Cover

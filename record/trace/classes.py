@@ -75,5 +75,6 @@ def named(name: str) -> str:
 
 
 def traced() -> str:
-    """The calls that strace traces. It may know less names than these."""
-    return "!" + ",".join("?" + name for name in sorted(LEFT_OUT))
+    """The calls that strace traces. It may know less names than these. Until the first of them it stops a process at all calls, and a child
+    that make starts begins with `rt_sigprocmask`."""
+    return "!" + ",".join("?" + name for name in sorted(LEFT_OUT - {"rt_sigprocmask"}))

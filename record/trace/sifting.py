@@ -24,6 +24,7 @@ LOOKING = (
     r"\n\d+ +(?:(?:readlink|openat|newfstatat|access|faccessat2|readlinkat|open|faccessat|stat|statx|lstat|statfs)\(" + AT + r'"(FOLDERS[^"\n]*)"'
     r"(?:" + READS + r'|(?!, O_)[^"\n={]*(?:\{[^"\n]*\}[^"\n=]*|)= |, "[^"\n]*"[^"\n={]*= )' + RESULT
     + r'|newfstatat\(\d+<[^>\n]*>, "", [^"\n]* = 0(?=\n|$)'
+    + r'|rt_sigprocmask\([^\n]*= 0(?=\n|$)'
     + r'|(?:fcntl|ioctl)\(\d+(?:<[^>\n]*>|)(?:\(deleted\)|), (?:F_[GS]ETF[DL]|F_DUPFD(?:_CLOEXEC|)|FIOCLEX|TCGETS|TIOCG\w+)\b[^\n]*= ' + RESULT + ")")
 NAMES = r"(?:creat|rename\w*|unlink\w*|rmdir|mkdir\w*|mknod\w*|link\w*|symlink\w*|truncate|[fl]?ch(?:mod|own)\w*|utime\w*|futimesat)\("
 FLAGS = r"O_(?:WRONLY|RDWR|CREAT|TRUNC)"

@@ -90,6 +90,10 @@ class Skips(unittest.TestCase):
         for path, count in (("/usr/lib/ocaml/stdlib.cmi", 1), ("/usr/lib/ocaml/stdlib__Bool.cmx", 1), ("/usr/lib/ocaml/stdlib.cma", 0)):
             self.assertEqual(count, self.kept([self.LOOK.replace("/usr/lib/x.so", path), self.LOOK], ["/w"]), path)
 
+    def test_masks_of_signals_are_not_read(self) -> None:
+        masks = ["7 rt_sigprocmask(SIG_BLOCK, NULL, ~[KILL STOP], 8) = 0", "7 rt_sigprocmask(SIG_SETMASK, [HUP INT], NULL, 8) = 0"]
+        self.assertEqual(1, self.kept([*masks, '7 openat(AT_FDCWD</w>, "a", O_RDONLY) = 3</w/a>'], ["/w"]))
+
     def test_open_with_other_flags_is_read(self) -> None:
         self.assertEqual(1, self.kept([self.LOOK.replace("O_RDONLY", "O_RDONLY|O_DIRECT"), self.LOOK], ["/w"]))
 
