@@ -5,12 +5,11 @@ These modules are loaded while the build runs (main.py): that takes as long as P
 
 import argparse
 import gc
-import json
 import sys
 from dataclasses import dataclass
 from itertools import chain
 from pathlib import Path
-from typing import Any, Dict, List, Set
+from typing import List, Set
 
 from record import machine
 from record.build.assumptions import Assumptions
@@ -18,7 +17,7 @@ from record.build.tasks import Build
 from record.cleaned import Cleaned
 from record.clock import named_by_time
 from record.configured import find_configured
-from record.facts import Facts, begun, first_tree
+from record.facts import Facts
 from record.failed import explained, failures, lacked, tried
 from record.folder import Record, write_record
 from record.footprints import write_footprints
@@ -31,7 +30,6 @@ from record.make.words import read_logs
 from record.missing.inputs import write_missing
 from record.ninja.builds import versions as ninja_versions
 from record.ninja.builds import beside, find_ninjas, import_ninjas
-from record.ninja.log import Kept
 from record.ninja.runs import Ninja
 from record.premises import add_granted, add_granted_by_ninjas, idle_targets, named_by_ninja
 from record.progress import watched
@@ -221,14 +219,3 @@ def complete(record: Record, facts: Facts, out: Path, options: argparse.Namespac
     if options.missing:
         record.missing = write_missing(out, record, found.builds, facts.names, found.lives, facts.spool)
     return found
-
-
-def import_again(folder: Path, out: Path) -> Record:
-    """Makes the record of a build again, of what was kept of it; the machine is not asked. Not what of `--missing` and `--footprints` was in it."""
-    about: Dict[str, Any] = json.loads((folder / "facts.json").read_text(encoding="utf-8"))
-    with machine.answering(machine.Answers.written(folder / "before")):
-        names, kept = first_tree(about["tops"], about["linked"])
-    record = begun(about["words"], about["folder"], about["status"], about["seconds"], about["tools"])
-    with machine.answering(machine.Answers.written(folder / "after")):
-        complete(record, Facts(folder, about["place"], about["real"], names, kept), out, argparse.Namespace(warm=about["warm"], footprints=False, missing=False))
-    return record

@@ -80,14 +80,13 @@ class Build:
         raise NotImplementedError
 
     @property
-    def makefiles(self) -> List[str]:
-        """The makefiles that it read, each once."""
-        return []
-
-    @property
     def considered(self) -> int:
         """How many targets it looked at."""
         raise NotImplementedError
+
+    def makefiles(self) -> List[str]:
+        """The makefiles that it read."""
+        return []
 
     def about(self, at: int) -> Dict[str, Any]:
         """Where the recipe of a task stands, and its first line."""

@@ -178,13 +178,11 @@ class MakeBuild(Build):
         return self.make.words.args
 
     @property
-    def makefiles(self) -> List[str]:
-        read = [*self.make.words.read, self.make.words.included]
-        return list(dict.fromkeys(name for names in read for name in names))
-
-    @property
     def considered(self) -> int:
         return len(self.graph.round.nodes)
+
+    def makefiles(self) -> List[str]:
+        return list(dict.fromkeys(name for names in (*self.make.words.read, self.make.words.included) for name in names))
 
     def about(self, at: int) -> Dict[str, Any]:
         """Where the recipe of a task stands, and its first line; of a rule with two colons also which of the target's rules it is."""

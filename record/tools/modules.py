@@ -13,9 +13,7 @@ from typing import Dict, Iterable, Iterator, List, Optional, Set, Tuple
 
 from record import machine
 from record.commands.system import OF_SYSTEM
-from record.trace.events import (
-    ABSENT, AGE_SEEN, AGE_UNKNOWN, CREATED, FOLDER_REMOVED, LISTED, MADE_QUIETLY, MAKES, READ, REMOVED, SEEN, STRICT, WAY_ABSENT, WRITTEN,
-)
+from record.trace.events import ABSENT, AGE_SEEN, AGE_UNKNOWN, CREATED, FOLDER_REMOVED, LISTED, MADE_QUIETLY, MAKES, READ, REMOVED, SEEN, STRICT, WAY_ABSENT, WRITTEN
 from record.trace.lives import Life
 
 OCAML = re.compile(r"ocaml(?:c|opt|dep|cp|optp|mktop)(?:\.opt|\.byte)?$")

@@ -8,8 +8,7 @@ from record import machine
 from record.commands import shellages, shelltext
 from record.commands.system import OF_SYSTEM
 from record.trace.events import (
-    ABSENT, AGE_SEEN, AGE_UNKNOWN, CHANGES, CREATED, ENTERED, FOLDER_REMOVED, MADE, MADE_QUIETLY, MAKE_OPENED, MAKER_SEEN, READ, REMOVED, SEEN,
-    TREE_CHANGES, WAY_ABSENT, WRITTEN,
+    ABSENT, AGE_SEEN, AGE_UNKNOWN, CHANGES, CREATED, ENTERED, FOLDER_REMOVED, MADE, MADE_QUIETLY, MAKER_SEEN, MAKE_OPENED, READ, REMOVED, SEEN, TREE_CHANGES, WAY_ABSENT, WRITTEN,
 )
 from record.trace.lives import Act, Life, Listed
 from record.trace.names import Found, Inode, Names

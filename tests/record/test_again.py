@@ -6,8 +6,9 @@ import unittest
 from typing import Dict
 
 import support
-from record.fixes import in_project
-from record.ninja.fix import fix_text, owner_of, pool_text
+from record.fixes import remedy
+from record.judge import Race
+from record.ninja.fix import owner_of, pool_text
 from record.ninja.log import Kept, Missing, ends, new_outputs, read_missing
 from record.ninja.manifest import Manifest, read_manifest
 from record.ninja.retry import by_name, folders_of, source_of, tops_of, undo, with_jobs

@@ -231,7 +231,7 @@ class Values(unittest.TestCase):
         """That of a make which read one makefile and has a data base."""
         words = SimpleNamespace(args="", flags="", environment=frozenset(), rounds=[], included=[], copies_of=lambda name: ["M"] * copies)
         make = SimpleNamespace(folder="/w", words=words, stale=[], never_read=lambda name: False, known_text={"M": text}.get)
-        with mock.patch("record.make.macros.makefiles", return_value={"M"}):
+        with mock.patch("record.make.macrotexts.makefiles", return_value={"M"}):
             return Macros(cast(Make, make), read_base(base)).steady
 
     def test_a_place(self) -> None:

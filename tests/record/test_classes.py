@@ -11,7 +11,7 @@ from typing import List, Set, Tuple
 from unittest import mock
 
 import support
-from record.trace import classes, unfollowed as newer
+from record.trace import classes, unfollowed
 from record.trace.calls import HANDLERS
 from test_replay import TOP, events_of, lives_of, played
 from test_skips import Skips
@@ -144,20 +144,20 @@ class Newer(unittest.TestCase):
 
     def test_first_that_strace_does_not_know(self) -> None:
         for first in (classes.FIRST, 451, 463, classes.FIRST + len(classes.NEWER)):
-            with mock.patch.object(newer, "is_known", lambda number: number < first):
-                self.assertEqual(first, newer.first_unknown())
+            with mock.patch.object(unfollowed, "is_known", lambda number: number < first):
+                self.assertEqual(first, unfollowed.first_unknown())
 
     def test_they_do_not_run(self) -> None:
         text = "import ctypes, errno, sys\nlibc = ctypes.CDLL(None, use_errno=True)\n" \
                "print([(number, ctypes.get_errno()) for number in (425, 441, 449, 452, 463, 469) if libc.syscall(number, -1, 0, 0, 0, 0) < 0 and ctypes.get_errno() != errno.ENOSYS])\n"
-        older = newer.Older()
-        older.text = newer.filter_of(platform.machine(), classes.FIRST)
+        older = unfollowed.Older()
+        older.text = unfollowed.filter_of(platform.machine(), classes.FIRST)
         ran = subprocess.run([sys.executable, "-c", text], preexec_fn=lambda: older.enter(signal.SIG_DFL), capture_output=True, text=True, timeout=60, check=False)
         self.assertEqual("[]\n", ran.stdout if older.text else "[]\n", ran.stderr)
 
     def test_other_machines(self) -> None:
-        self.assertEqual(b"", newer.filter_of("mips", 451))
-        self.assertEqual([10 * 8, 9 * 8], [len(newer.filter_of(machine, 451)) for machine in ("aarch64", "riscv64")])
+        self.assertEqual(b"", unfollowed.filter_of("mips", 451))
+        self.assertEqual([10 * 8, 9 * 8], [len(unfollowed.filter_of(machine, 451)) for machine in ("aarch64", "riscv64")])
 
 
 class Recorded(unittest.TestCase):

@@ -23,7 +23,7 @@ def copied(name: str, room: Path) -> Path:
     """The folder of a script, with the script and what it begins with alone."""
     for folder in (room / "record", room / name):
         folder.mkdir(exist_ok=True)
-    for begins in ("entry.py", "needed.py"):
+    for begins in ("entry.py", "messages.py", "needed.py"):
         shutil.copy2(TOP / "record" / begins, room / "record")
     shutil.copy2(TOP / name / ("race-" + name), room / name)
     return room / name

@@ -9,7 +9,7 @@ from typing import Dict, Tuple
 import support
 from ninja_table import RULES, sh
 
-from record.ninja import cold_copy as fresh
+from record.ninja import cold_copy
 
 NOBODY = 65534
 BUILD = ["ninja", "-C", "b"]
@@ -74,9 +74,9 @@ class Places(unittest.TestCase):
     def test_other_name(self) -> None:
         with support.Project({"top/a/b/x": ""}) as project:
             top = os.path.realpath(project.folder) + "/top"
-            names = [fresh.saved_name(top + below, tops) for below, tops in (("/a/b", [top]), ("/a/b", [top + "/a"]), ("/a", [top + "/a"]), ("/a", ["/"]))]
+            names = [cold_copy.saved_name(top + below, tops) for below, tops in (("/a/b", [top]), ("/a/b", [top + "/a"]), ("/a", [top + "/a"]), ("/a", ["/"]))]
             self.assertEqual([top + name + ".race-saved" for name in ("-a-b", "/a-b", "/a", "/a")], names)
-            self.assertTrue({*names[:2]} <= {*fresh.saved_names(top + "/a/b")})
+            self.assertTrue({*names[:2]} <= {*cold_copy.saved_names(top + "/a/b")})
 
     def test_left_over_beside_the_project(self) -> None:
         with support.Project({"b/build.ninja": RULES}) as project:
@@ -88,8 +88,8 @@ class Places(unittest.TestCase):
             self.assertTrue(left.is_dir())
 
     def test_folder_that_cannot_be_moved(self) -> None:
-        with self.assertRaisesRegex(fresh.CannotClean, r"cannot get another name meanwhile \(.*\): clean it \(ninja -C /proc/sys -t clean\) and record without --fresh"):
-            fresh.move_away("/proc/sys", "/proc/sys.race-saved")
+        with self.assertRaisesRegex(cold_copy.CannotClean, r"cannot get another name meanwhile \(.*\): clean it \(ninja -C /proc/sys -t clean\) and record without --fresh"):
+            cold_copy.move_away("/proc/sys", "/proc/sys.race-saved")
 
     def test_folders_that_may_not_be_written(self) -> None:
         """They go too; else the folder itself could not come back."""
@@ -105,7 +105,7 @@ class Places(unittest.TestCase):
                 try:
                     if os.geteuid() == 0:
                         os.setuid(NOBODY)
-                    fresh.remove(str(folder))
+                    cold_copy.remove(str(folder))
                 finally:
                     os._exit(0)
             os.waitpid(child, 0)

@@ -12,14 +12,14 @@ from typing import Dict, Iterator, Set
 
 import support
 from record import machine
-from record.importing import import_again
+from record.import_again import import_again
 from record.folder import rewrite
 
 ASKS = {"os.path.%s" % name for name in ("isfile", "isdir", "islink", "exists", "lexists", "realpath", "getsize", "samefile")} | {
     "os.%s" % name for name in ("stat", "lstat", "readlink", "listdir", "scandir", "walk", "environ", "getenv", "geteuid", "getcwd", "umask")} | {
     "open", "tokenize.open", "glob.glob", "subprocess.run", "time.time"}
 # Modules that run builds, read what was kept of one, or write a record or judge it; and, where builds are asked once more, those of --missing.
-OTHERS = ("machine.py", "facts.py", "folder.py", "entry.py", "pages.py", "judge.py", "importing.py", "footprints.py", "missing", "make/words.py", "make/cover.py", "missing/called.py",
+OTHERS = ("machine.py", "facts.py", "folder.py", "entry.py", "pages.py", "judge.py", "importing.py", "import_again.py", "footprints.py", "missing", "make/words.py", "make/cover.py", "missing/called.py",
           "make/options.py", "trace/sifting.py")
 
 

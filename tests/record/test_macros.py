@@ -180,7 +180,7 @@ class Sweeps(unittest.TestCase):
     def macros(self, values: Dict[str, str]) -> Macros:
         """Macros of a make without makefiles."""
         make = SimpleNamespace(folder="/w", words=SimpleNamespace(args="", flags="", rounds=[]), stale=[], never_read=lambda name: False)
-        with mock.patch("record.make.macros.makefiles", return_value=set()):
+        with mock.patch("record.make.macrotexts.makefiles", return_value=set()):
             return Macros(cast(Make, make), Base(values=values))
 
     def test_macros_in_a_row(self) -> None:
@@ -193,7 +193,7 @@ class Sweeps(unittest.TestCase):
         macros = self.macros({"m%d" % at: "$(m%d)" % (at + 1) for at in range(200)})
         self.assertTrue(macros.learn({"*"}))
         macros.given = {"*": ["$(x%d)" % at for at in range(200)]}
-        with mock.patch("record.make.macros.named", side_effect=named) as asked:
+        with mock.patch("record.make.macrotexts.named", side_effect=named) as asked:
             self.assertLess(400, len(macros.reached_by({"m0"}, False)))
         self.assertLess(sum(len(one.args[0]) for one in asked.call_args_list), 50_000)
 

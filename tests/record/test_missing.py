@@ -221,7 +221,7 @@ class Large(unittest.TestCase):
         for name in ("forgotten header", "named headers", "a chain", "a generated header in order alone"):
             with self.subTest(name), support.Project({"Makefile": PROJECTS[name][0], **FILES}) as project:
                 program = (support.TOP / "record" / "race-record").read_text()
-                small = program.replace("os._exit(", "import record.missing.old_tree\nrecord.missing.due.NODES = 1\nos._exit(")
+                small = program.replace("os._exit(", "import record.missing.old_tree\nrecord.missing.old_tree.NODES = 1\nos._exit(")
                 path = project.folder / "race-record"
                 path.write_text(small.replace("os.path.dirname(os.path.dirname(os.path.realpath(__file__)))", repr(str(support.TOP))))
                 words = [sys.executable, str(path), "--race", support.race_program(), "--missing", "--", "make"]

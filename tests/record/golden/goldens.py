@@ -17,7 +17,7 @@ SIGNS = 240  # so much of such a line, where it differs
 
 sys.path.insert(0, str(TOP))
 
-from record.importing import import_again  # noqa: E402
+from record.import_again import import_again  # noqa: E402
 from record.folder import rewrite  # noqa: E402
 from record.main import judge_record  # noqa: E402
 from record.report import read_json, report  # noqa: E402
