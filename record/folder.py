@@ -106,7 +106,7 @@ def write_build(folder: Path, build: "Build", within: Optional[Dict[str, str]], 
     labels = labels_of(build.tasks)
     root = build.folder
     about: Dict[str, Any] = {}
-    places = Places(root, build.makefiles)
+    places = Places(root, build.makefiles())
     for at, (label, task) in enumerate(zip(labels, build.tasks)):
         own = build.about(at)
         edited = places.of(task.node.name, own)
