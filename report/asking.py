@@ -23,7 +23,7 @@ def judge(folder: Path, program: Path) -> Report:
     report = Report(record.get("folder", ""), top, [*map(shown, record.get("words", []))], "safe", is_fixed=True, holes=[*record.get("holes", [])],
                     hints=[*record.get("hints", [])])
     report.assumptions = [Assumption(it["text"], it["count"], it["example"]) for it in record.get("assumptions", [])]
-    report.is_of_ninja = bool(record.get("builds"))
+    tools = set()
     for number in record.get("builds", []):
         build = read_build(folder / "builds" / number, number, project, top)
         for label, it in build.about["labels"].items():
@@ -33,11 +33,12 @@ def judge(folder: Path, program: Path) -> Report:
         report.is_fixed &= verdict.is_fixed
         report.holes += [f"build {number}: {explained(verdict.refused)}"] * bool(verdict.refused)
         report.builds += 1
-        report.is_of_ninja &= build.about.get("tool") == "ninja"
+        tools.add(build.about.get("tool", "make"))
         report.pairs += verdict.pairs
         report.recipes += build.about.get("counts", {}).get("recipes", 0)
     report.fixes = merged(it.remedy for it in report.races if it.fix)
     report.considered |= report.ran
+    report.tool = "ninja" if tools == {"ninja"} else "make"
     report.missing = Question.of(folder, str(program)) if "missing" in record else None
     report.verdict = "none" if report.holes or not report.builds else "race" if report.races else "safe"
     return report

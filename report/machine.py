@@ -1,7 +1,8 @@
-"""The report for programs: JSON of our own schema, and SARIF 2.1.0."""
+"""The report for programs: JSON of our own schema, SARIF 2.1.0, and code quality as GitLab reads it."""
 
 from __future__ import annotations
 
+import hashlib
 import json
 import os
 from typing import Any
@@ -112,6 +113,24 @@ def result(race: Race, report: Report) -> dict[str, Any]:
         "baselineState": "unchanged" if race.fingerprint in (report.known or ()) else "new",
         **({"suppressions": [{"kind": "external", "justification": report.ignored[race.fingerprint]}]} if race.fingerprint in report.ignored else {}),
     }
+
+
+def issue(race: Race, report: Report) -> dict[str, Any]:
+    """One race as an issue of code quality, as GitLab reads it."""
+    late = race.second.recipe
+    return {
+        "description": f"{late.target} and {race.first.recipe.target} both use {race.about}, and nothing orders the two.{asks(race)} {race.to_do}",
+        "check_name": race.kind.name, "fingerprint": race.fingerprint, "severity": "major" if report.state(race.fingerprint) == "new" else "info",
+        "location": {"path": late.file, "lines": {"begin": max(late.line, 1)}},
+    }
+
+
+def as_gitlab(report: Report) -> str:
+    """A report of code quality: an issue for each race that is not ignored, and for each reason why there is no verdict."""
+    found = [issue(it, report) for it in report.races if report.state(it.fingerprint) != "ignored"]
+    found += [{"description": f"no verdict: {it}", "check_name": "no-verdict", "fingerprint": hashlib.sha256(it.encode()).hexdigest()[:32], "severity": "blocker",
+               "location": {"path": "Makefile", "lines": {"begin": 1}}} for it in report.holes]
+    return json.dumps(found, indent=1, ensure_ascii=True) + "\n"
 
 
 def as_sarif(report: Report) -> str:

@@ -4,6 +4,7 @@ from __future__ import annotations
 
 import argparse
 import contextlib
+import os
 import shutil
 import sys
 from pathlib import Path
@@ -14,22 +15,26 @@ from record.folder import NotWhole, reading
 from record.judge import find_race, no_race
 from report.asking import judge
 from report.direct import inputs, judge_makefile
-from report.machine import as_json, as_sarif
+from report.graph import judge_tasks
+from report.machine import as_gitlab, as_json, as_sarif
 from report.model import BadRecord, Report
 from report.page import as_html
+from report.patch import as_patch
 from report.plain import github, text
 from report.standing import hold_against, ignore, read_baseline
 
-FORMS = {"text": text, "json": as_json, "sarif": as_sarif, "github": github, "html": as_html}
+FORMS = {"text": text, "json": as_json, "sarif": as_sarif, "github": github, "gitlab": as_gitlab, "html": as_html, "patch": as_patch}
 USAGE = """race-report [DIR] [options]
-       race-report --makefile FILE --listing FILE --footprints FILE [--root FOLDER] [GOAL or NAME=VALUE ..] [options]"""
-DESCRIPTION = "Shows a record of race-record, or what race says of a makefile, in a form for people or for CI."
+       race-report --makefile FILE --listing FILE --footprints FILE [--root FOLDER] [GOAL or NAME=VALUE ..] [options]
+       race-report --tasks FILE [--root FOLDER] [options]"""
+DESCRIPTION = "Shows a record of race-record, or what race says of a makefile or of tasks, in a form for people or for CI."
 EXAMPLE = """
 example:
   race-record -- make                          record a build into .race
   race-report --format html -o race.html       and show it as a page
   race-report --format json -o baseline.json   keep the races that are known
   race-report --format github --baseline baseline.json
+  race-report --format patch | patch -p1       write the fixes into the makefiles, in the project's top
   race-report --makefile Makefile --listing listing --footprints footprints all
                                                judge a makefile of POSIX without a record, with its goal all
 
@@ -49,8 +54,9 @@ def parse(words: list[str] | None) -> argparse.Namespace:
     parser.add_argument("--all", action="store_true", help="give each race a block in the text: else the first ten groups")
     parser.add_argument("--race", metavar="PROGRAM", help="the program race (else $RACE, the checkout's, or the one on PATH)")
     parser.add_argument("-V", "--version", action="version", version=f"%(prog)s {RELEASE}", help="print the version")
-    direct = parser.add_argument_group("a makefile without a record", "What `race check` takes; docs/FORMATS.md says what the files hold.")
+    direct = parser.add_argument_group("a makefile or tasks without a record", "What `race check` takes; docs/FORMATS.md says what the files hold.")
     direct.add_argument("--makefile", type=Path, metavar="FILE", help="the makefile")
+    direct.add_argument("--tasks", type=Path, metavar="FILE", help="the tasks of another tool, in place of a makefile")
     direct.add_argument("--listing", type=Path, metavar="FILE", help="the files that are there, one a line (find . > FILE)")
     direct.add_argument("--footprints", type=Path, metavar="FILE", help="what each recipe reads and writes")
     direct.add_argument("--root", metavar="FOLDER", help="the folder that paths start from (the working folder)")
@@ -64,9 +70,11 @@ def parse(words: list[str] | None) -> argparse.Namespace:
 
 
 def read(args: argparse.Namespace, program: Path) -> Report:
-    """The report that is asked for: of a makefile, or of a record."""
+    """The report that is asked for: of a makefile, of tasks, or of a record."""
     if args.makefile:
         return judge_makefile(inputs(args), program)
+    if args.tasks:
+        return judge_tasks(args.tasks, os.path.abspath(args.root or "."), program)
     return judge(Path(*(args.words or [".race"])), program)
 
 
@@ -86,7 +94,7 @@ def main(words: list[str] | None = None) -> int:
     if not program:
         return stop(no_race(args.race))
     try:
-        with contextlib.nullcontext() if args.makefile else reading(Path(*(args.words or [".race"]))):
+        with contextlib.nullcontext() if args.makefile or args.tasks else reading(Path(*(args.words or [".race"]))):
             report = read(args, Path(program))
             if args.baseline:
                 hold_against(report, read_baseline(args.baseline))

@@ -154,7 +154,7 @@ def fixes(report: Report) -> str:
         return ""
     safe = "With these lines the build is safe: <code>race fix</code> checked it."
     checked = safe if report.is_checked else "These lines were not checked together."
-    where = "CMakeLists.txt, meson.build or build.ninja, whichever you write" if report.is_of_ninja else "the makefile"
+    where = {"make": "the makefile", "ninja": "CMakeLists.txt, meson.build or build.ninja, whichever you write", "tasks": "what writes the tasks"}[report.tool]
     return (f"<h2>All fixes</h2><p>{checked} Add them to {where}.</p>"
             '<pre class="all" tabindex="0" role="region" aria-label="All lines that fix the build">'
             f"{escape(chr(10).join(report.fixes))}</pre>")

@@ -14,6 +14,7 @@ MISSING = {
     "missing": "{0} reads {1}, and is not made again when it changes", "late": "{0} reads {1}, and who writes that need not come first",
     "shared": "{0} writes {1}, and so does a recipe that need not run then", "present": "{0} was there before the build",
 }
+SAME = {"make": "make -j leaves what make leaves", "ninja": "ninja leaves what ninja -j1 leaves", "tasks": "each order leaves what the serial one leaves"}
 SHOWN_BLOCKS, SHOWN_NUMBERS = 10, 20
 LEVELS = {"new": "error", "known": "warning", "ignored": "notice"}
 HEADLINES = {"safe": "SAFE", "race": "RACE", "none": "NO VERDICT"}
@@ -29,9 +30,9 @@ def summary(report: Report) -> str:
     recipes = f"{counted(report.recipes, 'recipe')} in {counted(report.builds, 'build')}"
     if report.verdict == "none":
         of_record = f"The record has {counted(len(report.holes), 'hole')}." if report.holes else "No recipe ran in the recorded build, so nothing is judged."
-        return "race refuses this makefile." if report.is_direct else of_record
+        return "race refuses this input." if report.is_direct else of_record
     if report.verdict == "safe":
-        same = "ninja leaves what ninja -j1 leaves" if report.is_of_ninja else "make -j leaves what make leaves"
+        same = SAME[report.tool]
         return f"{same}. {recipes}; {counted(report.pairs, 'pair')} that conflict are in order."
     files = len({it.path for it in report.races})
     return f"{counted(len(report.races), 'race')} on {counted(files, 'file')}. {recipes}."

@@ -130,7 +130,7 @@ _race() {
     mapfile -t COMPREPLY < <(compgen -c -- "$word") ;;
   'race-report')
     case $before in
-      --format) mapfile -t COMPREPLY < <(compgen -W "github html json sarif text" -- "$word"); return ;;
+      --format) mapfile -t COMPREPLY < <(compgen -W "github gitlab html json patch sarif text" -- "$word"); return ;;
       -o|--output) mapfile -t COMPREPLY < <(compgen -f -- "$word"); return ;;
       --baseline) mapfile -t COMPREPLY < <(compgen -f -- "$word"); return ;;
       --race) mapfile -t COMPREPLY < <(compgen -f -- "$word"); return ;;
