@@ -54,6 +54,12 @@ started_begun Running started = refl
 started_begun Skipped started = refl
 started_begun Ran started = refl
 
+pub ran_if : (phase : Phase) → is_started phase ≡ true → is_passed phase ≡ true → phase ≡ Ran
+ran_if Waiting started passed = cc
+ran_if Running started passed = cc
+ran_if Skipped started passed = cc
+ran_if Ran started passed = refl
+
 -- what an act leaves at x, if it writes x
 abbrev pub touch : Name → Act → Option (Option Bytes)
 touch x Skip = None

@@ -3,14 +3,15 @@ use Rattle.std.proofs.Common.{ℕ, zero, suc, ◌≡◌, ◌<◌, ◌≤◌, ◌
 use Rattle.std.specs.List.{list_all}
 use Rattle.std.proofs.lemmas.Bool.{false≢true, and_parts}
 use Rattle.mk_name.specs.Names.{Name, same_name}
-use Rattle.mk_jobs.specs.Jobs.{Before, edge, further, IsValid, IsRaceFree, IsPrerequisite, node_count, name_of, prerequisites_of, has_recipe, is_phony, is_listed, is_live, reads_of, writes_of, may_read, may_write}
+use Rattle.mk_path.specs.declared.path.Path.{Path}
+use Rattle.mk_jobs.specs.Jobs.{Before, Clash, edge, further, IsValid, IsRaceFree, IsPrerequisite, node_count, name_of, prerequisites_of, has_recipe, is_phony, is_listed, is_live, reads_of, writes_of, may_read, may_write}
 use Rattle.mk_jobs.proofs.JobsLemmas.{clash_live}
 use Rattle.mk_sched.specs.Stores.{Bytes, File, Store}
 use Rattle.mk_sched.specs.Events.{Skip, Start, phase, is_started, history}
 use Rattle.mk_sched.specs.Runs.{IsRun, Agree}
 use Rattle.mk_sched.specs.Serial.{IsLast}
 use Rattle.mk_sched.specs.Table.{AllowedInTurn, start_from}
-use Rattle.mk_sched.specs.MissingHeader.{gen_sh, gen_h, a_c, a_o, missing_header, header_named, two_sources, by, header_first, object_first, BothOrders, MissingHeaderRaces, HeaderNamedIsSafe}
+use Rattle.mk_sched.specs.MissingHeader.{gen_sh, gen_h, a_c, a_o, file, header_jobs, missing_header, header_named, two_sources, by, header_first, object_first, BothOrders, MissingHeaderRaces, HeaderNamedIsSafe}
 use Rattle.mk_sched.specs.SmallCases.{two_files, same_age, EqualTimes, InterleavedInOrder}
 use Rattle.mk_sched.proofs.Basics.{split, started_begun}
 use Rattle.mk_sched.proofs.ByTable.{runs_by_table}
@@ -186,57 +187,65 @@ missing_header_races = record {
       cc;
 }
 
-named_smaller : (n p : ℕ) → IsPrerequisite header_named p n → p < n
+-- whatever `a.o` reads, and where it needs smaller nodes alone, the jobs are valid
+header_smaller : (ps : List ℕ) (reads : List Path) → list_all (λ k. nat_lt k 3) ps ≡ true → (n p : ℕ) → IsPrerequisite (header_jobs ps reads) p n → p < n
 unfolding prerequisites_of
-named_smaller zero p step = absurd (nothing_in p step)
-named_smaller (suc zero) p step = ltb-true p 1 (each_passes (λ k. nat_lt k 1) (0 ∷ []) refl p step)
-named_smaller (suc (suc zero)) p step = absurd (nothing_in p step)
-named_smaller (suc (suc (suc zero))) p step = ltb-true p 3 (each_passes (λ k. nat_lt k 3) (2 ∷ 1 ∷ []) refl p step)
-named_smaller (suc (suc (suc (suc zero)))) p step = ltb-true p 4 (each_passes (λ k. nat_lt k 4) (1 ∷ 3 ∷ []) refl p step)
-named_smaller (suc (suc (suc (suc (suc n))))) p step = absurd (nothing_in p step)
+header_smaller ps reads low zero p step = absurd (nothing_in p step)
+header_smaller ps reads low (suc zero) p step = ltb-true p 1 (each_passes (λ k. nat_lt k 1) (0 ∷ []) refl p step)
+header_smaller ps reads low (suc (suc zero)) p step = absurd (nothing_in p step)
+header_smaller ps reads low (suc (suc (suc zero))) p step = ltb-true p 3 (each_passes (λ k. nat_lt k 3) ps low p step)
+header_smaller ps reads low (suc (suc (suc (suc zero)))) p step = ltb-true p 4 (each_passes (λ k. nat_lt k 4) (1 ∷ 3 ∷ []) refl p step)
+header_smaller ps reads low (suc (suc (suc (suc (suc n))))) p step = absurd (nothing_in p step)
 
-named_own : (n m : ℕ) → m < node_count header_named → may_write header_named n (name_of header_named m) ≡ true → n ≡ m
+header_own : (ps : List ℕ) (reads : List Path) (n m : ℕ) → m < node_count (header_jobs ps reads) → may_write (header_jobs ps reads) n (name_of (header_jobs ps reads) m) ≡ true → n ≡ m
 unfolding node_count name_of prerequisites_of has_recipe is_phony is_listed writes_of may_write
-named_own zero m inside writes = absurd (false≢true writes)
-named_own (suc zero) m inside writes = each_node (λ k. may_write header_named 1 (name_of header_named k) ≡ true → 1 ≡ k)
+header_own ps reads zero m inside writes = absurd (false≢true writes)
+header_own ps reads (suc zero) m inside writes = each_node (λ k. may_write (header_jobs ps reads) 1 (name_of (header_jobs ps reads) k) ≡ true → 1 ≡ k)
     (λ w. absurd (false≢true w)) (λ w. refl) (λ w. absurd (false≢true w)) (λ w. absurd (false≢true w)) (λ w. absurd (false≢true w)) m inside writes
-named_own (suc (suc zero)) m inside writes = absurd (false≢true writes)
-named_own (suc (suc (suc zero))) m inside writes = each_node (λ k. may_write header_named 3 (name_of header_named k) ≡ true → 3 ≡ k)
+header_own ps reads (suc (suc zero)) m inside writes = absurd (false≢true writes)
+header_own ps reads (suc (suc (suc zero))) m inside writes = each_node (λ k. may_write (header_jobs ps reads) 3 (name_of (header_jobs ps reads) k) ≡ true → 3 ≡ k)
     (λ w. absurd (false≢true w)) (λ w. absurd (false≢true w)) (λ w. absurd (false≢true w)) (λ w. refl) (λ w. absurd (false≢true w)) m inside writes
-named_own (suc (suc (suc (suc zero)))) m inside writes = absurd (false≢true writes)
-named_own (suc (suc (suc (suc (suc n))))) m inside writes = absurd (false≢true writes)
+header_own ps reads (suc (suc (suc (suc zero)))) m inside writes = absurd (false≢true writes)
+header_own ps reads (suc (suc (suc (suc (suc n))))) m inside writes = absurd (false≢true writes)
 
-named_live : (n : ℕ) → is_live header_named n ≡ true → (n ≡ 1) ⊎ (n ≡ 3)
+pub header_valid : (ps : List ℕ) (reads : List Path) → list_all (λ k. nat_lt k 3) ps ≡ true → IsValid (header_jobs ps reads)
+header_valid ps reads low = record { smaller = header_smaller ps reads low; own = header_own ps reads }
+
+pub header_live : (ps : List ℕ) (reads : List Path) (n : ℕ) → is_live (header_jobs ps reads) n ≡ true → (n ≡ 1) ⊎ (n ≡ 3)
 unfolding prerequisites_of has_recipe is_phony is_listed
-named_live zero live = absurd (false≢true live)
-named_live (suc zero) live = inl refl
-named_live (suc (suc zero)) live = absurd (false≢true live)
-named_live (suc (suc (suc zero))) live = inr refl
-named_live (suc (suc (suc (suc zero)))) live = absurd (false≢true live)
-named_live (suc (suc (suc (suc (suc n))))) live = absurd (false≢true live)
+header_live ps reads zero live = absurd (false≢true live)
+header_live ps reads (suc zero) live = inl refl
+header_live ps reads (suc (suc zero)) live = absurd (false≢true live)
+header_live ps reads (suc (suc (suc zero))) live = inr refl
+header_live ps reads (suc (suc (suc (suc zero)))) live = absurd (false≢true live)
+header_live ps reads (suc (suc (suc (suc (suc n))))) live = absurd (false≢true live)
+
+-- so the two recipes alone may clash
+pub header_race_free : (ps : List ℕ) (reads : List Path)
+    → (Clash (header_jobs ps reads) 1 3 → Before (header_jobs ps reads) 1 3) → (Clash (header_jobs ps reads) 3 1 → Before (header_jobs ps reads) 1 3)
+    → IsRaceFree (header_jobs ps reads)
+header_race_free ps reads there back a b clash =
+    let live = clash_live clash.1 in
+    elim (header_live ps reads a live.first_live) [
+      | inl a_is ↦ elim (header_live ps reads b live.second_live) [
+        | inl b_is ↦ absurd (clash.1.different (a_is ∙ sym b_is))
+        | inr b_is ↦ inl (subst₂ (Before (header_jobs ps reads)) (sym a_is) (sym b_is) (there (subst₂ (Clash (header_jobs ps reads)) a_is b_is clash)))
+      ]
+      | inr a_is ↦ elim (header_live ps reads b live.second_live) [
+        | inl b_is ↦ inr (subst₂ (Before (header_jobs ps reads)) (sym b_is) (sym a_is) (back (subst₂ (Clash (header_jobs ps reads)) a_is b_is clash)))
+        | inr b_is ↦ absurd (clash.1.different (a_is ∙ sym b_is))
+      ]
+    ]
 
 named_before : Before header_named 1 3
 unfolding prerequisites_of
 named_before = edge (1, omega arith, refl)
 
-named_race_free : IsRaceFree header_named
-named_race_free a b clash =
-    let live = clash_live clash.1 in
-    elim (named_live a live.first_live) [
-      | inl a_is ↦ elim (named_live b live.second_live) [
-        | inl b_is ↦ absurd (clash.1.different (a_is ∙ sym b_is))
-        | inr b_is ↦ inl (subst₂ (Before header_named) (sym a_is) (sym b_is) named_before)
-      ]
-      | inr a_is ↦ elim (named_live b live.second_live) [
-        | inl b_is ↦ inr (subst₂ (Before header_named) (sym b_is) (sym a_is) named_before)
-        | inr b_is ↦ absurd (clash.1.different (a_is ∙ sym b_is))
-      ]
-    ]
-
 pub header_named_is_safe : HeaderNamedIsSafe
 header_named_is_safe =
-    let valid : IsValid header_named = record { smaller = named_smaller; own = named_own } in
-    record { valid = valid; race_free = named_race_free; determinate = headline header_named valid named_race_free }
+    let valid = header_valid (2 ∷ 1 ∷ []) (file a_c ∷ file gen_h ∷ []) refl in
+    let race_free = header_race_free (2 ∷ 1 ∷ []) (file a_c ∷ file gen_h ∷ []) (λ clash. named_before) (λ clash. named_before) in
+    record { valid = valid; race_free = race_free; determinate = headline header_named valid race_free }
 
 tie_allowed : AllowedInTurn two_files true 1 (start_from same_age) (by 0 Skip ∷ by 1 Start ∷ [])
 unfolding node_count name_of prerequisites_of has_recipe is_phony is_listed

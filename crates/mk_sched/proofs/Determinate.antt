@@ -1,16 +1,17 @@
 -- The headline: race-free jobs are determinate. By the numbers of the nodes, and for each node along its two histories.
-use Rattle.std.proofs.Common.{ℕ, zero, suc, ◌≡◌, ◌<◌, ◌&&◌, Bool, List, [], ◌∷◌, ◌++◌, Option, refl, sym, ap, ◌∙◌, reverse, arith}
+use Rattle.std.proofs.Common.{ℕ, zero, suc, ◌≡◌, ◌<◌, ◌&&◌, Bool, true, List, [], ◌∷◌, ◌++◌, Option, refl, sym, ap, ◌∙◌, reverse, arith}
 use mathlib.Core.List.{reverse_aux, reverse_aux-eq}
 use Rattle.std.proofs.lemmas.List.{reverse-reverse}
 use Rattle.mk_name.specs.Names.{Name}
-use Rattle.mk_jobs.specs.Jobs.{Jobs, IsValid, IsRaceFree, Before, node_count, has_recipe}
+use Rattle.mk_jobs.specs.Jobs.{Jobs, IsValid, IsRaceFree, Before, has_recipe}
 use Rattle.mk_jobs.proofs.JobsLemmas.{before_less}
 use Rattle.mk_sched.specs.Stores.{Bytes, Store}
-use Rattle.mk_sched.specs.Events.{Act, Skip, Start, Look, Put, Erase, Finish, Event, Entry, Looked, Wrote, entries, is_started, phase, acts_of, history}
-use Rattle.mk_sched.specs.Runs.{AlikeSteps, Agree, IsRun, IsComplete, RecipesAgree}
+use Rattle.mk_sched.specs.Events.{Act, Skip, Start, Look, Put, Erase, Finish, Event, Entry, Looked, Wrote, Ran, entries, is_passed, is_started, phase, acts_of, history}
+use Rattle.mk_sched.specs.Runs.{AlikeSteps, Agree, IsRun, IsComplete}
 use Rattle.mk_sched.specs.Laws.{SameOutcome, Headline}
-use Rattle.mk_sched.proofs.Basics.{split, is_begun, passed_begun}
-use Rattle.mk_sched.proofs.OneRun.{chain_passed, decided, moment, unstarted_empty}
+use Rattle.mk_sched.proofs.Basics.{split, is_begun, passed_begun, ran_if}
+use Rattle.mk_sched.proofs.OneRun.{chain_passed, decided, moment, ready, unstarted_empty}
+use Rattle.mk_sched.proofs.Moving.{in_jobs}
 use Rattle.mk_sched.proofs.TwoRuns.{same_files, look_alike, stale_alike}
 
 -- a look in a history is an act
@@ -53,7 +54,7 @@ module _ (jobs : Jobs) (opening : Store) (tie : Bool) (limit other : ℕ) (valid
       ∙ sym mb.may.reports)
 
   -- the next steps after equal histories are equal, if they are alike
-  step_alike : (n : ℕ) (e f : Entry) (older xs ys : List Entry) → ((m : ℕ) → Before jobs m n → history a m ≡ history b m)
+  pub step_alike : (n : ℕ) (e f : Entry) (older xs ys : List Entry) → ((m : ℕ) → Before jobs m n → history a m ≡ history b m)
       → history a n ≡ reverse_aux xs (e ∷ older) → history b n ≡ reverse_aux ys (f ∷ older) → AlikeSteps e f → e ≡ f
   step_alike n (Looked x s) (Looked y t) older xs ys known is_a is_b alike =
       let there = is_b ∙ ap (λ z. reverse_aux ys (Looked z t ∷ older)) (sym alike) in
@@ -79,40 +80,48 @@ module _ (jobs : Jobs) (opening : Store) (tie : Bool) (limit other : ℕ) (valid
       let same = go_on n [] (reverse (history a n)) (reverse (history b n)) known (sym (reverse-reverse (history a n))) (sym (reverse-reverse (history b n))) agree in
       sym (reverse-reverse (history a n)) ∙ (ap reverse same ∙ reverse-reverse (history b n))
 
-  module _ (complete_a : IsComplete jobs a) (complete_b : IsComplete jobs b) (agree : RecipesAgree a b) where
-    -- n starts in both runs or in neither, if the smaller nodes did the same
-    start_alike : (n : ℕ) → n < node_count jobs → ((m : ℕ) → m < n → history a m ≡ history b m) → is_started (phase a n) ≡ is_started (phase b n)
-    start_alike n inside known =
+  module _ (complete_a : IsComplete jobs a) (agree : (n : ℕ) → is_started (phase a n) ≡ true → phase b n ≡ Ran → Agree (reverse (history a n)) (reverse (history b n))) where
+    -- who waits no more in b starts in both runs or in neither, if the smaller nodes that have passed in b did the same
+    start_alike : (n : ℕ) → is_begun (phase b n) ≡ true → ((m : ℕ) → m < n → is_passed (phase b m) ≡ true → history a m ≡ history b m) → is_started (phase a n) ≡ is_started (phase b n)
+    start_alike n begun known =
+        let inside = in_jobs jobs tie other opening b n run_b begun in
         let da = decided jobs tie limit opening a n run_a (passed_begun (phase a n) (complete_a n inside)) in
-        let db = decided jobs tie other opening b n run_b (passed_begun (phase b n) (complete_b n inside)) in
+        let db = decided jobs tie other opening b n run_b begun in
         da.chosen
         ∙ (ap (λ stale. has_recipe jobs n && stale)
         (stale_alike jobs opening tie limit other da.earlier db.earlier n valid da.run db.run inside (ap is_started da.ready.waits) (ap is_started db.ready.waits)
-        (λ p step. sym (ap entries (da.final p (da.ready.prerequisites p step))) ∙ (known p (valid.smaller n p step) ∙ ap entries (db.final p (db.ready.prerequisites p step)))))
+        (λ p step. sym (ap entries (da.final p (da.ready.prerequisites p step)))
+        ∙ (known p (valid.smaller n p step) (ready jobs tie other opening b n p run_b step begun) ∙ ap entries (db.final p (db.ready.prerequisites p step)))))
         ∙ sym db.chosen)
 
-    -- n did the same in both runs, if the smaller nodes did
-    alike_next : (n : ℕ) → n < node_count jobs → ((m : ℕ) → m < n → history a m ≡ history b m) → history a n ≡ history b n
-    alike_next n inside known =
-        let start = start_alike n inside known in
+    -- who has passed in b did the same in both runs, if the smaller nodes did
+    alike_next : (n : ℕ) → is_passed (phase b n) ≡ true → ((m : ℕ) → m < n → is_passed (phase b m) ≡ true → history a m ≡ history b m) → history a n ≡ history b n
+    alike_next n passed known =
+        let begun = passed_begun (phase b n) passed in
+        let start = start_alike n begun known in
         split (is_started (phase a n))
-        (λ started. history_alike n (λ m before. known m (before_less valid before)) (agree n started (sym start ∙ started)))
+        (λ started. history_alike n
+        (λ m before. known m (before_less valid before) (chain_passed jobs tie other opening b m n run_b before begun))
+        (agree n started (ran_if (phase b n) (sym start ∙ started) passed)))
         (λ idle. unstarted_empty jobs tie limit opening a n run_a idle ∙ sym (unstarted_empty jobs tie other opening b n run_b (sym start ∙ idle)))
 
-    all_below : (bound n : ℕ) → n < bound → n < node_count jobs → history a n ≡ history b n
-    all_below zero n below inside = absurd (omega arith)
-    all_below (suc bound) n below inside = alike_next n inside (λ m smaller. all_below bound m (omega arith) (omega arith))
+    all_below : (bound n : ℕ) → n < bound → is_passed (phase b n) ≡ true → history a n ≡ history b n
+    all_below zero n below passed = absurd (omega arith)
+    all_below (suc bound) n below passed = alike_next n passed (λ m smaller. all_below bound m (omega arith))
 
-    all_alike : (n : ℕ) → n < node_count jobs → history a n ≡ history b n
-    all_alike n inside = all_below (node_count jobs) n inside inside
+    pub passed_alike : (n : ℕ) → is_passed (phase b n) ≡ true → history a n ≡ history b n
+    passed_alike n passed = all_below (suc n) n (omega arith) passed
 
-    pub same_outcome : SameOutcome jobs opening a b
-    same_outcome = record {
-      starts = λ n inside. start_alike n inside (λ m smaller. all_alike m (omega arith));
-      histories = all_alike;
-      files = λ x. same_files jobs opening tie tie limit other a b x valid free run_a run_b all_alike;
+    pub starts_alike : (n : ℕ) → is_begun (phase b n) ≡ true → is_started (phase a n) ≡ is_started (phase b n)
+    starts_alike n begun = start_alike n begun (λ m smaller. passed_alike m)
+
+    pub same_outcome : IsComplete jobs b → SameOutcome jobs opening a b
+    same_outcome complete_b = record {
+      starts = λ n inside. starts_alike n (passed_begun (phase b n) (complete_b n inside));
+      histories = λ n inside. passed_alike n (complete_b n inside);
+      files = λ x. same_files jobs opening tie tie limit other a b x valid free run_a run_b (λ n inside. passed_alike n (complete_b n inside));
     }
 
 pub headline : Headline
 headline jobs valid free opening tie limit other a b agrees run_a run_b complete_a complete_b agree =
-    same_outcome jobs opening tie limit other valid free a b run_a run_b complete_a complete_b agree
+    same_outcome jobs opening tie limit other valid free a b run_a run_b complete_a (λ n started ran. agree n started (ap is_started ran)) complete_b

@@ -9,10 +9,13 @@ pub mod Listing
 pub mod Moving
 pub mod NamedRuns
 pub mod OneRun
+pub mod OneRunCases
 pub mod Plainly
 pub mod Refusing
 pub mod Replaying
+pub mod Retiming
 pub mod SerialList
+pub mod Staying
 pub mod Storing
 pub mod Surely
 pub mod Turns

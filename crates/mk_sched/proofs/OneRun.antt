@@ -121,7 +121,7 @@ module _ (jobs : Jobs) (tie : Bool) (limit : ℕ) (opening : Store) where
       may.newer (name_of jobs m) file (own_file past m valid run.0 inside (unstarted_before e past m run idle) ∙ opens)
 
   -- nobody else writes n's name
-  own_untouched : (e : Event) (past : List Event) (n : ℕ) → IsValid jobs → IsRun jobs tie limit opening (e ∷ past) → n < node_count jobs → (e.node == n) ≡ false → touch (name_of jobs n) e.act ≡ None
+  pub own_untouched : (e : Event) (past : List Event) (n : ℕ) → IsValid jobs → IsRun jobs tie limit opening (e ∷ past) → n < node_count jobs → (e.node == n) ≡ false → touch (name_of jobs n) e.act ≡ None
   own_untouched e past n valid run inside other = split_option (touch (name_of jobs n) e.act) (λ none. none)
       (λ c some. absurd (false≢true (sym other ∙ eq-eqb _ _ (valid.own e.node n inside (toucher past e.node e.act (name_of jobs n) c run.1 some).1))))
 

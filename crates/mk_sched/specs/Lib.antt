@@ -6,12 +6,14 @@ pub mod HeaderNamedRuns
 pub mod InTime
 pub mod Laws
 pub mod MissingHeader
+pub mod OneRunCases
 pub mod Plain
 pub mod Programs
 pub mod Refusals
 pub mod Refused
 pub mod Replayed
 pub mod Runs
+pub mod Schedules
 pub mod Serial
 pub mod Serialising
 pub mod Shown

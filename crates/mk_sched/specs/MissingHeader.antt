@@ -46,25 +46,25 @@ gathered name prerequisites = record { name = name; prerequisites = prerequisite
 abbrev pub file : Name → Path
 file x = record { name = x; tree = false }
 
--- `gen.h` is made of `gen.sh`, and `a.o` of these prerequisites; the recipe of `a.o` reads `a.c` and `gen.h`
-abbrev pub header_jobs : List ℕ → Jobs
-header_jobs prerequisites = record {
+-- `gen.h` is made of `gen.sh`, and `a.o` of these prerequisites; the recipe of `a.o` reads these paths
+abbrev pub header_jobs : List ℕ → List Path → Jobs
+header_jobs prerequisites reads = record {
   plan = record {
     nodes = source gen_sh ∷ made gen_h (0 ∷ []) ∷ source a_c ∷ made a_o prerequisites ∷ gathered all (1 ∷ 3 ∷ []) ∷ [];
     wait_uses = 0;
   };
   root = codes "/";
-  reads = [] ∷ (file gen_sh ∷ []) ∷ [] ∷ (file a_c ∷ file gen_h ∷ []) ∷ [] ∷ [];
+  reads = [] ∷ (file gen_sh ∷ []) ∷ [] ∷ reads ∷ [] ∷ [];
   writes = [] ∷ (file gen_h ∷ []) ∷ [] ∷ (file a_o ∷ []) ∷ [] ∷ [];
 }
 
--- the makefile forgets that `a.o` needs `gen.h`
+-- the recipe of `a.o` reads `a.c` and `gen.h`, and the makefile forgets that `a.o` needs `gen.h`
 abbrev pub missing_header : Jobs
-missing_header = header_jobs (2 ∷ [])
+missing_header = header_jobs (2 ∷ []) (file a_c ∷ file gen_h ∷ [])
 
 -- the makefile says it
 abbrev pub header_named : Jobs
-header_named = header_jobs (2 ∷ 1 ∷ [])
+header_named = header_jobs (2 ∷ 1 ∷ []) (file a_c ∷ file gen_h ∷ [])
 
 -- the opening: `gen.sh` and `a.c`, both of the time 1
 abbrev pub two_sources : Store

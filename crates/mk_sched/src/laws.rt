@@ -1,6 +1,7 @@
 //! Laws of runs. Each function's contract is a law, and its body is empty.
 ghost use Rattle.mk_sched.specs.Laws.{OwnFile, StaleAlike, LookAlike, Headline};
 ghost use Rattle.mk_sched.specs.Serial.{Serialised, EqualsSerialRun, KeepsActs, PutsInTurn};
+ghost use Rattle.mk_sched.specs.Schedules.{RunIsSchedule, OthersStay, DeterminateFromOneRun};
 ghost use Rattle.mk_sched.specs.Sure.{SurelyStale};
 ghost use Rattle.mk_sched.specs.Plain.{AgreeMeans, IdleIsFresh, IdleNeverStarts, ListingAgrees};
 ghost use Rattle.mk_sched.specs.Programs.{ProgramsAgree};
@@ -28,6 +29,21 @@ pub fn look_alike()
 /// Valid jobs that are race-free are determinate.
 pub fn headline()
     ensures { Headline }
+{}
+
+/// A run is a schedule that stays within the footprints.
+pub fn run_is_schedule()
+    ensures { RunIsSchedule }
+{}
+
+/// Where one complete run is known, each schedule whose recipes agree with it stays within the footprints.
+pub fn others_stay()
+    ensures { OthersStay }
+{}
+
+/// Valid jobs that are race-free are determinate from one run.
+pub fn determinate_from_one_run()
+    ensures { DeterminateFromOneRun }
 {}
 
 /// The serial list of a complete run is a complete serial run with the same outcome.
