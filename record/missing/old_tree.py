@@ -233,7 +233,7 @@ class OldTree:
         self.needs = {at: [one for one in needs if one not in named] for at, needs in self.needs.items()}
 
     def sort(self) -> None:
-        """Brings the tasks in an order in which each file is made before it is needed."""
+        """Brings the tasks in an order in which each file is made before it is needed: a later build waits for who makes what it needs."""
         makers = {path: at for at, path in self.makes.items()}
         edges = [task.after | {makers[one] for one in self.needs.get(at, ()) if one in makers} for at, task in enumerate(self.tasks)]
         keys = [(at, 0) if at < len(self.build.tasks) else (max(task.after), 1) for at, task in enumerate(self.tasks)]
@@ -242,7 +242,7 @@ class OldTree:
             self.premises.add("later-ring", "make %s" % self.build.words, dropped)
         place = {old: new for new, old in enumerate(order)}
         for at, task in enumerate(self.tasks):
-            task.after = {place[one] for one in task.after if place[one] < place[at]}
+            task.after = {place[one] for one in edges[at] if place[one] < place[at]}
         self.needs = {place[at]: [one for one in needs if one not in makers or place[makers[one]] < place[at]] for at, needs in self.needs.items()}
         self.makes = {place[at]: path for at, path in self.makes.items()}
         self.owners = {place[at]: label for at, label in self.owners.items()}
