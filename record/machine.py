@@ -110,7 +110,7 @@ def answering(answers: Optional[Answers]) -> Iterator[None]:
 isfile, isdir, islink = asked(os.path.isfile), asked(os.path.isdir), asked(os.path.islink)
 exists, lexists, realpath = asked(os.path.exists), asked(os.path.lexists), asked(os.path.realpath)
 stat, lstat, readlink, listdir = asked(os.stat), asked(os.lstat), asked(os.readlink), asked(os.listdir)
-geteuid, time = asked(os.geteuid), asked(clock.time)
+time = asked(clock.time)
 
 
 @asked
@@ -141,6 +141,12 @@ def variable(name: str) -> Optional[str]:
 def variables() -> List[str]:
     """The names of those that are there."""
     return sorted(os.environ)
+
+
+@asked
+def geteuid() -> int:
+    """Whose rights it has."""
+    return os.geteuid()
 
 
 @asked

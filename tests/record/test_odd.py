@@ -103,7 +103,7 @@ class Spellings(unittest.TestCase):
             folder = os.path.join(os.path.realpath(room), "Ab")
             os.mkdir(folder)
             self.assertEqual((False, False), (folds(room, ["Ab"]), has_two_names(folder)))
-            with mock.patch("os.path.lexists", return_value=True), mock.patch("os.path.samefile", return_value=True):
+            with mock.patch("record.machine.lexists", return_value=True), mock.patch("os.path.samefile", return_value=True):
                 self.assertEqual((True, False, False, True), (folds(room, ["1", "Ab"]), folds(room, ["Ab", "aB"]), folds(room, ["1", "\u00e9"]), has_two_names(folder)))
                 os.symlink("Ab", folder[:-2] + "aB")
                 self.assertFalse(has_two_names(folder))

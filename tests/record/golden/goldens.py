@@ -1,9 +1,11 @@
-"""Golden traces: what the recorder kept of a build of a Debian package, and the record that came of it, each in an archive. `run` compares, `make` makes."""
+"""Golden traces: what the recorder kept of a build of a Debian package, and the tasks and the verdict that came of it, each in an archive. `run` compares,
+`make` makes."""
 
 import difflib
 import filecmp
 import lzma
 import os
+import shutil
 import sys
 import tarfile
 from pathlib import Path
@@ -11,7 +13,7 @@ from typing import List
 
 HERE = Path(__file__).resolve().parent
 TOP = HERE.parent.parent.parent
-FACTS, RECORD = ".facts.tar.xz", ".record.tar.xz"  # the ends of the names of archives
+FACTS, TASKS = ".facts.tar.xz", ".tasks.tar.xz"  # the ends of the names of archives
 SHOWN = 30  # so many lines of a difference
 SIGNS = 240  # so much of such a line, where it differs
 
@@ -19,8 +21,8 @@ sys.path.insert(0, str(TOP))
 
 from record.import_again import import_again  # noqa: E402
 from record.folder import rewrite  # noqa: E402
-from record.main import judge_record  # noqa: E402
-from record.report import read_json, report  # noqa: E402
+from record.judge import ask  # noqa: E402
+from record.report import read_json  # noqa: E402
 
 
 def pack(folder: Path, archive: Path) -> None:
@@ -41,13 +43,18 @@ def unpack(archive: Path, folder: Path) -> Path:
     return folder
 
 
-def record_of(facts: Path, out: Path, race: str) -> Path:
-    """Makes a record of what was kept, with its verdict beside it, as a person reads it."""
+def golden_of(facts: Path, out: Path, race: str) -> Path:
+    """Makes a record of what was kept, and beside it a folder with the tasks of each build, and what is said of them all."""
     rewrite(out, import_again(facts, out))
-    status, judged = judge_record(out, race)
-    lines = report(read_json(out / "record.json"), judged, Path(".race"))
-    (out / "verdict").write_text("\n".join([*lines, "status %d" % status, ""]).replace("%s/" % TOP, ""), encoding="utf-8")
-    return out
+    golden, record = out.with_name("golden"), read_json(out / "record.json")
+    golden.mkdir()
+    lines = ["hole " + hole for hole in record["holes"]] + ["was there " + name for name in record["warm"]["names"]]
+    lines += ["assumed %s %d %s" % (one["kind"], one["count"], one["example"]) for one in record["assumptions"]]
+    for number in record["builds"]:
+        tasks = Path(shutil.copy(out / "builds" / number / "tasks", golden / (number + ".tasks")))
+        lines += ["build " + number, *ask(race, "list", tasks, read_json(out / "builds" / number / "build.json")["folder"]).stdout.split("\n")[:-1]]
+    (golden / "verdict").write_text("".join(line + "\n" for line in lines), encoding="utf-8")
+    return golden
 
 
 def files_of(folder: Path) -> List[str]:
@@ -56,7 +63,7 @@ def files_of(folder: Path) -> List[str]:
 
 
 def differences(expected: Path, found: Path) -> List[str]:
-    """What differs between two records, byte for byte: each file, with lines of the difference."""
+    """What differs between two folders, byte for byte: each file, with lines of the difference."""
     lines = []
     for name in sorted({*files_of(expected), *files_of(found)}):
         pair = [expected / name, found / name]

@@ -54,7 +54,6 @@ PACKAGES = {package.name: package for package in (
     Package("tinyxml2", "CMake, ninja", "cmake --build build", NINJA, "cmake ninja-build g++"),
     Package("cmark", "CMake, ninja", "ninja -C build", NINJA, "cmake ninja-build"),
     Package("libuv1", "CMake, ninja", "ninja -C build", NINJA + " -DLIBUV_BUILD_TESTS=OFF", "cmake ninja-build"),
-    Package("libinih", "Meson", "meson compile -C build", MESON, "meson g++"),
     Package("fribidi", "Meson, generated code", "ninja -C build", MESON + " -Ddocs=false", "meson"),
     Package("iputils", "Meson", "ninja -C build", MESON + " -DUSE_CAP=false -DUSE_IDN=false -DBUILD_MANS=false -DBUILD_HTML_MANS=false", "meson"),
     Package("wayland", "Meson, generated code", "ninja -C build", MESON + " -Ddocumentation=false -Dtests=false", "meson libffi-dev libexpat1-dev libxml2-dev"),
