@@ -3,20 +3,21 @@
 import argparse
 import json
 from pathlib import Path
-from typing import Any, Dict
+from typing import Any, Dict, Optional, Tuple
 
 from record import machine
 from record.facts import Facts, begun, first_tree
 from record.folder import Record
-from record.importing import complete
+from record.importing import Imported, complete, imported
 
 
-def import_again(folder: Path, out: Path) -> Record:
-    """Makes the record of a build again, of what was kept of it; the machine is not asked. Not what of `--missing` and `--footprints` was in it."""
+def import_again(folder: Path, out: Optional[Path] = None) -> Tuple[Record, Imported]:
+    """Imports a build again, of what was kept of it; the machine is not asked. The record is written to `out`, if there is one, without what
+    `--missing` and `--footprints` add: only then the places of lines are looked for, and what else a report shows."""
     about: Dict[str, Any] = json.loads((folder / "facts.json").read_text(encoding="utf-8"))
     with machine.answering(machine.Answers.written(folder / "before")):
         names, kept = first_tree(about["tops"], about["linked"])
     record = begun(about["words"], about["folder"], about["status"], about["seconds"], about["tools"])
+    facts, options = Facts(folder, about["place"], about["real"], names, kept), argparse.Namespace(warm=about["warm"], footprints=False, missing=False)
     with machine.answering(machine.Answers.written(folder / "after")):
-        complete(record, Facts(folder, about["place"], about["real"], names, kept), out, argparse.Namespace(warm=about["warm"], footprints=False, missing=False))
-    return record
+        return record, complete(record, facts, out, options) if out else imported(record, facts, options.warm)

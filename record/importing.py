@@ -205,13 +205,19 @@ def finish(record: Record, found: Imported, names: Names, warm: bool) -> None:
         record.notes += ["ninja -t missingdeps, of earlier builds: %s reads %s, and waits for nobody who makes it" % (m.user, m.path) for m in beyond if record.warm]
 
 
-def complete(record: Record, facts: Facts, out: Path, options: argparse.Namespace) -> Imported:
-    """Writes the record of a build that has ended."""
+def imported(record: Record, facts: Facts, warm: bool) -> Imported:
+    """What a build that has ended comes to."""
     gc.disable()  # what is read is needed to the end: a search for garbage takes time and finds none
     found = import_record(facts, record)
     gc.enable()
-    finish(record, found, facts.names, options.warm)
+    finish(record, found, facts.names, warm)
     record.holes = list(dict.fromkeys(record.holes))
+    return found
+
+
+def complete(record: Record, facts: Facts, out: Path, options: argparse.Namespace) -> Imported:
+    """Writes the record of a build that has ended."""
+    found = imported(record, facts, options.warm)
     write_record(out, record, found.builds, found.assumed)
     for number, build in zip(record.builds, found.builds if options.footprints else ()):
         if build.tool == "make":

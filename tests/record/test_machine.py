@@ -73,7 +73,7 @@ class Again(unittest.TestCase):
             self.assertEqual(status, ran.status, ran.stdout + ran.stderr)
             facts = shutil.move(room + "/record/trace", room + "/facts")
             shutil.rmtree(project.folder)
-            rewrite(Path(room, "again"), import_again(Path(facts), Path(room, "again")))
+            rewrite(Path(room, "again"), import_again(Path(facts), Path(room, "again"))[0])
             differs = subprocess.run(["diff", "-r", room + "/record", room + "/again"], capture_output=True, text=True, check=False)
             self.assertEqual("", differs.stdout)
 

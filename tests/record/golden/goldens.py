@@ -5,7 +5,6 @@ import difflib
 import filecmp
 import lzma
 import os
-import shutil
 import sys
 import tarfile
 from pathlib import Path
@@ -19,10 +18,9 @@ SIGNS = 240  # so much of such a line, where it differs
 
 sys.path.insert(0, str(TOP))
 
+from record.build.text import labels_of, lines_of, shown  # noqa: E402
 from record.import_again import import_again  # noqa: E402
-from record.folder import rewrite  # noqa: E402
 from record.judge import ask  # noqa: E402
-from record.report import read_json  # noqa: E402
 
 
 def pack(folder: Path, archive: Path) -> None:
@@ -43,16 +41,17 @@ def unpack(archive: Path, folder: Path) -> Path:
     return folder
 
 
-def golden_of(facts: Path, out: Path, race: str) -> Path:
-    """Makes a record of what was kept, and beside it a folder with the tasks of each build, and what is said of them all."""
-    rewrite(out, import_again(facts, out))
-    golden, record = out.with_name("golden"), read_json(out / "record.json")
+def golden_of(facts: Path, golden: Path, race: str) -> Path:
+    """Imports what was kept of a build. The folder gets the tasks that come of it, and what is said of them all."""
+    record, found = import_again(facts)
     golden.mkdir()
-    lines = ["hole " + hole for hole in record["holes"]] + ["was there " + name for name in record["warm"]["names"]]
-    lines += ["assumed %s %d %s" % (one["kind"], one["count"], one["example"]) for one in record["assumptions"]]
-    for number in record["builds"]:
-        tasks = Path(shutil.copy(out / "builds" / number / "tasks", golden / (number + ".tasks")))
-        lines += ["build " + number, *ask(race, "list", tasks, read_json(out / "builds" / number / "build.json")["folder"]).stdout.split("\n")[:-1]]
+    lines = ["hole " + hole for hole in record.holes] + ["was there " + shown(name) for name in record.warm]
+    lines += ["assumed %s %d %s" % (one.kind, one.count, shown(one.example)) for one in found.assumed.all()]
+    for number, build in enumerate(found.builds, 1):
+        tasks = golden / ("%03d.tasks" % number)
+        with open(tasks, "w", encoding="utf-8", errors="backslashreplace") as file:
+            file.writelines(line + "\n" for _, line in lines_of(build.tasks, build.folder, labels_of(build.tasks)))
+        lines += ["build %03d" % number, *ask(race, "list", tasks, build.folder).stdout.split("\n")[:-1]]
     (golden / "verdict").write_text("".join(line + "\n" for line in lines), encoding="utf-8")
     return golden
 
@@ -75,7 +74,7 @@ def differences(expected: Path, found: Path) -> List[str]:
     return lines
 
 
-def shown(lines: List[str]) -> str:
+def first_lines(lines: List[str]) -> str:
     """The first lines of a difference, from where each differs from the one beside it."""
     found = []
     for before, line, behind in zip(["", *lines], lines[:SHOWN], [*lines[1:], ""]):
