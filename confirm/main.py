@@ -43,6 +43,7 @@ status: 0 not confirmed: no difference was seen, which is no yes; 1 confirmed: a
 
 
 KEPT = ("serial", "parallel")
+MOST = 10  # builds, where nobody says how many schedules are to be tried
 
 
 def parse(words: Sequence[str] | None) -> argparse.Namespace:
@@ -51,7 +52,8 @@ def parse(words: Sequence[str] | None) -> argparse.Namespace:
                                      epilog=EXAMPLE, formatter_class=argparse.RawDescriptionHelpFormatter)
     parser.add_argument("words", nargs="*", metavar="DIR, RACE", help="the folder of the record (.race); a race by its number "
                         "in race-report, or by its file and targets (all races)")
-    parser.add_argument("--runs", type=positive, default=12, metavar="N", help="try at most N schedules of a race (12)")
+    parser.add_argument("--runs", type=positive, default=0, metavar="N", help="try at most N schedules of each race; "
+                        f"without it all is over within {MOST} builds")
     parser.add_argument("--schedule", type=positive, default=0, metavar="N", help="try the schedule N alone")
     parser.add_argument("--prepare", metavar="COMMAND", help="make the copy ready by this, such as 'make clean'; without it, what the "
                         "record says that the build wrote is removed from the copy")
@@ -77,9 +79,11 @@ def positive(text: str) -> int:
 
 
 def say(text: str) -> None:
-    """Where it is, on a terminal alone."""
+    """Where it is: on a terminal one line, elsewhere a line for each build."""
     if sys.stderr.isatty():
         print(f"\r\x1b[K{text[:100]}", end="\n" if not text else "", file=sys.stderr, flush=True)
+    elif text:
+        note(text)
 
 
 def note(text: str) -> None:
@@ -139,11 +143,17 @@ def try_all(args: argparse.Namespace, report: Report, races: Sequence[Chosen], r
     with reading(args.record):
         tasks = Tasks.of(args.record, room.folder)
     is_parallel = any(it.startswith(SERIAL_FAILED) for it in read_json(args.record / "record.json").get("notes", []))
-    trial, findings = Trial(room, report.words, tasks, report.races, say, is_parallel), []
+    trial = Trial(room, report.words, tasks, report.races, say, is_parallel, 0 if args.runs else MOST)
+    findings: list[Finding] = []
     trial.begin()
     for race in races:
-        trial.unstable.clear()
-        findings.append(search(trial, race, args.runs, args.schedule))
+        runs = args.runs or trial.tries_left()
+        if runs < 1:
+            left = len(races) - len(findings)
+            show(iter([f"{counted(left, 'race')} not tried within {MOST} builds: name one (race-confirm {args.record} {race.number}), or give --runs", ""]))
+            break
+        trial.forget()
+        findings.append(search(trial, race, runs, args.schedule))
         say("")
         show(heading(findings[-1], len(report.races)))
         show(body(findings[-1], args.record, trial.unstable, args.prepare))

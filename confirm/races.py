@@ -90,10 +90,11 @@ def written(record: Path) -> Iterator[tuple[str, str]]:
 
 
 def written_outside(record: Path, folder: str) -> Iterator[str]:
-    """What the recorded build wrote outside of the project's folder."""
+    """What the recorded build wrote outside of the project's folder, and is there still: what is gone was a file of its own for a while, such
+    as `/tmp/tmp.Xy12`."""
     for inner, path in written(record):
         whole = os.path.normpath(os.path.join(inner, path))
-        if whole != folder and not whole.startswith(folder.rstrip("/") + "/"):
+        if whole != folder and not whole.startswith(folder.rstrip("/") + "/") and os.path.lexists(whole):
             yield whole
 
 

@@ -4,9 +4,10 @@ from __future__ import annotations
 
 import hashlib
 import os
+import re
 import shutil
 import subprocess
-from collections.abc import Iterator
+from collections.abc import Iterable, Iterator
 from dataclasses import dataclass
 from pathlib import Path
 from typing import Any
@@ -119,6 +120,19 @@ def held_by(tree: Path) -> dict[str, str]:
 def differing(one: dict[str, str], other: dict[str, str]) -> set[str]:
     """The names that two trees do not hold in the same way."""
     return {it for it in {*one, *other} if one.get(it) != other.get(it)}
+
+
+def passing(ones: Iterable[str], others: Iterable[str]) -> list[re.Pattern[str]]:
+    """Names that differ from run to run: of what two builds have alone those that are alike but for some signs of one part, such as
+    `out/tmp.Xy12`."""
+    found = set()
+    for one, other in ((one, other) for one in ones for other in others if len(one) == len(other)):
+        begin = len(os.path.commonprefix([one, other]))
+        end = min(len(os.path.commonprefix([one[::-1], other[::-1]])), len(one) - begin)
+        middle = one[begin:len(one) - end] + other[begin:len(other) - end]
+        if "/" not in middle:
+            found.add(re.escape(one[:begin]) + "[^/]+" + re.escape(one[len(one) - end:]))
+    return [re.compile(it) for it in sorted(found)]
 
 
 @dataclass(frozen=True)

@@ -14,7 +14,7 @@ from confirm.races import CannotConfirm, Chosen
 from confirm.reach import Tasks
 from confirm.room import Room
 from confirm.schedules import Schedule
-from confirm.tree import Difference, copy, difference, differing, held_by, remove
+from confirm.tree import Difference, copy, difference, differing, held_by, passing, remove
 from report.model import Race
 
 # Serial builds begin so far apart that a time of day in a file shows.
@@ -50,20 +50,33 @@ class Trial:
     races: Sequence[Race]
     say: Callable[[str], None]
     is_parallel: bool = False  # whether the record is of several jobs at once, since the serial build failed
+    most: int = 0  # builds; 0 where nobody counts them
     limit: float = 0.0
     serial: Left | None = None
     unstable: set[str] = field(default_factory=set)
+    passing: list[re.Pattern[str]] = field(default_factory=list)  # names that differ from run to run
+    builds: int = 0
 
-    def left(self, race: Chosen | None = None, schedule: Schedule | None = None, serial: Built | None = None) -> Left:
+    def tries_left(self) -> int:
+        """How many schedules of one more race may be tried: it also takes a second serial build, and two builds more where something differs."""
+        return self.most - self.builds - 3
+
+    def forget(self) -> None:
+        """Forgets what differs between serial builds, before another race."""
+        self.unstable.clear()
+        self.passing.clear()
+
+    def left(self, what: str, race: Chosen | None = None, schedule: Schedule | None = None, serial: Built | None = None) -> Left:
         """One build, and what it left."""
+        self.builds += 1
+        self.say(f"build {self.builds}{f' of at most {self.most}' if self.most else ''}: {what}")
         words = self.room.words(self.words, schedule is not None)
         built = build(self.room, words, self.limit or LONGEST, race, schedule, serial)
         return Left(built, held_by(self.room.tree))
 
     def begin(self) -> None:
         """The serial build: what the others are compared with."""
-        self.say("serial build")
-        self.serial = self.left()
+        self.serial = self.left("serial")
         if self.serial.status != 0:
             raise failed("the serial build of the copy", self.serial.built, BY_RACE if self.is_parallel else "")
         remove(self.room.top / "serial")
@@ -77,11 +90,11 @@ class Trial:
         if name in self.room.taken - self.serial.files.keys():
             raise CannotConfirm(f"the build changes {name}, and does not make it: what it was before nobody has kept. {SOURCES}")
         time.sleep(max(0.0, APART - self.serial.built.seconds))
-        self.say("second serial build")
-        again = self.left(race, None, self.serial.built)
+        again = self.left("serial once more", race, None, self.serial.built)
         if again.status != 0:
             raise failed("a second serial build of the copy", again.built)
         self.unstable |= differing(self.serial.files, again.files)
+        self.passing += passing(self.serial.files.keys() - again.files.keys(), again.files.keys() - self.serial.files.keys())
         missing = [it.target for it in race.sides if it.is_recipe and not again.built.points.of(it.side)]
         if missing or not again.built.points.all:
             whose = " and ".join(missing) or race.race.first.recipe.target
@@ -95,12 +108,13 @@ class Trial:
         assert self.serial
         if left.status is None:
             return set()
-        return differing(self.serial.files, left.files) - self.unstable | ({STATUS} if left.status != self.serial.status else set())
+        found = differing(self.serial.files, left.files) - self.unstable
+        found = {it for it in found if not any(one.fullmatch(it) for one in self.passing)}
+        return found | ({STATUS} if left.status != self.serial.status else set())
 
     def held(self, race: Chosen, schedule: Schedule, serial: Built) -> tuple[Left, set[str]]:
         """A build with a schedule, and what differs in it."""
-        self.say(schedule.text(race))
-        left = self.left(race, schedule, serial)
+        left = self.left(schedule.text(race), race, schedule, serial)
         found = self.differs(left)
         left.how = {it: difference(it, self.room.top / "serial", self.room.tree) for it in sorted(found - {STATUS})}
         return left, found

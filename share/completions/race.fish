@@ -102,7 +102,7 @@ complete -c race -n '__fish_seen_subcommand_from missing' -l tasks -r -F -d 'Wha
 complete -c race -n '__fish_seen_subcommand_from missing' -s h -l help -d 'Print help'
 
 complete -c race-confirm -s h -l help -d 'show this help message and exit'
-complete -c race-confirm -l runs -x -d 'try at most N schedules of a race (12)'
+complete -c race-confirm -l runs -x -d 'try at most N schedules of each race; without it all is over within 10 builds'
 complete -c race-confirm -l schedule -x -d 'try the schedule N alone'
 complete -c race-confirm -l prepare -x -d 'make the copy ready by this, such as \'make clean\'; without it, what the record says that the build wrote is removed from the copy'
 complete -c race-confirm -l keep -x -a '(__fish_complete_directories)' -d 'keep what the serial and the last parallel build left'

@@ -13,7 +13,8 @@ from pathlib import Path
 from confirm.failed import STATUS, Failed, failed
 from confirm.reach import Blame, Reach, Tasks
 from confirm.room import can_enter
-from report.kinds import LOG
+from record.fixes import Remedy
+from record.kinds import LOG
 from report.model import Race, Recipe, Side
 
 HARMLESS = "a: ; echo same > shared; %s\nb: ; echo same > shared; touch b\n"
@@ -138,8 +139,8 @@ class ReachTests(unittest.TestCase):
 
     def race(self, first: str, second: str, build: str = "001", is_look: bool = False) -> Race:
         """A race of two tasks of a build."""
-        one, other = (Recipe(it, it.partition("@")[0], "", 0, "", is_look and it == second) for it in (first, second))
-        return Race(build, "f", "", Side(one, "writes"), Side(other, "reads"), LOG)
+        one, other = (Recipe(it, it.partition("@")[0], "", "", 0, "", is_look and it == second) for it in (first, second))
+        return Race(build, "f", "f", "f", "f", "", Side(one, "writes"), Side(other, "reads"), None, LOG, Remedy(), (), "/p", ("", "", ""), True, True)
 
     def blame(self, race: Race, found: str, output: str = "", there: str = "", races: tuple[Race, ...] = ()) -> Blame:
         """Whose matter some names are."""

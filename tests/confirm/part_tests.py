@@ -9,7 +9,7 @@ from pathlib import Path
 
 from confirm.races import CannotConfirm, Held
 from confirm.schedules import Points, inner
-from confirm.tree import Difference, difference
+from confirm.tree import Difference, difference, passing
 
 
 class Parts(unittest.TestCase):
@@ -29,6 +29,11 @@ class Parts(unittest.TestCase):
         self.assertEqual("a\\ b\\:\\%$$c", Held("first", "a b:%$c", "/", True).in_makefile())
         with self.assertRaises(CannotConfirm):
             Held("first", "a=b", "/", True).in_makefile()
+
+    def test_names_that_differ_from_run_to_run(self) -> None:
+        found = passing({"out/tmp.abcd", "d1x/y", "a"}, {"out/tmp.acde", "d2x/y", "bc"})
+        self.assertEqual(["d[^/]+x/y", "out/tmp\\.a[^/]+"], [it.pattern for it in found])
+        self.assertEqual([], passing({"a/b"}, {"cxd"}))
 
     def test_differences(self) -> None:
         with tempfile.TemporaryDirectory() as room:
