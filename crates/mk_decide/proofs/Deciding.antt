@@ -7,7 +7,9 @@ use Rattle.mk_jobs.specs.Shape.{IsWellFormed}
 use Rattle.mk_jobs.proofs.JobsLemmas.{shape_valid}
 use Rattle.mk_jobs.proofs.Reaching.{turned_clash}
 use Rattle.mk_sched.specs.Laws.{IsDeterminate}
+use Rattle.mk_sched.specs.Schedules.{IsDeterminateFromOneRun}
 use Rattle.mk_sched.proofs.Determinate.{headline}
+use Rattle.mk_sched.proofs.Staying.{from_one_run}
 use Rattle.mk_cert.specs.Sure.{IsSure}
 use Rattle.mk_cert.specs.Traces.{TraceHolds}
 use Rattle.mk_cert.proofs.Overlapping.{of_race}
@@ -29,6 +31,11 @@ ordered_free jobs pairs are ordered a b clash = elim (cases_order a b) [
 pub safe_determinate : (jobs : Jobs) (verdict : Verdict) → IsWellFormed jobs → IsVerdict jobs verdict → IsSafe verdict → IsDeterminate jobs
 safe_determinate jobs (Safe chains) shape is safe = headline jobs (shape_valid shape) is.race_free
 safe_determinate jobs (Race trace) shape is safe = absurd safe
+
+-- and one run of them is enough
+pub safe_from_one_run : (jobs : Jobs) (verdict : Verdict) → IsWellFormed jobs → IsVerdict jobs verdict → IsSafe verdict → IsDeterminateFromOneRun jobs
+safe_from_one_run jobs (Safe chains) shape is safe = from_one_run jobs (shape_valid shape) is.race_free
+safe_from_one_run jobs (Race trace) shape is safe = absurd safe
 
 -- the trace of a race is sure, so it holds
 pub race_sure : (jobs : Jobs) (verdict : Verdict) → IsWellFormed jobs → IsVerdict jobs verdict → IfRace verdict (IsSure jobs)

@@ -3,6 +3,7 @@ ghost use Rattle.std.specs.Prelude.{ℕ, ◌≡◌, ◌≤◌, Err, IfErr, IfOk,
 ghost use Rattle.mk_name.specs.Gives.{HaltsAmong};
 ghost use Rattle.mk_jobs.specs.Shape.{IsWellFormed};
 ghost use Rattle.mk_sched.specs.Laws.{IsDeterminate};
+ghost use Rattle.mk_sched.specs.Schedules.{IsDeterminateFromOneRun};
 ghost use Rattle.mk_cert.specs.Sure.{IsSure};
 ghost use Rattle.mk_cert.specs.Traces.{TraceHolds};
 ghost use Rattle.mk_decide.specs.Decisions.{IfRace, IsSafe, IsVerdict};
@@ -39,6 +40,7 @@ pub fn decide_with<B: Before>(alloc: Global, jobs: &Jobs, before: &mut B) -> Res
     requires same { B.jobs before.old ≡ jobs.now }
     ensures answer { IfOk result (IsVerdict jobs.now) }
     ensures determinate { IfOk result (λ verdict. IsSafe verdict → IsDeterminate jobs.now) }
+    ensures from_one_run { IfOk result (λ verdict. IsSafe verdict → IsDeterminateFromOneRun jobs.now) }
     ensures holds { IfOk result (λ verdict. IfRace verdict (TraceHolds jobs.now)) }
     ensures sure { IfOk result (λ verdict. IfRace verdict (IsSure jobs.now)) }
     ensures few { IfOk result (λ verdict. HasFewPairs jobs.now) }
@@ -78,6 +80,7 @@ fn verdict_of<B: Before>(
 pub fn decide(alloc: Global, jobs: &Jobs) -> Result<Verdict, Halt>
     ensures answer { IfOk result (IsVerdict jobs.now) }
     ensures determinate { IfOk result (λ verdict. IsSafe verdict → IsDeterminate jobs.now) }
+    ensures from_one_run { IfOk result (λ verdict. IsSafe verdict → IsDeterminateFromOneRun jobs.now) }
     ensures holds { IfOk result (λ verdict. IfRace verdict (TraceHolds jobs.now)) }
     ensures sure { IfOk result (λ verdict. IfRace verdict (IsSure jobs.now)) }
     ensures few { IfOk result (λ verdict. HasFewPairs jobs.now) }

@@ -1,6 +1,6 @@
 -- What the answer that a build is safe says.
 use Rattle.std.proofs.Common.{ℕ, IfOk, List, Ok, Err, Result}
-use Rattle.mk_sched.specs.Laws.{IsDeterminate}
+use Rattle.mk_sched.specs.Schedules.{IsDeterminateFromOneRun}
 use Rattle.mk_report.specs.declared.answer.Answer.{Answer}
 use Rattle.mk_race.specs.Judged.{IsSafe, NoScheduleShows, RunsAlike}
 use Rattle.mk_race.specs.Stages.{IsPrepared, Texts}
@@ -8,19 +8,19 @@ use Rattle.mk_race.specs.declared.preparing.Prepared.{Prepared}
 use Rattle.mk_race.proofs.Listed.{store_agrees}
 use Rattle.mk_race.proofs.OneBuild.{build_is_one}
 
--- a store that agrees with the listing agrees with the jobs, so the runs of determinate jobs are alike
+-- a store that agrees with the listing agrees with the jobs, so the runs of jobs that are determinate from one run are alike
 pub runs_alike : (texts : Texts) (footprints : List ℕ) (prepared : Prepared) → IsPrepared texts footprints (Ok prepared)
-    → IsDeterminate prepared.jobs → RunsAlike prepared
-runs_alike texts footprints prepared build determinate opening tie limit other a b agrees =
-    determinate opening tie limit other a b (store_agrees texts footprints prepared opening build agrees)
+    → IsDeterminateFromOneRun prepared.jobs → RunsAlike prepared
+runs_alike texts footprints prepared build one opening tie limit other seen past agrees =
+    one opening tie limit other seen past (store_agrees texts footprints prepared opening build agrees)
 
--- where the answer on the jobs of a build makes them determinate, no schedule of the build shows
-pub headline_of : {E : Type 0} (prepared : Prepared) (result : Result Answer E) → IfOk result (λ answer. IsSafe answer → IsDeterminate prepared.jobs)
+-- where the answer on the jobs of a build makes them determinate from one run, no schedule of the build shows
+pub headline_of : {E : Type 0} (prepared : Prepared) (result : Result Answer E) → IfOk result (λ answer. IsSafe answer → IsDeterminateFromOneRun prepared.jobs)
     → IfOk result (λ answer. (texts : Texts) (footprints : List ℕ) → IsPrepared texts footprints (Ok prepared) → IsSafe answer → NoScheduleShows texts footprints)
-headline_of prepared (Ok answer) determinate = λ texts footprints build safe. record {
+headline_of prepared (Ok answer) one = λ texts footprints build safe. record {
   prepared = prepared;
   build = build;
   only = λ other is. build_is_one texts footprints prepared other build is;
-  alike = runs_alike texts footprints prepared build (determinate safe);
+  alike = runs_alike texts footprints prepared build (one safe);
 }
-headline_of prepared (Err error) determinate = tt
+headline_of prepared (Err error) one = tt

@@ -11,8 +11,9 @@ use Rattle.mk_decide.specs.Pairs.{HasManyPairs, too_many}
 use Rattle.mk_fix.specs.Added.{AreRisingToLive, IsWithEdges, with_edges}
 use Rattle.mk_fix.specs.Fixes.{IsFix}
 use Rattle.mk_fix.proofs.Adding.{clash_down, count_same, listed_same, name_same, phony_same, recipe_same}
-use Rattle.mk_fix.proofs.Fixing.{fix_determinate, to_live}
+use Rattle.mk_fix.proofs.Fixing.{fix_determinate, to_live, valid_stays}
 use Rattle.mk_sched.specs.Laws.{IsDeterminate}
+use Rattle.mk_sched.proofs.Staying.{from_one_run}
 use Rattle.mk_task.proofs.Starting.{AreTasks}
 use Rattle.mk_race.specs.Tasked.{tasked}
 use Rattle.mk_race.specs.TasksFixed.{AreFixedBy, FixHolds, HoldsOfFixed, IsFixingOf}
@@ -39,7 +40,7 @@ holds_of : (root text : List ℕ) (jobs new : Jobs) (lines : List ℕ) (chains :
     → FixHolds root text new
 holds_of root text jobs new lines chains valid given fixed =
     let are = new_tasks jobs new fixed.edges fixed.fix fixed.added (text_of_tasks root text jobs given) in
-    let determinate = subst IsDeterminate (sym fixed.added) (fix_determinate jobs fixed.edges valid fixed.fix) in
+    let still = subst IsValid (sym fixed.added) (valid_stays jobs fixed.edges valid (to_live fixed.fix)) in
     record {
       jobs = jobs;
       edges = fixed.edges;
@@ -47,9 +48,9 @@ holds_of root text jobs new lines chains valid given fixed =
       fix = fixed.fix;
       added = fixed.added;
       free = fixed.safe.race_free;
-      determinate = determinate;
+      determinate = subst IsDeterminate (sym fixed.added) (fix_determinate jobs fixed.edges valid fixed.fix);
       start = each_starts new are;
-      alike = runs_alike new are determinate;
+      alike = runs_alike new are (from_one_run new still fixed.safe.race_free);
     }
 
 fixing_holds : (root text : List ℕ) (jobs : Jobs) (fixing : TaskFixing) → IsValid jobs → tasked root text ≡ Ok jobs → IsFixingOf jobs (Ok fixing) → HoldsOfFixed root text fixing

@@ -6,7 +6,7 @@ use Rattle.mk_name.specs.Reported.{Reported}
 use Rattle.mk_name.specs.declared.fault.Halt.{Halt}
 use Rattle.mk_jobs.specs.Jobs.{Jobs}
 use Rattle.mk_report.specs.declared.answer.Answer.{Answer}
-use Rattle.mk_sched.specs.Laws.{IsDeterminate}
+use Rattle.mk_sched.specs.Schedules.{IsDeterminateFromOneRun}
 use Rattle.mk_text.specs.Spelling.{root_of}
 use Rattle.mk_task.specs.JobsOf.{jobs_of, made}
 use Rattle.mk_task.specs.Tasks.{Task, tasks_of}
@@ -30,19 +30,19 @@ text_of_tasks root text jobs given = below_of text (root_of root) jobs given
 pub each_starts : (jobs : Jobs) → AreTasks jobs → EachStarts jobs
 each_starts jobs are opening tie limit past n run complete there = each_started jobs are tie limit opening past n run complete there
 
-pub runs_alike : (jobs : Jobs) → AreTasks jobs → IsDeterminate jobs → RunsAlike jobs
-runs_alike jobs are determinate opening tie limit other a b absent = determinate opening tie limit other a b (each_agrees jobs are opening absent)
+pub runs_alike : (jobs : Jobs) → AreTasks jobs → IsDeterminateFromOneRun jobs → RunsAlike jobs
+runs_alike jobs are one opening tie limit other seen past absent = one opening tie limit other seen past (each_agrees jobs are opening absent)
 
--- where the answer on the jobs of tasks makes them determinate, no schedule of the tasks shows
+-- where the answer on the jobs of tasks makes them determinate from one run, no schedule of the tasks shows
 pub headline_of : {E : Type 0} (root text : List ℕ) (jobs : Jobs) (result : Result Answer E) → tasked root text ≡ Ok jobs
-    → IfOk result (λ answer. IsSafe answer → IsDeterminate jobs) → IfOk result (λ answer. IsSafe answer → NoScheduleShows root text)
-headline_of root text jobs (Ok answer) given determinate = λ safe. record {
+    → IfOk result (λ answer. IsSafe answer → IsDeterminateFromOneRun jobs) → IfOk result (λ answer. IsSafe answer → NoScheduleShows root text)
+headline_of root text jobs (Ok answer) given one = λ safe. record {
   jobs = jobs;
   given = given;
   start = each_starts jobs (text_of_tasks root text jobs given);
-  alike = runs_alike jobs (text_of_tasks root text jobs given) (determinate safe);
+  alike = runs_alike jobs (text_of_tasks root text jobs given) (one safe);
 }
-headline_of root text jobs (Err error) given determinate = tt
+headline_of root text jobs (Err error) given one = tt
 
 shows_on : (root text proof_text : List ℕ) (jobs : Jobs) (accepted : Bool) → tasked root text ≡ Ok jobs
     → IsVerifiedOn jobs proof_text (Ok accepted) → IsTrue accepted → ProofShows root text proof_text

@@ -1,11 +1,12 @@
 -- The answer of a build, and what it says of the build's runs where it is that the build is safe.
-use Rattle.std.specs.Prelude.{ℕ, ◌≡◌, Bool, List, Result, Ok, Err}
+use Rattle.std.specs.Prelude.{ℕ, ◌≡◌, Bool, true, List, Result, Ok, Err}
 use Rattle.mk_name.specs.Names.{has, same_name}
 use Rattle.mk_name.specs.Reported.{Reported}
 use Rattle.mk_jobs.specs.Jobs.{Jobs}
 use Rattle.mk_sched.specs.Events.{Event}
 use Rattle.mk_sched.specs.Laws.{IsDeterminate, SameOutcome}
-use Rattle.mk_sched.specs.Runs.{IsComplete, IsRun, RecipesAgree}
+use Rattle.mk_sched.specs.Runs.{IsComplete, RecipesAgree}
+use Rattle.mk_sched.specs.Schedules.{IsSchedule, stays}
 use Rattle.mk_sched.specs.Stores.{AgreesWithListing, Store}
 use Rattle.mk_cert.specs.Traces.{TraceHolds}
 use Rattle.mk_decide.specs.Decisions.{IsVerdict}
@@ -50,14 +51,15 @@ HoldsOfRace (Safe jobs chains) = Unit {0}
 HoldsOfRace (Race jobs trace) = TraceHolds jobs trace
 HoldsOfRace (Refused reported) = Unit {0}
 
--- any two complete runs of the jobs whose recipes agree, from one store that has the files of the listing and no other, have
--- the same outcome
+-- from one store that has the files of the listing and no other: each complete schedule of the jobs has the outcome of a complete one
+-- that stays within the footprints, if their recipes agree
 abbrev pub RunsAlike : Prepared → Type 0
 RunsAlike prepared =
-    (opening : Store) (tie : Bool) (limit other : ℕ) (a b : List Event)
+    (opening : Store) (tie : Bool) (limit other : ℕ) (seen past : List Event)
     → AgreesWithListing (has same_name prepared.listing) opening
-    → IsRun prepared.jobs tie limit opening a → IsRun prepared.jobs tie other opening b
-    → IsComplete prepared.jobs a → IsComplete prepared.jobs b → RecipesAgree a b → SameOutcome prepared.jobs opening a b
+    → IsSchedule prepared.jobs tie limit opening seen → stays prepared.jobs seen ≡ true → IsComplete prepared.jobs seen
+    → IsSchedule prepared.jobs tie other opening past → IsComplete prepared.jobs past
+    → RecipesAgree seen past → SameOutcome prepared.jobs opening seen past
 
 -- no schedule of a build shows in its files: its texts mean jobs and a listing, and no others, and the runs of these are alike
 pub record NoScheduleShows (texts : Texts) (footprints : List ℕ) : Type 0 where

@@ -9,6 +9,7 @@ use Rattle.mk_report.specs.declared.answer.Answer.TheVariants.{Refused}
 use Rattle.mk_sched.specs.Events.{Event, is_started, phase}
 use Rattle.mk_sched.specs.Laws.{SameOutcome}
 use Rattle.mk_sched.specs.Runs.{IsComplete, IsRun, RecipesAgree}
+use Rattle.mk_sched.specs.Schedules.{IsSchedule, stays}
 use Rattle.mk_sched.specs.Stores.{Store}
 use Rattle.mk_text.specs.Spelling.{root_of}
 use Rattle.mk_task.specs.JobsOf.{jobs_in}
@@ -33,12 +34,13 @@ abbrev pub IsAnswerTo : Result Jobs Reported → Answer → Type 0
 IsAnswerTo (Ok jobs) answer = IsDecided jobs answer
 IsAnswerTo (Err reported) answer = answer ≡ Refused reported
 
--- any two complete runs of the jobs whose recipes agree, from one store that has no task's own name, have the same outcome
+-- from one store that has no task's own name: each complete schedule of the jobs has the outcome of a complete one that stays within
+-- the footprints, if their recipes agree
 abbrev pub RunsAlike : Jobs → Type 0
 RunsAlike jobs =
-    (opening : Store) (tie : Bool) (limit other : ℕ) (a b : List Event) → HasNoOwnNames opening
-    → IsRun jobs tie limit opening a → IsRun jobs tie other opening b → IsComplete jobs a → IsComplete jobs b
-    → RecipesAgree a b → SameOutcome jobs opening a b
+    (opening : Store) (tie : Bool) (limit other : ℕ) (seen past : List Event) → HasNoOwnNames opening
+    → IsSchedule jobs tie limit opening seen → stays jobs seen ≡ true → IsComplete jobs seen
+    → IsSchedule jobs tie other opening past → IsComplete jobs past → RecipesAgree seen past → SameOutcome jobs opening seen past
 
 -- each task has started in every complete run
 abbrev pub EachStarts : Jobs → Type 0

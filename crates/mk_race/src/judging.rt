@@ -3,7 +3,7 @@ ghost use Rattle.std.specs.Prelude.{ℕ, ◌≡◌, IfOk, List, Ok};
 ghost use Rattle.mk_name.specs.Reported.{Reported};
 ghost use Rattle.mk_name.specs.declared.fault.Halt.TheVariants as halts;
 ghost use Rattle.mk_report.specs.declared.answer.Answer.TheVariants as answers;
-ghost use Rattle.mk_sched.specs.Laws.{IsDeterminate};
+ghost use Rattle.mk_sched.specs.Schedules.{IsDeterminateFromOneRun};
 ghost use Rattle.mk_race.specs.Judged.{HoldsOfRace, HoldsOfSafe, IsAnswered, IsDecided, IsSafe, NoScheduleShows};
 ghost use Rattle.mk_race.specs.Parts.{ForTextsRead};
 ghost use Rattle.mk_race.specs.Stages.{IsPrepared, Texts, texts_of};
@@ -75,7 +75,7 @@ pub fn judge_prepared(alloc: Global, prepared: Prepared) -> Result<Answer, Alloc
 /// What is decided of jobs, with them. The only error is out of memory.
 pub(crate) fn decided(alloc: Global, jobs: Jobs) -> Result<Answer, AllocError>
     ensures answer { IfOk result (IsDecided jobs) }
-    ensures determinate { IfOk result (λ answer. IsSafe answer → IsDeterminate jobs) }
+    ensures from_one_run { IfOk result (λ answer. IsSafe answer → IsDeterminateFromOneRun jobs) }
     ensures safe { IfOk result HoldsOfSafe }
     ensures holds { IfOk result HoldsOfRace }
 {
