@@ -6,7 +6,6 @@ use Rattle.mk_jobs.specs.Jobs.{Jobs}
 use Rattle.mk_sched.specs.Events.{Event, store_after}
 use Rattle.mk_sched.specs.Programs.{Program}
 use Rattle.mk_sched.specs.Stores.{Store, bytes_of}
-use Rattle.mk_stale.specs.Doings.{AreGood}
 use Rattle.mk_stale.specs.Incremental.{IsBuild, IsClean, IsKept, SameSources}
 use Rattle.mk_missing.specs.Unlisted.{unlisted_names}
 use Rattle.mk_missing.specs.Violations.{AreViolations, HasNone}
@@ -39,11 +38,11 @@ pub record IsEmpty (listed : MissingList) : Type 0 where
   pub change : listed.change ≡ None
 
 -- a build of a tree that edits and builds led to from a clean one leaves at each name the bytes that a build of a clean tree with the same
--- sources leaves, where recipes are good and no edit makes or changes an unlisted file
+-- sources leaves, where no edit makes or changes an unlisted file
 abbrev pub LeavesAsClean : Jobs → List Name → Type 0
 LeavesAsClean jobs listing =
     (programs : ℕ → Program) (opening clean : Store) (a b : List Event)
-    → AreGood jobs programs → IsKept jobs programs (unlisted_names jobs listing) opening → IsClean jobs clean → SameSources jobs opening clean
+    → IsKept jobs programs (unlisted_names jobs listing) opening → IsClean jobs clean → SameSources jobs opening clean
     → IsBuild jobs programs opening a → IsBuild jobs programs clean b
     → (x : Name) → bytes_of (store_after opening a x) ≡ bytes_of (store_after clean b x)
 

@@ -1,5 +1,5 @@
 -- What a node did in a run of race-free jobs it did alone, from the contents that stood there when it started. So who started is settled.
-use Rattle.std.proofs.Common.{ℕ, ◌≡◌, ◌==◌, ◌⊎◌, inl, inr, Bool, true, false, List, [], ◌∷◌, refl, sym, ap, ◌∙◌, subst, eq-eqb, arith}
+use Rattle.std.proofs.Common.{ℕ, ◌≡◌, ◌==◌, ◌⊎◌, inl, inr, Bool, true, false, List, [], ◌∷◌, refl, sym, ap, ◌∙◌, subst, subst₂, eq-eqb, if◌then◌else◌, arith}
 use Rattle.std.proofs.lemmas.Bool.{false≢true, or_left, or_right}
 use Rattle.mk_name.specs.Names.{Name, same_name}
 use Rattle.mk_jobs.specs.Jobs.{Jobs, IsValid, IsRaceFree, Before, may_write, may_touch}
@@ -11,7 +11,7 @@ use Rattle.mk_sched.specs.Programs.{Program, FollowsPrograms}
 use Rattle.mk_sched.proofs.Basics.{split, split_option, is_begun, started_begun, same_name-true, touch, written-untouched}
 use Rattle.mk_sched.proofs.OneRun.{may_own, toucher, chain_passed, unstarted_empty}
 use Rattle.mk_stale.specs.Watching.{IsInput, IsLastWriter, IsDeclared}
-use Rattle.mk_stale.specs.Doings.{Contents, left_by, AreSteps, Does}
+use Rattle.mk_stale.specs.Doings.{Contents, contents, left_by, AreSteps, AreAfresh, found_by}
 use Rattle.mk_stale.specs.Laws.{IsSettled}
 
 -- a history of n, alone from these contents, that leaves what the store has at the names that are n's own by this reading
@@ -27,7 +27,7 @@ touches_mine jobs n x (inl input) = or_left _ _ input.reads
 touches_mine jobs n x (inr last) = or_right _ _ last.writes
 
 -- what n may not write is in the end as at the start of its history
-input_stays : (jobs : Jobs) (n : ℕ) (start : Contents) (es : List Entry) (x : Name) → AreSteps jobs n start es → may_write jobs n x ≡ false → left_by start es x ≡ start x
+pub input_stays : (jobs : Jobs) (n : ℕ) (start : Contents) (es : List Entry) (x : Name) → AreSteps jobs n start es → may_write jobs n x ≡ false → left_by start es x ≡ start x
 input_stays jobs n start [] x steps foreign = refl
 input_stays jobs n start (Looked path seen ∷ es) x steps foreign = input_stays jobs n start es x steps.0 foreign
 input_stays jobs n start (Wrote path left ∷ es) x steps foreign = split (same_name path x)
@@ -57,36 +57,47 @@ module _ (jobs : Jobs) (tie : Bool) (limit : ℕ) (opening : Store) (free : IsRa
         | inr after ↦ acts_before n past e.node run.0 runs (ap is_begun acts) after
       ])
 
-  abbrev IsAloneNow : List Event → ℕ → Contents → Type 0
-  IsAloneNow past n start = IsAlone jobs n (λ x. may_touch jobs n x ≡ true) start (history past n) (store_after opening past)
+  abbrev IsAloneNow : List Event → ℕ → Type 0
+  IsAloneNow past n = IsAlone jobs n (λ x. may_touch jobs n x ≡ true) (found_by opening past n) (history past n) (store_after opening past)
+
+  -- what n found stays, once it has started
+  found_on : (e : Event) (past : List Event) (n : ℕ) → is_started (phase past n) ≡ true → found_by opening (e ∷ past) n ≡ found_by opening past n
+  found_on e past n started = ap (λ (b : Bool). if b then found_by opening past n else contents (store_after opening past)) started
+
+  found_first : (e : Event) (past : List Event) (n : ℕ) → is_started (phase past n) ≡ false → found_by opening (e ∷ past) n ≡ contents (store_after opening past)
+  found_first e past n idle = ap (λ (b : Bool). if b then found_by opening past n else contents (store_after opening past)) idle
 
   -- one more act of n
-  own_act : (past : List Event) (n : ℕ) (a : Act) → IsRun jobs tie limit opening past → May jobs tie limit opening past n a → (phase past n ≡ Running → (start : Contents) × IsAloneNow past n start) → phase_after (a ∷ acts_of n past) ≡ Running
-      → (start : Contents) × IsAlone jobs n (λ x. may_touch jobs n x ≡ true) start (entries (a ∷ acts_of n past)) (λ x. written a x (store_after opening past x))
-  own_act past n Skip run may earlier runs = absurd (false≢true (ap is_started runs))
-  own_act past n Start run may earlier runs =
+  own_act : (past : List Event) (n : ℕ) (a : Act) (start : Contents) → IsRun jobs tie limit opening past → May jobs tie limit opening past n a
+      → (phase past n ≡ Running → IsAlone jobs n (λ x. may_touch jobs n x ≡ true) start (history past n) (store_after opening past)) → (is_started (phase past n) ≡ false → start ≡ contents (store_after opening past))
+      → phase_after (a ∷ acts_of n past) ≡ Running → IsAlone jobs n (λ x. may_touch jobs n x ≡ true) start (entries (a ∷ acts_of n past)) (λ x. written a x (store_after opening past x))
+  own_act past n Skip start run may earlier first runs = absurd (false≢true (ap is_started runs))
+  own_act past n Start start run may earlier first runs =
       let none : history past n ≡ [] = unstarted_empty jobs tie limit opening past n run (ap is_started may.ready.waits) in
-      ((λ x. bytes_of (store_after opening past x)), rw none (tt, λ x touches. refl))
-  own_act past n (Look path seen) run may earlier runs =
+      rw none (tt, λ x touches. ap (λ (found : Contents). found x) (sym (first (ap is_started may.ready.waits))))
+  own_act past n (Look path seen) start run may earlier first runs =
       let old = earlier may.runs in
-      (old.0, ((old.1.0, (may.reads, may.reports ∙ old.1.1 path (or_left _ _ may.reads))), old.1.1))
-  own_act past n (Put path bytes time) run may earlier runs =
+      ((old.0, (may.reads, may.reports ∙ old.1 path (or_left _ _ may.reads))), old.1)
+  own_act past n (Put path bytes time) start run may earlier first runs =
       let old = earlier may.runs in
-      (old.0, ((old.1.0, may.writes), λ x touches. split (same_name path x) (λ same. rw same refl) (λ other. rw other (old.1.1 x touches))))
-  own_act past n (Erase path) run may earlier runs =
+      ((old.0, may.writes), λ x touches. split (same_name path x) (λ same. rw same refl) (λ other. rw other (old.1 x touches)))
+  own_act past n (Erase path) start run may earlier first runs =
       let old = earlier may.runs in
-      (old.0, ((old.1.0, may.writes), λ x touches. split (same_name path x) (λ same. rw same refl) (λ other. rw other (old.1.1 x touches))))
-  own_act past n Finish run may earlier runs = absurd (false≢true (sym (ap is_passed runs)))
+      ((old.0, may.writes), λ x touches. split (same_name path x) (λ same. rw same refl) (λ other. rw other (old.1 x touches)))
+  own_act past n Finish start run may earlier first runs = absurd (false≢true (sym (ap is_passed runs)))
 
   -- a running node did alone what it did so far
-  alone : (past : List Event) (n : ℕ) → IsRun jobs tie limit opening past → phase past n ≡ Running → (start : Contents) × IsAloneNow past n start
+  alone : (past : List Event) (n : ℕ) → IsRun jobs tie limit opening past → phase past n ≡ Running → IsAloneNow past n
   alone [] n run runs = absurd (false≢true (ap is_started runs))
   alone (e ∷ past) n run runs = split (e.node == n)
-      (λ own. rw own (own_act past n e.act run.0 (may_own jobs tie limit opening e past n run own) (alone past n run.0) (rw own at runs)))
+      (λ own.
+      let earlier = λ (before : phase past n ≡ Running). subst (λ start. IsAlone jobs n (λ x. may_touch jobs n x ≡ true) start (history past n) (store_after opening past)) (sym (found_on e past n (ap is_started before))) (alone past n run.0 before) in
+      rw own (own_act past n e.act (found_by opening (e ∷ past) n) run.0 (may_own jobs tie limit opening e past n run own) earlier (found_first e past n) (rw own at runs)))
       (λ other.
       let before : phase past n ≡ Running = rw other at runs in
       let old = alone past n run.0 before in
-      (old.0, rw other (old.1.0, λ x touches. ap bytes_of (others_keep e past n x run before other touches) ∙ old.1.1 x touches)))
+      subst (λ start. IsAlone jobs n (λ x. may_touch jobs n x ≡ true) start (history (e ∷ past) n) (store_after opening (e ∷ past))) (sym (found_on e past n (ap is_started before)))
+      (rw other (old.0, λ x touches. ap bytes_of (others_keep e past n x run before other touches) ∙ old.1 x touches)))
 
   module _ (valid : IsValid jobs) (fixed : Name → Bool) (declared : IsDeclared jobs fixed) where
     -- once n waits no more, nobody else writes an input of it or what it writes last
@@ -101,8 +112,8 @@ module _ (jobs : Jobs) (tie : Bool) (limit : ℕ) (opening : Store) (free : IsRa
           ]
         ])
 
-    abbrev IsAloneEver : List Event → ℕ → Contents → Type 0
-    IsAloneEver past n start = IsAlone jobs n (IsMine jobs n) start (history past n) (store_after opening past)
+    abbrev IsAloneEver : List Event → ℕ → Type 0
+    IsAloneEver past n = IsAlone jobs n (IsMine jobs n) (found_by opening past n) (history past n) (store_after opening past)
 
     -- an act of who has started leaves it running, or finishes it
     runs_or_ends : (past : List Event) (n : ℕ) (a : Act) → May jobs tie limit opening past n a → is_started (phase_after (a ∷ acts_of n past)) ≡ true
@@ -115,40 +126,37 @@ module _ (jobs : Jobs) (tie : Bool) (limit : ℕ) (opening : Store) (free : IsRa
     runs_or_ends past n Finish may started = inr (may, refl)
 
     -- who has started did alone what it did, and what it read and wrote last is there still
-    pub did_alone : (past : List Event) (n : ℕ) → IsRun jobs tie limit opening past → is_started (phase past n) ≡ true → (start : Contents) × IsAloneEver past n start
+    pub did_alone : (past : List Event) (n : ℕ) → IsRun jobs tie limit opening past → is_started (phase past n) ≡ true → IsAloneEver past n
     did_alone [] n run started = absurd (false≢true started)
     did_alone (e ∷ past) n run started = split (e.node == n)
         (λ own. elim (runs_or_ends past n e.act (may_own jobs tie limit opening e past n run own) (rw own at started)) [
           | inl runs ↦
               let now = alone (e ∷ past) n run (rw own runs) in
-              (now.0, (now.1.0, λ x mine. now.1.1 x (touches_mine jobs n x mine)))
+              (now.0, λ x mine. now.1 x (touches_mine jobs n x mine))
           | inr was ↦
               let old = alone past n run.0 was.0 in
-              let same : history (e ∷ past) n ≡ history past n = rw own (ap (λ a. entries (a ∷ acts_of n past)) was.1) in (
-                old.0,
-                (
-                  subst (AreSteps jobs n old.0) (sym same) old.1.0,
-                  λ x mine. ap (λ a. bytes_of (written a x (store_after opening past x))) was.1 ∙ old.1.1 x (touches_mine jobs n x mine) ∙ ap (λ es. left_by old.0 es x) (sym same),
-                ),
-              )
+              let same : history (e ∷ past) n ≡ history past n = rw own (ap (λ a. entries (a ∷ acts_of n past)) was.1) in
+              let found = found_on e past n (ap is_started was.0) in
+              let ended : (x : Name) → store_after opening (e ∷ past) x ≡ store_after opening past x = λ x. ap (λ a. written a x (store_after opening past x)) was.1 in
+              subst₂ (λ start es. IsAlone jobs n (IsMine jobs n) start es (store_after opening (e ∷ past))) (sym found) (sym same)
+              (old.0, λ x mine. ap bytes_of (ended x) ∙ old.1 x (touches_mine jobs n x mine))
         ])
         (λ other.
-        let old = did_alone past n run.0 (rw other at started) in
-        (old.0, rw other (old.1.0, λ x mine. ap bytes_of (mine_stays e past n x run (started_begun (phase past n) (rw other at started)) other mine) ∙ old.1.1 x mine)))
+        let before : is_started (phase past n) ≡ true = rw other at started in
+        let old = did_alone past n run.0 before in
+        subst (λ start. IsAlone jobs n (IsMine jobs n) start (history (e ∷ past) n) (store_after opening (e ∷ past))) (sym (found_on e past n before))
+        (rw other (old.0, λ x mine. ap bytes_of (mine_stays e past n x run (started_begun (phase past n) before) other mine) ∙ old.1 x mine)))
 
-    module _ (programs : ℕ → Program) (past : List Event) (run : IsRun jobs tie limit opening past) (follows : FollowsPrograms programs past) where
-      -- so what it did is a doing of its program
-      pub did : (n : ℕ) → is_started (phase past n) ≡ true → (start : Contents) × Does jobs programs n start (history past n)
-      did n started = let now = did_alone past n run started in (now.0, record { follows = follows n started; steps = now.1.0 })
-
-      -- and it is settled
-      pub started_settled : (n : ℕ) → is_started (phase past n) ≡ true → IsSettled jobs programs (store_after opening past) n
-      started_settled n started =
-          let now = did_alone past n run started in
-          record {
-            start = now.0;
-            history = history past n;
-            does = record { follows = follows n started; steps = now.1.0 };
-            inputs = λ x input. sym (now.1.1 x (inl input) ∙ input_stays jobs n now.0 (history past n) x now.1.0 input.foreign);
-            stays = λ x last. now.1.1 x (inr last);
-          }
+    -- so it is settled, if it worked afresh
+    pub started_settled : (programs : ℕ → Program) (past : List Event) (n : ℕ) → IsRun jobs tie limit opening past → FollowsPrograms programs past → AreAfresh jobs opening past → is_started (phase past n) ≡ true
+        → IsSettled jobs programs (store_after opening past) n
+    started_settled programs past n run follows afresh started =
+        let now = did_alone past n run started in
+        record {
+          start = found_by opening past n;
+          history = history past n;
+          does = record { follows = follows n started; steps = now.0 };
+          afresh = afresh n started;
+          inputs = λ x input. sym (now.1 x (inl input) ∙ input_stays jobs n (found_by opening past n) (history past n) x now.0 input.foreign);
+          stays = λ x last. now.1 x (inr last);
+        }

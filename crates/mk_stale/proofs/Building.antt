@@ -10,20 +10,19 @@ use Rattle.mk_sched.specs.Programs.{Program}
 use Rattle.mk_sched.proofs.Basics.{split, last_of}
 use Rattle.mk_sched.proofs.OneRun.{wrote, last_write, unstarted_empty}
 use Rattle.mk_stale.specs.Watching.{RunsWith, IsLastWriter, Watches, always, named, through, written, never, IsInput, IsDeclared}
-use Rattle.mk_stale.specs.Doings.{AreGood}
 use Rattle.mk_stale.specs.Incremental.{HasSources, IsBuild}
 use Rattle.mk_stale.specs.Laws.{IsSettled, AllKnown, BuildSettles}
 use Rattle.mk_stale.proofs.Alone.{started_settled}
 use Rattle.mk_stale.proofs.Waking.{will_always, put_wakes, carries_starts, will_start}
 
 module _ (jobs : Jobs) (programs : ℕ → Program) (fixed : Name → Bool) (opening : Store) (past : List Event) (valid : IsValid jobs) (free : IsRaceFree jobs)
-    (declared : IsDeclared jobs fixed) (good : AreGood jobs programs) (has : HasSources jobs opening) (build : IsBuild jobs programs opening past) where
+    (declared : IsDeclared jobs fixed) (has : HasSources jobs opening) (build : IsBuild jobs programs opening past) where
   abbrev Starts : ℕ → Type 0
   Starts n = is_started (phase past n) ≡ true
 
   carried_on : (m n : ℕ) → RunsWith jobs m n → Starts m → Starts n
-  carried_on m n (inl often) started = will_start jobs build.tie build.limit opening past valid build.run build.complete free fixed declared programs good build.follows n (will_always jobs opening n valid has often)
-  carried_on m n (inr way) started = carries_starts jobs build.tie build.limit opening past valid build.run build.complete free fixed declared programs good build.follows m n way started
+  carried_on m n (inl often) started = will_start jobs build.tie build.limit opening past valid build.run build.complete build.afresh n (will_always jobs opening n valid has often)
+  carried_on m n (inr way) started = carries_starts jobs build.tie build.limit opening past valid build.run build.complete build.afresh m n way started
 
   -- who wrote x has started
   writer_started : (m : ℕ) (x : Name) (c : Option Bytes) → last_of x (history past m) ≡ Some c → Starts m
@@ -76,16 +75,17 @@ module _ (jobs : Jobs) (programs : ℕ → Program) (fixed : Name → Bool) (ope
 
   settled_after : AllKnown jobs programs opening → (n : ℕ) → is_live jobs n ≡ true → IsSettled jobs programs (store_after opening past) n
   settled_after known n live = split (is_started (phase past n))
-      (λ started. started_settled jobs build.tie build.limit opening free valid fixed declared programs past build.run build.follows n started)
+      (λ started. started_settled jobs build.tie build.limit opening free valid fixed declared programs past n build.run build.follows build.afresh started)
       (λ idle.
-      let old = known n live (λ will. false≢true (sym idle ∙ will_start jobs build.tie build.limit opening past valid build.run build.complete free fixed declared programs good build.follows n will)) in
+      let old = known n live (λ will. false≢true (sym idle ∙ will_start jobs build.tie build.limit opening past valid build.run build.complete build.afresh n will)) in
       record {
         start = old.start;
         history = old.history;
         does = old.does;
+        afresh = old.afresh;
         inputs = λ x input. old.inputs x input ∙ sym (stays_if n x idle (λ m c some. input_starts n m x c live some input));
         stays = λ x last. stays_if n x idle (λ m c some. last_starts n m x c some last) ∙ old.stays x last;
       })
 
 pub build_settles : BuildSettles
-build_settles jobs programs fixed opening past valid free declared good has known build = settled_after jobs programs fixed opening past valid free declared good has build known
+build_settles jobs programs fixed opening past valid free declared has known build = settled_after jobs programs fixed opening past valid free declared has build known

@@ -75,6 +75,7 @@ edit_is_known jobs programs fixed old new valid declared had edit settled n live
       start = s.start;
       history = s.history;
       does = s.does;
+      afresh = s.afresh;
       inputs = λ x input. s.inputs x input ∙ input_stays jobs fixed old new valid declared had edit n x live calm input;
       stays = λ x last. last_stays jobs fixed old new valid declared had edit n x calm last ∙ s.stays x last;
     }

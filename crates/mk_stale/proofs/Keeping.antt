@@ -11,7 +11,6 @@ use Rattle.mk_sched.specs.Programs.{Program}
 use Rattle.mk_sched.proofs.Basics.{split, split_option, touch, written-untouched}
 use Rattle.mk_sched.proofs.OneRun.{toucher}
 use Rattle.mk_stale.specs.Watching.{makes_own, IsDeclared}
-use Rattle.mk_stale.specs.Doings.{AreGood}
 use Rattle.mk_stale.specs.Incremental.{HasSources, IsClean, IsSource, IsBuild, IsKept, clean, edited, AsFromClean}
 use Rattle.mk_stale.specs.Laws.{stale, AllSettled, AllKnown}
 use Rattle.mk_stale.proofs.Waking.{absent_if, phony_stale, absent_stale}
@@ -33,7 +32,7 @@ module _ (jobs : Jobs) (tie : Bool) (limit : ℕ) (opening : Store) where
       let source : IsSource jobs (name_of jobs n) = λ m. false_from_ne_true _ (λ writes. false≢true (sym other ∙ subst (λ k. may_write jobs k (name_of jobs n) ≡ true) (valid.own m n inside writes) writes)) in
       ap is_some (source_stays past (name_of jobs n) source run) ∙ has n inside other
 
-module _ (jobs : Jobs) (programs : ℕ → Program) (fixed : Name → Bool) (valid : IsValid jobs) (free : IsRaceFree jobs) (declared : IsDeclared jobs fixed) (good : AreGood jobs programs) where
+module _ (jobs : Jobs) (programs : ℕ → Program) (fixed : Name → Bool) (valid : IsValid jobs) (free : IsRaceFree jobs) (declared : IsDeclared jobs fixed) where
   -- in a clean store each live node is phony or absent, and so will run
   clean_known : (store : Store) → IsClean jobs store → AllKnown jobs programs store
   clean_known store empty n live calm = absurd (calm (stale live (split (is_phony jobs n)
@@ -51,17 +50,17 @@ module _ (jobs : Jobs) (programs : ℕ → Program) (fixed : Name → Bool) (val
   kept_known store (edited {store = old} {past = past} kept build edit) =
       let had = kept_sources old kept in
       edit_is_known jobs programs fixed (store_after old past) store valid declared (sources_stay jobs build.tie build.limit old past valid build.run had) edit
-      (build_settles jobs programs fixed old past valid free declared good had (kept_known old kept) build)
+      (build_settles jobs programs fixed old past valid free declared had (kept_known old kept) build)
 
   -- a build of a kept store settles all
   kept_settles : (store : Store) (past : List Event) → IsKept jobs programs fixed store → IsBuild jobs programs store past → AllSettled jobs programs (store_after store past)
-  kept_settles store past kept build = build_settles jobs programs fixed store past valid free declared good (kept_sources store kept) (kept_known store kept) build
+  kept_settles store past kept build = build_settles jobs programs fixed store past valid free declared (kept_sources store kept) (kept_known store kept) build
 
 pub as_from_clean : AsFromClean
-as_from_clean jobs programs fixed opening empty a b valid free declared good kept is_clean sources build_a build_b =
-    let settles = kept_settles jobs programs fixed valid free declared good in
+as_from_clean jobs programs fixed opening empty a b valid free declared kept is_clean sources build_a build_b =
+    let settles = kept_settles jobs programs fixed valid free declared in
     let kept_a = source_stays jobs build_a.tie build_a.limit opening a in
     let kept_b = source_stays jobs build_b.tie build_b.limit empty b in
-    settled_once jobs programs fixed (store_after opening a) (store_after empty b) valid declared good
+    settled_once jobs programs fixed (store_after opening a) (store_after empty b) valid declared
     (λ x source. ap bytes_of (kept_a x source build_a.run) ∙ sources x source ∙ sym (ap bytes_of (kept_b x source build_b.run)))
     (settles opening a kept build_a) (settles empty b (clean is_clean) build_b)

@@ -1,5 +1,5 @@
 -- Two stores with the same sources whose nodes are settled are alike, writer by writer.
-use Rattle.std.proofs.Common.{ℕ, zero, suc, ◌≡◌, ◌<◌, Bool, true, false, sym, ◌∙◌, subst, arith}
+use Rattle.std.proofs.Common.{ℕ, zero, suc, ◌≡◌, ◌<◌, Bool, true, sym, ◌∙◌, subst, arith}
 use Rattle.std.proofs.lemmas.Bool.{false≢true, false_from_ne_true}
 use Rattle.mk_name.specs.Names.{Name}
 use Rattle.mk_jobs.specs.Jobs.{Jobs, IsValid, node_count, may_write}
@@ -8,11 +8,11 @@ use Rattle.mk_sched.specs.Stores.{Store, bytes_of}
 use Rattle.mk_sched.specs.Programs.{Program}
 use Rattle.mk_sched.proofs.Basics.{split}
 use Rattle.mk_stale.specs.Watching.{IsLastWriter, IsInput, IsDeclared}
-use Rattle.mk_stale.specs.Doings.{AreGood}
 use Rattle.mk_stale.specs.Incremental.{SameSources}
 use Rattle.mk_stale.specs.Laws.{AllSettled, SettledOnce}
+use Rattle.mk_stale.proofs.Alike.{left_alike}
 
-module _ (jobs : Jobs) (programs : ℕ → Program) (fixed : Name → Bool) (a b : Store) (valid : IsValid jobs) (declared : IsDeclared jobs fixed) (good : AreGood jobs programs)
+module _ (jobs : Jobs) (programs : ℕ → Program) (fixed : Name → Bool) (a b : Store) (valid : IsValid jobs) (declared : IsDeclared jobs fixed)
     (sources : SameSources jobs a b) (all_a : AllSettled jobs programs a) (all_b : AllSettled jobs programs b) where
   -- a name that only nodes below the bound may write has the same bytes in both: its greatest writer did the same from the same inputs
   same_below : (bound : ℕ) (x : Name) → ((m : ℕ) → may_write jobs m x ≡ true → m < bound) → bytes_of (a x) ≡ bytes_of (b x)
@@ -24,12 +24,12 @@ module _ (jobs : Jobs) (programs : ℕ → Program) (fixed : Name → Bool) (a b
       let in_b = all_b k live in
       let last : IsLastWriter jobs k x = record { writes = writes; last = λ m other. let less = below m other in omega arith } in
       let inputs = λ (y : Name) (input : IsInput jobs k y). in_a.inputs y input ∙ same_below k y (λ m other. before_less valid (declared.earlier k m y input other)) ∙ sym (in_b.inputs y input) in
-      in_a.stays x last ∙ good.no_trace k in_a.start in_b.start in_a.history in_b.history in_a.does in_b.does inputs x writes ∙ sym (in_b.stays x last))
+      in_a.stays x last ∙ left_alike jobs programs k in_a.start in_b.start in_a.history in_b.history in_a.does in_b.does in_a.afresh in_b.afresh inputs x writes ∙ sym (in_b.stays x last))
       (λ idle. same_below k x (λ m other.
       let less = below m other in
       let different : m ≡ k → ⊥ = λ is. false≢true (sym idle ∙ subst (λ i. may_write jobs i x ≡ true) is other) in
       omega arith))
 
 pub settled_once : SettledOnce
-settled_once jobs programs fixed a b valid declared good sources all_a all_b x =
-    same_below jobs programs fixed a b valid declared good sources all_a all_b (node_count jobs) x (λ m writes. live_node jobs m (writer_live jobs m x writes))
+settled_once jobs programs fixed a b valid declared sources all_a all_b x =
+    same_below jobs programs fixed a b valid declared sources all_a all_b (node_count jobs) x (λ m writes. live_node jobs m (writer_live jobs m x writes))

@@ -4,19 +4,17 @@ use Rattle.std.specs.List.{list_any}
 use Rattle.std.proofs.lemmas.Bool.{false≢true, and_parts, or_left, or_right}
 use Rattle.std.proofs.lemmas.List.Elements.{Contains-append_right}
 use Rattle.mk_name.specs.Names.{Name, same_name}
-use Rattle.mk_jobs.specs.Jobs.{Jobs, IsValid, IsRaceFree, IsPrerequisite, node_count, name_of, prerequisites_of, has_recipe, is_live, is_phony, is_listed}
+use Rattle.mk_jobs.specs.Jobs.{Jobs, IsValid, IsPrerequisite, node_count, name_of, prerequisites_of, has_recipe, is_live, is_phony, is_listed}
 use Rattle.mk_jobs.proofs.JobsLemmas.{live_node}
-use Rattle.mk_sched.specs.Stores.{Bytes, File, Store, is_stale, outdates}
+use Rattle.mk_sched.specs.Stores.{Bytes, File, Store, bytes_of, is_stale, outdates}
 use Rattle.mk_sched.specs.Events.{Event, Entry, Looked, Wrote, entries, is_started, phase, history, store_after}
 use Rattle.mk_sched.specs.Runs.{IsRun, IsComplete}
-use Rattle.mk_sched.specs.Programs.{Program, FollowsPrograms}
 use Rattle.mk_sched.proofs.Basics.{split, split_option, passed_begun, last_of, LeftBy, LeftBy-weaker}
 use Rattle.mk_sched.proofs.OneRun.{own_file, own_last, IsLater, Decided, decided}
-use Rattle.mk_stale.specs.Watching.{makes_own, is_never_there, RunsAlways, itself, needs, behind, Carries, edge, further, IsDeclared}
-use Rattle.mk_stale.specs.Doings.{has_write, AreGood}
+use Rattle.mk_stale.specs.Watching.{makes_own, is_never_there, RunsAlways, itself, needs, behind, Carries, edge, further}
+use Rattle.mk_stale.specs.Doings.{has_write, AreAfresh, found_by}
 use Rattle.mk_stale.specs.Incremental.{HasSources}
 use Rattle.mk_stale.specs.Laws.{WillRun, stale, carried}
-use Rattle.mk_stale.proofs.Alone.{did}
 
 -- an element that passes is found, and what is found is such an element
 found : {X : Type 0} (p : X → Bool) (xs : List X) (x : X) → Contains xs x → p x ≡ true → list_any p xs ≡ true
@@ -30,7 +28,7 @@ one_passes p (x ∷ xs) some = split (p x)
     (λ here. (x, (0, omega arith, refl), here))
     (λ other. let rest = one_passes p xs (rw other at some) in (rest.0, Contains-append_right (x ∷ []) xs rest.0 rest.1, rest.2))
 
-pub absent_if : (file : Option File) → is_some file ≡ false → file ≡ None
+pub absent_if : {A : Type 0} (file : Option A) → is_some file ≡ false → file ≡ None
 absent_if None none = refl
 absent_if (Some file) none = cc
 
@@ -138,13 +136,30 @@ module _ (jobs : Jobs) (tie : Bool) (limit : ℕ) (opening : Store) (past : List
       let same : own ≡ file = cc in
       or_right _ _ (subst (λ f. outdates tie (Some f) (store_after opening d.earlier (name_of jobs p)) ≡ true) same (still_outdates tie own (opening (name_of jobs p)) (store_after opening d.earlier (name_of jobs p)) (last_of (name_of jobs p) (history past p)) (step_now n p live newer.1 own some) (rw other at newer.2))))))))
 
-  module _ (free : IsRaceFree jobs) (fixed : Name → Bool) (declared : IsDeclared jobs fixed) (programs : ℕ → Program) (good : AreGood jobs programs) (follows : FollowsPrograms programs past) where
+  -- a node whose prerequisite's file is absent at the opening has started
+  gone_wakes : (n p : ℕ) → is_live jobs n ≡ true → IsPrerequisite jobs p n → opening (name_of jobs p) ≡ None → is_started (phase past n) ≡ true
+  gone_wakes n p live step none =
+      let d = decision n live in
+      starts_if n live (stale_by jobs tie (store_after opening d.earlier) n p step (λ own here. or_right _ _
+      (still_outdates tie own (opening (name_of jobs p)) (store_after opening d.earlier (name_of jobs p)) (last_of (name_of jobs p) (history past p)) (step_now n p live step own (sym (own_now n live) ∙ here))
+      (ap (outdates false (Some own)) none))))
+
+  -- what a node found of its own file is that of the opening
+  own_found : (earlier : List Event) (n : ℕ) → IsRun jobs tie limit opening earlier → n < node_count jobs → found_by opening earlier n (name_of jobs n) ≡ bytes_of (opening (name_of jobs n))
+  own_found [] n so_far inside = refl
+  own_found (e ∷ earlier) n so_far inside = split (is_started (phase earlier n))
+      (λ started. rw started (own_found earlier n so_far.0 inside))
+      (λ idle. rw idle (ap bytes_of (own_file jobs tie limit opening earlier n valid so_far.0 inside idle)))
+
+  module _ (afresh : AreAfresh jobs opening past) where
     -- who makes its own file wakes each node that needs it
     maker_wakes : (n m : ℕ) → is_live jobs n ≡ true → IsPrerequisite jobs m n → makes_own jobs m ≡ true → is_started (phase past m) ≡ true → is_started (phase past n) ≡ true
-    maker_wakes n m live step makes started =
-        let d = did jobs tie limit opening free valid fixed declared programs past run follows m started in
-        let written = last_written (name_of jobs m) (history past m) (good.own m d.0 (history past m) makes d.1) in
-        put_wakes n m written.0 live step written.1
+    maker_wakes n m live step makes started = split_option (opening (name_of jobs m))
+        (λ none. gone_wakes n m live step none)
+        (λ file some.
+        let there : is_some (found_by opening past m (name_of jobs m)) ≡ true = ap is_some (own_found past m run (lt_trans (valid.smaller n m step) (live_node jobs n live)) ∙ ap bytes_of some) in
+        let written = last_written (name_of jobs m) (history past m) ((afresh m started).rest (name_of jobs m) makes there) in
+        put_wakes n m written.0 live step written.1)
 
     pub carries_starts : (m n : ℕ) → Carries jobs m n → is_started (phase past m) ≡ true → is_started (phase past n) ≡ true
     carries_starts m n (edge live step makes) started = maker_wakes n m live step makes started

@@ -1,15 +1,18 @@
--- What a recipe does alone, and which recipes are good.
-use Rattle.std.specs.Prelude.{ℕ, ◌≡◌, ◌||◌, Bool, true, false, List, [], ◌∷◌, Option, if◌then◌else◌, reverse}
+-- What a recipe does alone, and what it is to work afresh.
+use Rattle.std.specs.Prelude.{ℕ, ◌≡◌, ◌||◌, Bool, true, false, List, [], ◌∷◌, Option, is_some, if◌then◌else◌, reverse}
 use Rattle.mk_name.specs.Names.{Name, same_name}
-use Rattle.mk_jobs.specs.Jobs.{Jobs, name_of, may_read, may_write}
-use Rattle.mk_sched.specs.Stores.{Bytes}
-use Rattle.mk_sched.specs.Events.{Entry, Looked, Wrote}
+use Rattle.mk_jobs.specs.Jobs.{Jobs, may_read, may_write}
+use Rattle.mk_sched.specs.Stores.{Bytes, Store, bytes_of}
+use Rattle.mk_sched.specs.Events.{Event, Entry, Looked, Wrote, history, is_started, phase, store_after}
 use Rattle.mk_sched.specs.Programs.{Program, Follows}
-use Rattle.mk_stale.specs.Watching.{makes_own, IsInput}
 
--- the bytes at each name, if there is a file: a store without its times
+-- the bytes at each name, if there is a file
 abbrev pub Contents : Type 0
 Contents = Name → Option Bytes
+
+-- a store without its times
+abbrev pub contents : Store → Contents
+contents store x = bytes_of (store x)
 
 -- what a history leaves at x, the newest entry first, if it begins with these contents
 abbrev pub left_by : Contents → List Entry → Contents
@@ -38,10 +41,22 @@ has_write x [] = false
 has_write x (Looked path seen ∷ older) = has_write x older
 has_write x (Wrote path left ∷ older) = same_name path x || has_write x older
 
--- recipes are good
-pub record AreGood (jobs : Jobs) (programs : ℕ → Program) : Type 0 where
-  -- they leave no trace of what they found where they write: after the same inputs they leave the same outputs
-  pub no_trace : (n : ℕ) (start other : Contents) (es fs : List Entry) → Does jobs programs n start es → Does jobs programs n other fs
-      → ((x : Name) → IsInput jobs n x → start x ≡ other x) → (x : Name) → may_write jobs n x ≡ true → left_by start es x ≡ left_by other fs x
-  -- who makes its own file puts or erases it whenever it runs
-  pub own : (n : ℕ) (start : Contents) (es : List Entry) → makes_own jobs n ≡ true → Does jobs programs n start es → has_write (name_of jobs n) es ≡ true
+-- n looked at each name that it may write only after it wrote it
+abbrev pub WritesFirst : Jobs → ℕ → List Entry → Type 0
+WritesFirst jobs n [] = Unit {0}
+WritesFirst jobs n (Looked path seen ∷ older) = WritesFirst jobs n older × (may_write jobs n path ≡ true → has_write path older ≡ true)
+WritesFirst jobs n (Wrote path left ∷ older) = WritesFirst jobs n older
+
+-- n worked afresh: so it looked, and it wrote or removed each name that it may write where something stood when it started
+pub record IsAfresh (jobs : Jobs) (n : ℕ) (start : Contents) (history : List Entry) : Type 0 where
+  pub first : WritesFirst jobs n history
+  pub rest : (x : Name) → may_write jobs n x ≡ true → is_some (start x) ≡ true → has_write x history ≡ true
+
+-- what stood at each name when n started
+abbrev pub found_by : Store → List Event → ℕ → Contents
+found_by opening [] n = contents opening
+found_by opening (e ∷ past) n = if is_started (phase past n) then found_by opening past n else contents (store_after opening past)
+
+-- in this run each recipe that started worked afresh
+abbrev pub AreAfresh : Jobs → Store → List Event → Type 0
+AreAfresh jobs opening past = (n : ℕ) → is_started (phase past n) ≡ true → IsAfresh jobs n (found_by opening past n) (history past n)

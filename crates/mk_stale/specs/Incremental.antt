@@ -7,7 +7,7 @@ use Rattle.mk_sched.specs.Events.{Event, store_after}
 use Rattle.mk_sched.specs.Runs.{IsRun, IsComplete}
 use Rattle.mk_sched.specs.Programs.{Program, FollowsPrograms}
 use Rattle.mk_stale.specs.Watching.{makes_own, IsDeclared}
-use Rattle.mk_stale.specs.Doings.{AreGood}
+use Rattle.mk_stale.specs.Doings.{AreAfresh}
 
 -- the store has its sources: of the nodes that do not make their own file, just the listed ones are there
 abbrev pub HasSources : Jobs → Store → Type 0
@@ -42,13 +42,15 @@ pub record IsEdit (jobs : Jobs) (fixed : Name → Bool) (old new : Store) : Type
   pub each : (x : Name) → Edited jobs fixed old new x
   pub sources : HasSources jobs new
 
--- a build: a complete run from this store, whose recipes follow these programs, with any limit and either reading of equal times
+-- a build: a complete run from this store, whose recipes follow these programs and work afresh, with any limit and either reading of
+-- equal times
 pub record IsBuild (jobs : Jobs) (programs : ℕ → Program) (opening : Store) (past : List Event) : Type 0 where
   pub tie : Bool
   pub limit : ℕ
   pub run : IsRun jobs tie limit opening past
   pub complete : IsComplete jobs past
   pub follows : FollowsPrograms programs past
+  pub afresh : AreAfresh jobs opening past
 
 -- a store is kept: it is clean, or an edit of what a build of a kept store left
 pub data IsKept (jobs : Jobs) (programs : ℕ → Program) (fixed : Name → Bool) : Store → Type 0 where
@@ -56,12 +58,12 @@ pub data IsKept (jobs : Jobs) (programs : ℕ → Program) (fixed : Name → Boo
   edited : {store new : Store} {past : List Event} → IsKept jobs programs fixed store → IsBuild jobs programs store past
       → IsEdit jobs fixed (store_after store past) new → IsKept jobs programs fixed new
 
--- the second headline: of valid, race-free and declared jobs with good recipes, a build of a kept store leaves at each name what a build
--- of a clean store with the same sources leaves
+-- the second headline: of valid, race-free and declared jobs, a build of a kept store leaves at each name what a build of a clean store
+-- with the same sources leaves
 abbrev pub AsFromClean : Type 0
 AsFromClean =
     (jobs : Jobs) (programs : ℕ → Program) (fixed : Name → Bool) (opening clean : Store) (a b : List Event)
-    → IsValid jobs → IsRaceFree jobs → IsDeclared jobs fixed → AreGood jobs programs
+    → IsValid jobs → IsRaceFree jobs → IsDeclared jobs fixed
     → IsKept jobs programs fixed opening → IsClean jobs clean → SameSources jobs opening clean
     → IsBuild jobs programs opening a → IsBuild jobs programs clean b
     → (x : Name) → bytes_of (store_after opening a x) ≡ bytes_of (store_after clean b x)

@@ -6,14 +6,16 @@ use Rattle.mk_sched.specs.Stores.{Store, bytes_of, is_stale}
 use Rattle.mk_sched.specs.Events.{Event, Entry, store_after}
 use Rattle.mk_sched.specs.Programs.{Program}
 use Rattle.mk_stale.specs.Watching.{Carries, IsLastWriter, IsInput, IsDeclared}
-use Rattle.mk_stale.specs.Doings.{Contents, left_by, Does, AreGood}
+use Rattle.mk_stale.specs.Doings.{Contents, left_by, Does, IsAfresh}
 use Rattle.mk_stale.specs.Incremental.{HasSources, SameSources, IsEdit, IsBuild}
 
--- n is settled: it once did its work alone from inputs that are the same now, and what it left is there at each name that it writes last
+-- n is settled: it once did its work alone and afresh from inputs that are the same now, and what it left is there at each name that it
+-- writes last
 pub record IsSettled (jobs : Jobs) (programs : ℕ → Program) (store : Store) (n : ℕ) : Type 0 where
   pub start : Contents
   pub history : List Entry
   pub does : Does jobs programs n start history
+  pub afresh : IsAfresh jobs n start history
   pub inputs : (x : Name) → IsInput jobs n x → start x ≡ bytes_of (store x)
   pub stays : (x : Name) → IsLastWriter jobs n x → bytes_of (store x) ≡ left_by start history x
 
@@ -34,7 +36,7 @@ AllKnown jobs programs store = (n : ℕ) → is_live jobs n ≡ true → (WillRu
 abbrev pub BuildSettles : Type 0
 BuildSettles =
     (jobs : Jobs) (programs : ℕ → Program) (fixed : Name → Bool) (opening : Store) (past : List Event)
-    → IsValid jobs → IsRaceFree jobs → IsDeclared jobs fixed → AreGood jobs programs → HasSources jobs opening
+    → IsValid jobs → IsRaceFree jobs → IsDeclared jobs fixed → HasSources jobs opening
     → AllKnown jobs programs opening → IsBuild jobs programs opening past → AllSettled jobs programs (store_after opening past)
 
 -- an edit of a store whose nodes are settled leaves one whose nodes are known
@@ -48,5 +50,5 @@ EditIsKnown =
 abbrev pub SettledOnce : Type 0
 SettledOnce =
     (jobs : Jobs) (programs : ℕ → Program) (fixed : Name → Bool) (a b : Store)
-    → IsValid jobs → IsDeclared jobs fixed → AreGood jobs programs → SameSources jobs a b
+    → IsValid jobs → IsDeclared jobs fixed → SameSources jobs a b
     → AllSettled jobs programs a → AllSettled jobs programs b → (x : Name) → bytes_of (a x) ≡ bytes_of (b x)

@@ -2,8 +2,8 @@
 ghost use Rattle.mk_stale.specs.Incremental.{AsFromClean};
 ghost use Rattle.mk_stale.specs.Laws.{BuildSettles, EditIsKnown, SettledOnce};
 
-/// Of valid, race-free and declared jobs with good recipes, a build of a tree that edits and builds led to leaves what a build of a
-/// clean tree with the same sources leaves.
+/// Of valid, race-free and declared jobs, a build of a tree that edits and builds led to leaves what a build of a clean tree with the
+/// same sources leaves.
 pub fn as_from_clean()
     ensures { AsFromClean }
 {}
