@@ -4,4 +4,5 @@ pub mod Building
 pub mod Editing
 pub mod Keeping
 pub mod Settling
+pub mod Unpacked
 pub mod Waking
