@@ -13,6 +13,7 @@ from report.model import Race, Report
 MISSING = {
     "missing": "{0} reads {1}, and is not made again when it changes", "late": "{0} reads {1}, and who writes that need not come first",
     "shared": "{0} writes {1}, and so does a recipe that need not run then", "present": "{0} was there before the build",
+    "tree": "{0} writes below {1}, and may leave there what an earlier build wrote",
 }
 SAME = {"make": "make -j leaves what make leaves", "ninja": "ninja leaves what ninja -j1 leaves", "tasks": "each order leaves what the serial one leaves"}
 SHOWN_BLOCKS, SHOWN_NUMBERS = 10, 20

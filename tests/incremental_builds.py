@@ -1,7 +1,8 @@
 """Builds of old trees, played without any file: recipes that do the same after the same inputs, edits, and builds in random order.
 
 It is a model of `make` apart from the program: a recipe runs if its target is absent or phony, or a prerequisite is phony, absent
-or newer. Each recipe reads all names that it may read and not write, and writes each name that it may write.
+or newer. Each recipe reads all names that it may read and not write, and writes each file that it may write. A recipe that may write
+a tree unpacks an archive there: it writes the members, which its inputs determine, and removes nothing.
 """
 from __future__ import annotations
 
@@ -12,8 +13,8 @@ from dataclasses import dataclass
 
 from answer_oracle import Jobs, Path, covers
 
-# What a tree has besides the names that are known: these, below it.
-BELOW = (b"", b"/u", b"/u/v")
+# A tree has names without end. These are members of archives and new files below it, beside the names that are known.
+BELOW = (b"/u", b"/u/v", b"/m%d", b"/m%d/n%d")
 # How many builds of an old tree follow each other, and how many sources may change between two of them.
 BUILDS, MOST_EDITS = 4, 3
 
@@ -37,19 +38,24 @@ class Trees:
         self.names = jobs.plan.order
         self.direct = [sorted({jobs.numbers[it] for it in jobs.plan.prerequisites[name]}) for name in self.names]
         paths = {path for it in jobs.footprints.values() for path in it.reads | it.writes}
-        self.known = sorted({*self.names, *(name for path in paths for name in self.below(path))})
-        self.written = {number: self.under(it.writes) for number, it in jobs.footprints.items()}
-        self.inputs = {number: self.under(it.reads - it.writes) for number, it in jobs.footprints.items()}
-        made = {name for names in self.written.values() for name in names}
-        self.sources = [name for name in self.known if name not in made]
-        self.editable = [name for name in self.sources if name not in fixed]
-        self.removable = [name for number, name in enumerate(self.names) if name in self.written.get(number, ())]
+        self.known = sorted({*self.names, *(path.name for path in paths)})
+        self.fixed = fixed
+        self.folders = sorted(path for it in jobs.footprints.values() for path in it.reads if path.is_tree)
+        self.removable = [name for number, name in enumerate(self.names) if self.is_written(number, name)]
 
-    def below(self, path: Path) -> list[bytes]:
-        return [path.name + (it if path.name != b"/" else it.lstrip(b"/")) for it in BELOW[: len(BELOW) if path.is_tree else 1]]
+    def is_under(self, paths: set[Path], name: bytes) -> bool:
+        return any(covers(self.jobs.plan.root, it, Path(name, False)) for it in paths)
 
-    def under(self, paths: set[Path]) -> list[bytes]:
-        return [name for name in self.known if any(covers(self.jobs.plan.root, it, Path(name, False)) for it in paths)]
+    def is_written(self, number: int, name: bytes) -> bool:
+        return number in self.jobs.footprints and self.is_under(self.jobs.footprints[number].writes, name)
+
+    def is_source(self, name: bytes) -> bool:
+        return not any(self.is_written(number, name) for number in self.jobs.footprints)
+
+    def below(self, path: Path, dice: random.Random) -> bytes:
+        """One of the names without end below a tree."""
+        text = dice.choice(BELOW).replace(b"%d", b"%d" % dice.randrange(100))
+        return path.name.rstrip(b"/") + text
 
     def is_listed(self, name: bytes) -> bool:
         return name in self.jobs.plan.listing
@@ -61,13 +67,19 @@ class Trees:
     def clean(self) -> Store:
         """A tree in which nothing was built: of the nodes just those that the listing has."""
         nodes = set(self.names)
-        there = (it for it in self.sources if (self.is_listed(it) if it in nodes else self.dice.random() < 0.7))
+        sources = (it for it in self.known if self.is_source(it))
+        there = (it for it in sources if (self.is_listed(it) if it in nodes else self.dice.random() < 0.7))
         return {name: self.new_file() for name in there}
+
+    def editable(self, store: Store) -> list[bytes]:
+        """The sources that are not fixed: those that are known or there, and new ones below trees that are read."""
+        new = {self.below(path, self.dice) for path in self.folders}
+        return sorted(name for name in {*self.known, *store, *new} if name not in self.fixed and self.is_source(name))
 
     def edit(self, store: Store) -> None:
         """Changes, adds and deletes sources that are not fixed, which are newer than all files then, and deletes targets."""
-        nodes = set(self.names)
-        for name in self.dice.sample(self.editable, min(len(self.editable), self.dice.randint(1, MOST_EDITS))):
+        nodes, names = set(self.names), self.editable(store)
+        for name in self.dice.sample(names, min(len(names), self.dice.randint(1, MOST_EDITS))):
             if name not in nodes and self.dice.random() < 0.3:
                 store.pop(name, None)
             elif name not in nodes or name in store:
@@ -97,16 +109,26 @@ class Trees:
         return any(phony or file is None or file.time > own.time for phony, file in needs)
 
     def run(self, store: Store, number: int) -> None:
-        seen = hashlib.sha256(b"%d" % number)
-        for name in (it for it in self.inputs[number] if it not in self.written[number]):
-            seen.update(name + b"=" + (store[name].text if name in store else b"no file") + b"\n")
-        for name in self.written[number]:
+        seen, reads = hashlib.sha256(b"%d" % number), self.jobs.footprints[number].reads
+        for name in sorted({*self.known, *store}):
+            if self.is_under(reads, name) and not self.is_written(number, name):
+                seen.update(name + b"=" + (store[name].text if name in store else b"no file") + b"\n")
+        for name in self.outputs(number, seen.digest()):
             self.clock += 1
             store[name] = File(hashlib.sha256(seen.digest() + name).digest(), self.clock)
 
+    def outputs(self, number: int, seen: bytes) -> list[bytes]:
+        """What a recipe writes that saw this: its files, and of each of its trees the members of an archive."""
+        writes = sorted(self.jobs.footprints[number].writes)
+        files = {path.name for path in writes if not path.is_tree}
+        own = {name for name in self.names[number : number + 1] if self.is_written(number, name)}
+        dice = random.Random(seen)
+        members = {self.below(path, dice) for path in writes if path.is_tree for _ in range(3)}
+        return sorted(files | own | members)
+
     def clean_build(self, store: Store) -> Store:
         """What a build leaves of a clean tree with the sources of this one."""
-        clean = {name: store[name] for name in self.sources if name in store}
+        clean = {name: file for name, file in store.items() if self.is_source(name)}
         self.build(clean)
         return clean
 

@@ -64,7 +64,7 @@ class Watching:
 
 
 class Found:
-    """All that keeps jobs from being declared, by kind, and the report of it."""
+    """All that keeps builds of old trees from leaving what clean ones leave, by kind, and the report of it."""
 
     def __init__(self, answer: Answer) -> None:
         self.answer, self.jobs = answer, answer.jobs
@@ -76,6 +76,10 @@ class Found:
             self.look_at(path, self.watching.writers(path))
         present = (it for it in self.jobs.footprints if self.watching.listed[it] and not self.watching.phony[it])
         self.present = sorted(present)
+        written = [(path, writers[-1]) for path in self.files for writers in [self.watching.writers(path)] if writers]
+        theirs = {self.watching.names[it] for it in self.present}
+        self.outputs = [path for path, _ in written if not path.is_tree and path.name in self.jobs.plan.listing and path.name not in theirs]
+        self.trees = [(path, last) for path, last in written if path.is_tree]
 
     def look_at(self, path: Path, writers: list[int]) -> None:
         """What is wrong with one path, whose writers these are."""
@@ -103,16 +107,14 @@ class Found:
 
     @property
     def status(self) -> int:
-        return 1 if self.answer.races or self.missing or self.late or self.shared or self.present else 0
-
-    def is_declared(self) -> bool:
-        return not (self.missing or self.late or self.shared or self.present)
+        violations = self.missing, self.late, self.shared, self.present, self.outputs, self.trees
+        return 1 if self.answer.races or any(violations) else 0
 
     def report(self) -> bytes:
         return text_of(self.lines())
 
     def lines(self):
-        kinds = (b"missing", self.missing), (b"late", self.late), (b"shared", self.shared), (b"present", self.present)
+        kinds = (b"missing", self.missing), (b"late", self.late), (b"shared", self.shared), (b"present", self.present + self.outputs), (b"tree", self.trees)
         yield from ([word, len(found)] for word, found in kinds)
         yield from [[b"unlisted", self.unlisted], [b"races", len(self.answer.races)], *self.answer.counts()]
         name = self.answer.name
@@ -126,6 +128,8 @@ class Found:
             yield [b"shared", shown(spelled(path)), b":", name(number), b"writes", name(last), b"writes"]
             yield from self.added(last, self.watching.names[number] if self.watching.own[number] else None)
         yield from ([b"present", name(number)] for number in self.present)
+        yield from ([b"present", shown(spelled(path))] for path in self.outputs)
+        yield from ([b"tree", shown(spelled(path)), b":", name(last), b"writes"] for path, last in self.trees)
 
     def declaring(self, path: Path, number: int, last: int | None) -> bytes | None:
         """The prerequisite that makes a recipe watch a path, if there is one to add."""

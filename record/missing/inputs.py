@@ -28,11 +28,11 @@ from record.trace.lives import Life
 from record.trace.names import Names
 
 TASKS, LISTING = "missing-tasks", "missing-listing"
-FOUND = re.compile(r"^(missing|late|shared) ([^ ]+) : ([^ ]+) (reads|writes)(?: ([^ ]+) writes)?$")
+FOUND = re.compile(r"^(missing|late|shared|tree) ([^ ]+) : ([^ ]+) (reads|writes)(?: ([^ ]+) writes)?$")
 PRESENT = re.compile(r"^present ([^ ]+)$")
 ADD = re.compile(r"^add ([^ ]+): ([^ ]+)$")
 SLACK = 60.0  # seconds by which the clock of a disk may be ahead
-COUNTS = ("missing", "late", "shared", "present", "races")
+COUNTS = ("missing", "late", "shared", "present", "tree", "races")
 
 
 # ---------------------------------------------------------------- what is recorded
@@ -108,7 +108,7 @@ def write_old_tree(folder: Path, tree: OldTree) -> int:
 class Found:
     """One violation: its kind, the path, the recipe that is not made again, and the last that writes the path, by their labels."""
 
-    kind: str  # missing, late, shared, present
+    kind: str  # missing, late, shared, present, tree
     path: str
     reader: str
     writer: str = ""
@@ -196,7 +196,7 @@ def judge_missing(race: str, folder: Path, root: str) -> Answer:
     head = next((at for at, text in enumerate(lines) if text.startswith("waits ")), -1) + 1
     answer = Answer(list(read_answer(lines[head:], *labels_in(folder / TASKS))), max(0, count_of(lines[:head], "races")))
     counts = [count_of(lines[:head], word) for word in COUNTS]
-    is_whole = -1 not in counts and sum(counts[:4]) == len(answer.found) and ran.returncode == (1 if any(counts) else 0)
+    is_whole = -1 not in counts and sum(counts[:-1]) == len(answer.found) and ran.returncode == (1 if any(counts) else 0)
     if not is_whole:
         answer.refused = " ".join((ran.stdout + ran.stderr).split())[:300] or "race missing " + ended(ran.returncode)
     return answer

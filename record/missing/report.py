@@ -111,7 +111,8 @@ class Question:
 def rows_of(judged: Judged, found: List[Found]) -> List[str]:
     """The recipes that a group of violations is about, with their places; the writer last."""
     about = judged.about
-    verb = {"missing": "reads it, and is not made again", "late": "reads it", "shared": "writes it", "present": "was there before the build"}
+    verb = {"missing": "reads it, and is not made again", "late": "reads it", "shared": "writes it", "present": "was there before the build",
+            "tree": "writes below it, and may leave what an earlier build wrote there"}
     rows = [(judged.target(one.reader), place(about, one.reader), verb[one.kind]) for one in found[:SHOWN_TARGETS]]
     writer, kind = found[0].writer, found[0].kind
     if writer:

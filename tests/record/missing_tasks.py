@@ -149,11 +149,13 @@ class Report:
         self.jobs, self.nodes = jobs, jobs.nodes
         self.live = [at for at, node in enumerate(self.nodes) if node.is_live]
         self.paths = sorted({path for at in self.live for path in (*self.nodes[at].reads, *self.nodes[at].writes)})
-        self.lines: Dict[str, List[str]] = {"missing": [], "late": [], "shared": [], "present": []}
-        self.counts = {"missing": 0, "late": 0, "shared": 0, "present": 0, "unlisted": 0, "races": 0}
+        self.lines: Dict[str, List[str]] = {"missing": [], "late": [], "shared": [], "present": [], "tree": []}
+        self.counts = {"missing": 0, "late": 0, "shared": 0, "present": 0, "tree": 0, "unlisted": 0, "races": 0}
         for path in self.paths:
             self.look_at(path)
-        self.lines["present"] = ["present " + self.nodes[at].shown for at in self.live if self.nodes[at].listed and not self.nodes[at].phony]
+        present = [at for at in self.live if self.nodes[at].listed and not self.nodes[at].phony]
+        outputs = [path for path in self.paths if path in jobs.listing and self.writers(path) and path not in {self.nodes[at].name for at in present}]
+        self.lines["present"] = ["present " + shown for shown in [*(self.nodes[at].shown for at in present), *(below(jobs.root, path) for path in outputs)]]
         self.counts["present"] = len(self.lines["present"])
         self.counts["races"] = sum(1 for at, b in enumerate(self.live) for a in self.live[:at] if self.is_race(a, b))
 
@@ -175,10 +177,15 @@ class Report:
         at = self.jobs.names.get(path)
         return any(self.nodes[it].name == path for it in named) or at is not None and self.nodes[at].is_never_there
 
+    def writers(self, path: str) -> List[int]:
+        return [at for at in self.live if self.nodes[at].can(self.nodes[at].writes, path)]
+
     def look_at(self, path: str) -> None:
         """What is wrong with one path."""
-        writers = [at for at in self.live if self.nodes[at].can(self.nodes[at].writes, path)]
+        writers = self.writers(path)
         last = writers[-1] if writers else None
+        if path.endswith("/") and last is not None:
+            self.say("tree", path, last, "writes", None, None)
         is_unlisted = not path.endswith("/") and not writers and path not in self.jobs.listing
         for at in self.live:
             node = self.nodes[at]
@@ -216,8 +223,8 @@ class Report:
         yield from ("%s %d" % pair for pair in self.counts.items())
         recipes = [node for node in self.nodes if node.recipe]
         yield from ("nodes %d" % len(self.nodes), "recipes %d" % len(recipes), "idle %d" % sum(1 for it in recipes if not it.is_live), "waits 0")
-        for kind in ("missing", "late", "shared", "present"):
-            yield from self.lines[kind]
+        for lines in self.lines.values():
+            yield from lines
 
     def status(self) -> int:
         return 1 if any(count for kind, count in self.counts.items() if kind != "unlisted") else 0

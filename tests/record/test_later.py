@@ -75,9 +75,9 @@ class Answers(unittest.TestCase):
 
     def test_lines(self) -> None:
         text = ("missing x\\x20y : a.o reads", "add a.o: x\\x20y", "missing g : a.o reads g.h writes", "late t : b reads c writes",
-                "shared u : b writes c writes", "add c: b", "present d")
+                "shared u : b writes c writes", "add c: b", "present d", "tree v/ : e writes")
         wanted = [Found("missing", "x y", "A", "", "x y"), Found("missing", "g", "A", "g.h"), Found("late", "t", "b", "c"),
-                  Found("shared", "u", "b", "c", "b"), Found("present", "d", "d")]
+                  Found("shared", "u", "b", "c", "b"), Found("present", "d", "d"), Found("tree", "v/", "e")]
         self.assertEqual(wanted, list(read_answer(list(text), {"a.o": "A"}, set())))
 
     def test_text(self) -> None:

@@ -13,7 +13,7 @@ use Rattle.mk_missing.specs.declared.violations.Violations.{Violations}
 use Rattle.mk_missing.specs.Unlisted.{unlisted_names, is_unlisted}
 use Rattle.mk_missing.specs.Files.{IsFile, IsInputFile, IsLastWriterOf, WatchesFile, often, by_name, by_chain, by_writer, not_there, writes_file}
 use Rattle.mk_missing.specs.Finding.{AreChecked, AreFound, IsInTime, IsKnown, IsSeen, IsTogether, IsWatched}
-use Rattle.mk_missing.specs.Violations.{AreAll, HasNone, IsLate, IsMissing, IsPresent, IsShared, IsUnwatched, IsUnlistedInput}
+use Rattle.mk_missing.specs.Violations.{AreAll, IsLate, IsMissing, IsPresent, IsShared, IsUnwatched, IsUnlistedInput}
 use Rattle.mk_missing.proofs.NotListed.{Seeker, unsought_there, written_there}
 use Rattle.mk_missing.proofs.Fresh.{covers_file}
 use Rattle.mk_missing.proofs.Presents.{not_true}
@@ -53,7 +53,7 @@ shared_apart jobs n p shared together = elim (together shared.writes shared.writ
   | inr runs ↦ shared.apart runs
 ]
 
-no_pair : {X : Type 0} (x : X) → Contains [] x → ⊥
+pub no_pair : {X : Type 0} (x : X) → Contains [] x → ⊥
 no_pair x there = omega (arith, there.1)
 
 -- nothing is in a list only if the list is empty
@@ -158,37 +158,42 @@ module _ (jobs : Jobs) (shape : IsWellFormed jobs) where
       (missing : AreFound found.files.items (IsMissing jobs listing) (IsSeen jobs listing) found.missing.items (length found.files.items))
       (late : AreFound found.files.items (IsLate jobs) (IsInTime jobs) found.late.items (length found.files.items))
       (shared : AreFound found.files.items (IsShared jobs) (IsTogether jobs) found.shared.items (length found.files.items))
-      (present_down : (n : ℕ) → Contains found.present.items n → IsPresent jobs n) (present_up : (n : ℕ) → IsPresent jobs n → Contains found.present.items n) where
-    pub declared_if : HasNone found → IsDeclared jobs (unlisted_names jobs listing)
-    declared_if none = record {
+      (present_up : (n : ℕ) → IsPresent jobs n → Contains found.present.items n) where
+    pub declared_if : found.missing.items ≡ [] → found.late.items ≡ [] → found.shared.items ≡ [] → found.present.items ≡ [] → IsDeclared jobs (unlisted_names jobs listing)
+    declared_if no_missing no_late no_shared no_present = record {
       watched = λ n x input.
           let at = file_for jobs shape found.files.items n x rise_files up (inl input.reads) in
-          elim (all_fine found.files.items (IsMissing jobs listing) (IsSeen jobs listing) found.missing.items missing none.missing n at.path (up at.path at.is_file)) [
+          elim (all_fine found.files.items (IsMissing jobs listing) (IsSeen jobs listing) found.missing.items missing no_missing n at.path (up at.path at.is_file)) [
             | inl unlisted ↦ inl (unlisted_by listing at.path x at.stands unlisted)
             | inr fine ↦ inr (name_watched n at.path x at.stands (fine (input_file n at.path x at.stands input)))
           ];
       earlier = λ n m x input may.
           let at = file_for jobs shape found.files.items n x rise_files up (inl input.reads) in
-          let fine = all_fine found.files.items (IsLate jobs) (IsInTime jobs) found.late.items late none.late n at.path (up at.path at.is_file) in
+          let fine = all_fine found.files.items (IsLate jobs) (IsInTime jobs) found.late.items late no_late n at.path (up at.path at.is_file) in
           fine (input_file n at.path x at.stands input) m (at.stands.writes m may);
       last = λ n w x may last.
           let at = file_for jobs shape found.files.items n x rise_files up (inr may) in
-          let fine = all_fine found.files.items (IsShared jobs) (IsTogether jobs) found.shared.items shared none.shared n at.path (up at.path at.is_file) in
+          let fine = all_fine found.files.items (IsShared jobs) (IsTogether jobs) found.shared.items shared no_shared n at.path (up at.path at.is_file) in
           fine (at.stands.writes n may) w (last_file w at.path x at.stands last);
       made = λ n x may. written_there jobs listing n x may;
       absent = λ n live plain. elim (cases_Bool (is_listed jobs n)) [
         | inr nay ↦ nay
-        | inl listed ↦ absurd (no_pair n (subst (λ (ns : List ℕ). Contains ns n) none.present (present_up n (record { live = live; plain = plain; listed = listed }))))
+        | inl listed ↦ absurd (no_pair n (subst (λ (ns : List ℕ). Contains ns n) no_present (present_up n (record { live = live; plain = plain; listed = listed }))))
       ];
     }
 
+  module _ (listing : List Name) (found : Violations) (rise_files : (p : Path) → Contains found.files.items p → IsFile jobs p)
+      (missing : AreFound found.files.items (IsMissing jobs listing) (IsSeen jobs listing) found.missing.items (length found.files.items))
+      (late : AreFound found.files.items (IsLate jobs) (IsInTime jobs) found.late.items (length found.files.items))
+      (shared : AreFound found.files.items (IsShared jobs) (IsTogether jobs) found.shared.items (length found.files.items))
+      (present_down : (n : ℕ) → Contains found.present.items n → IsPresent jobs n) where
     -- the name for the file at a place
     name_at : (k : ℕ) → k < length found.files.items → NameFor jobs shape (path_at found.files.items k)
     name_at k below = name_for jobs shape (path_at found.files.items k) (rise_files _ (Contains-get_or found.files.items k (record { name = []; tree = false }) below))
 
-    pub none_if : IsDeclared jobs (unlisted_names jobs listing) → HasNone found
-    none_if declared = record {
-      missing = empty_if found.missing.items (λ pair there.
+    pub none_if : IsDeclared jobs (unlisted_names jobs listing) → (found.missing.items ≡ []) × (found.late.items ≡ []) × (found.shared.items ≡ []) × (found.present.items ≡ [])
+    none_if declared = (
+      empty_if found.missing.items (λ pair there.
           let is = missing.only pair.0 pair.1 there in
           let name = name_at pair.0 is.0 in
           let p = path_at found.files.items pair.0 in
@@ -196,22 +201,22 @@ module _ (jobs : Jobs) (shape : IsWellFormed jobs) where
           elim (declared.watched pair.1 name.name input) [
             | inl fixed ↦ both_ways (is_unlisted jobs listing p) is.1.known (by_unlisted listing p name fixed)
             | inr watches ↦ is.1.is.unwatched (file_watched pair.1 p name (live_node jobs pair.1 (reader_live jobs pair.1 name.name input.reads)) watches)
-          ]);
-      late = empty_if found.late.items (λ pair there.
+          ]),
+      empty_if found.late.items (λ pair there.
           let is = late.only pair.0 pair.1 there in
           let name = name_at pair.0 is.0 in
           let p = path_at found.files.items pair.0 in
           is.1.late (declared.earlier pair.1 is.1.writer name.name (file_input pair.1 p name.name name.stands is.1.input)
-          (writes_name jobs shape is.1.writer p name.name name.stands.covering is.1.writes)));
-      shared = empty_if found.shared.items (λ pair there.
+          (writes_name jobs shape is.1.writer p name.name name.stands.covering is.1.writes))),
+      empty_if found.shared.items (λ pair there.
           let is = shared.only pair.0 pair.1 there in
           let name = name_at pair.0 is.0 in
           let p = path_at found.files.items pair.0 in
           elim (declared.last pair.1 is.1.writer name.name (writes_name jobs shape pair.1 p name.name name.stands.covering is.1.writes) (last_name is.1.writer p name.name name.stands is.1.last)) [
             | inl same ↦ is.1.other same
             | inr runs ↦ is.1.apart runs
-          ]);
-      present = empty_if found.present.items (λ n there.
+          ]),
+      empty_if found.present.items (λ n there.
           let is = present_down n there in
-          both_ways (is_listed jobs n) (declared.absent n is.live is.plain) is.listed);
-    }
+          both_ways (is_listed jobs n) (declared.absent n is.live is.plain) is.listed),
+    )

@@ -17,10 +17,11 @@ use Rattle.mk_missing.specs.Files.{IsFile}
 use Rattle.mk_missing.specs.Finding.{AreChecked, IsKnown, IsSeen, IsWatched}
 use Rattle.mk_missing.specs.Kinds.{IsFine, IsWrong}
 use Rattle.mk_missing.specs.Users.{AreUsers, files_of, is_nowhere}
-use Rattle.mk_missing.specs.Violations.{AreLast, AreLateBy, AreSoMany, AreViolations, HasNone, IsLate, IsMissing, IsUnlistedInput, IsPresent, IsShared, IsUnwatched}
+use Rattle.mk_missing.specs.Violations.{AreLast, AreLateBy, ArePlaces, AreSoMany, AreViolations, HasNone, IsLate, IsListedOutput, IsMissing, IsUnlistedInput, IsPresent, IsShared, IsUnwatched, IsWrittenTree, ListsNoOutputs, WriteNoTrees}
 use Rattle.mk_missing.proofs.NotListed.{mark_at}
 use Rattle.mk_missing.proofs.Filters.{kept_checked}
-use Rattle.mk_missing.proofs.Declaring.{unlisted_apart, all_are, declared_if, late_apart, missing_apart, none_if, shared_apart}
+use Rattle.mk_missing.proofs.Declaring.{unlisted_apart, all_are, declared_if, late_apart, missing_apart, no_pair, none_if, shared_apart}
+use Rattle.mk_missing.proofs.Alone.{no_outputs_if, no_outputs_then, no_trees_if, no_trees_then}
 use Rattle.mk_missing.proofs.Presents.{not_true}
 use Rattle.mk_missing.proofs.Naming.{each_pair, last_are}
 
@@ -68,6 +69,8 @@ pub record AreResults (jobs : Jobs) (listing : List Name) (users : List Users) (
   pub shared : AreChecked (files_of users) (IsWrong jobs Shared) (IsFine jobs Shared) found.shared.items
   pub present_rise : IsStrictlyIncreasing found.present.items
   pub present : (n : ℕ) → Contains found.present.items n ↔ IsPresent jobs n
+  pub outputs : ArePlaces (files_of users) (IsListedOutput jobs listing) found.outputs.items
+  pub trees : ArePlaces (files_of users) (IsWrittenTree jobs) found.trees.items
 
 module _ (jobs : Jobs) (listing : List Name) (users : List Users) (found : Violations) (shape : IsWellFormed jobs) (are : AreResults jobs listing users found) where
   files : (p : Path) → Contains found.files.items p ↔ IsFile jobs p
@@ -100,6 +103,12 @@ module _ (jobs : Jobs) (listing : List Name) (users : List Users) (found : Viola
         count = sym are.unlisted;
       })
 
+  outputs : ArePlaces found.files.items (IsListedOutput jobs listing) found.outputs.items
+  outputs = subst (λ (ps : List Path). ArePlaces ps (IsListedOutput jobs listing) found.outputs.items) (sym are.same) are.outputs
+
+  trees : ArePlaces found.files.items (IsWrittenTree jobs) found.trees.items
+  trees = subst (λ (ps : List Path). ArePlaces ps (IsWrittenTree jobs) found.trees.items) (sym are.same) are.trees
+
   pub violations_are : AreViolations jobs listing found
   violations_are = record {
     rise = subst (IsStrictlySortedBy path_cmp) (sym are.same) are.rise;
@@ -112,9 +121,11 @@ module _ (jobs : Jobs) (listing : List Name) (users : List Users) (found : Viola
     shared = all_are found.files.items (IsShared jobs) (IsFine jobs Shared) found.shared.items (checked Shared found.shared.items are.shared) (shared_apart jobs);
     present_rise = are.present_rise;
     present = are.present;
+    outputs = outputs;
+    trees = trees;
   }
 
-  pub declared_is : HasNone found ↔ IsDeclared jobs (unlisted_names jobs listing)
+  pub declared_is : HasNone found ↔ (IsDeclared jobs (unlisted_names jobs listing) × WriteNoTrees jobs × ListsNoOutputs jobs listing)
   declared_is =
       let down = λ (p : Path). (files p).0 in
       let up = λ (p : Path). (files p).1 in
@@ -122,6 +133,21 @@ module _ (jobs : Jobs) (listing : List Name) (users : List Users) (found : Viola
       let shared = (checked Shared found.shared.items are.shared).found in
       let present_down = λ (n : ℕ). (are.present n).0 in
       let present_up = λ (n : ℕ). (are.present n).1 in (
-        declared_if jobs shape listing found down up missing.found late shared present_down present_up,
-        none_if jobs shape listing found down up missing.found late shared present_down present_up,
+        λ none.
+            let trees_none = no_trees_if jobs listing shape found.files.items up found.outputs.items found.trees.items outputs trees none.trees in
+            let absent = λ (n : ℕ) (present : IsPresent jobs n). no_pair n (subst (λ (ns : List ℕ). Contains ns n) none.present (present_up n present)) in (
+              declared_if jobs shape listing found down up missing.found late shared present_up none.missing none.late none.shared none.present,
+              trees_none,
+              no_outputs_if jobs listing shape found.files.items up found.outputs.items found.trees.items outputs trees absent none.outputs trees_none,
+            ),
+        λ all.
+            let none = none_if jobs shape listing found down missing.found late shared present_down all.0 in
+            record {
+              missing = none.0;
+              late = none.1;
+              shared = none.2;
+              present = none.3;
+              outputs = no_outputs_then jobs listing shape found.files.items up found.outputs.items found.trees.items outputs trees all.2;
+              trees = no_trees_then jobs listing shape found.files.items up found.outputs.items found.trees.items outputs trees all.1;
+            },
       )

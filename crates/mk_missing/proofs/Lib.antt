@@ -1,4 +1,5 @@
 pub mod Adding
+pub mod Alone
 pub mod Awake
 pub mod Declaring
 pub mod Exact

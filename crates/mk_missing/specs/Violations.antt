@@ -1,10 +1,10 @@
 -- What undeclared jobs lack, kind by kind, and whole lists of it.
 use Rattle.std.specs.Prelude.{ℕ, ◌≡◌, ◌≢◌, ◌<◌, ◌↔◌, true, false, List, [], Contains, Option, None, get_or, length}
 use Rattle.std.specs.List.Sorted.{IsStrictlyIncreasing, IsStrictlySortedBy}
-use Rattle.mk_name.specs.Names.{Name}
+use Rattle.mk_name.specs.Names.{Name, has, same_name}
 use Rattle.mk_path.specs.declared.path.Path.{Path}
 use Rattle.mk_path.specs.Paths.{path_cmp, path_at}
-use Rattle.mk_jobs.specs.Jobs.{Jobs, Before, is_listed, is_live, is_phony}
+use Rattle.mk_jobs.specs.Jobs.{Jobs, Before, is_listed, is_live, is_phony, may_write, name_of, writes_of}
 use Rattle.mk_decide.specs.Pairs.{IsRising}
 use Rattle.mk_stale.specs.Watching.{RunsWith}
 use Rattle.mk_missing.specs.Unlisted.{is_unlisted}
@@ -47,6 +47,25 @@ pub record IsPresent (jobs : Jobs) (n : ℕ) : Type 0 where
   pub plain : is_phony jobs n ≡ false
   pub listed : is_listed jobs n ≡ true
 
+-- present too: a recipe writes the file p, which is listed, and no present node has its name
+pub record IsListedOutput (jobs : Jobs) (listing : List Name) (p : Path) : Type 0 where
+  pub file : p.tree ≡ false
+  pub writer : ℕ
+  pub writes : writes_file jobs writer p ≡ true
+  pub listed : has same_name listing p.name ≡ true
+  pub other : (n : ℕ) → name_of jobs n ≡ p.name → IsPresent jobs n → ⊥
+
+-- tree: p is a tree that a recipe writes
+pub record IsWrittenTree (jobs : Jobs) (p : Path) : Type 0 where
+  pub tree : p.tree ≡ true
+  pub writer : ℕ
+  pub writes : writes_file jobs writer p ≡ true
+
+-- the places of the files for which this holds, in order
+pub record ArePlaces (files : List Path) (Holds : Path → Type 0) (places : List ℕ) : Type 0 where
+  pub rise : IsStrictlyIncreasing places
+  pub exact : (k : ℕ) → Contains places k ↔ ((k < length files) × Holds (path_at files k))
+
 -- the pairs of a file's place and a node for which this holds, each once, in order
 pub record AreAll (files : List Path) (Holds : ℕ → Path → Type 0) (pairs : List (ℕ × ℕ)) : Type 0 where
   pub rise : IsRising pairs
@@ -86,6 +105,8 @@ pub record AreViolations (jobs : Jobs) (listing : List Name) (found : Violations
   pub shared : AreAll found.files.items (IsShared jobs) found.shared.items
   pub present_rise : IsStrictlyIncreasing found.present.items
   pub present : (n : ℕ) → Contains found.present.items n ↔ IsPresent jobs n
+  pub outputs : ArePlaces found.files.items (IsListedOutput jobs listing) found.outputs.items
+  pub trees : ArePlaces found.files.items (IsWrittenTree jobs) found.trees.items
 
 -- there is no violation of any kind
 pub record HasNone (found : Violations) : Type 0 where
@@ -93,3 +114,13 @@ pub record HasNone (found : Violations) : Type 0 where
   pub late : found.late.items ≡ []
   pub shared : found.shared.items ≡ []
   pub present : found.present.items ≡ []
+  pub outputs : found.outputs.items ≡ []
+  pub trees : found.trees.items ≡ []
+
+-- no recipe writes a tree
+abbrev pub WriteNoTrees : Jobs → Type 0
+WriteNoTrees jobs = (n : ℕ) (p : Path) → Contains (writes_of jobs n) p → p.tree ≡ false
+
+-- no recipe may write what is listed
+abbrev pub ListsNoOutputs : Jobs → List Name → Type 0
+ListsNoOutputs jobs listing = (n : ℕ) (x : Name) → may_write jobs n x ≡ true → has same_name listing x ≡ false

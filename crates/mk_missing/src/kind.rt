@@ -13,6 +13,13 @@ pub(crate) enum Kind {
     Shared,
 }
 
+/// What can be wrong with a file by itself: a recipe writes it, and it is listed; or it is a tree that a recipe writes.
+#[derive(Clone, Copy, Debug)]
+pub(crate) enum Flaw {
+    Listed,
+    Tree,
+}
+
 /// The users of a file with which something of this kind can be wrong.
 pub(crate) fn nodes_of(kind: Kind, users: &Users) -> &[u32]
     ensures { result.now ≡ spec.nodes_of kind users.now }

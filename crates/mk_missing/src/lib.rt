@@ -6,6 +6,7 @@
 
 mod always;
 mod checker;
+mod flaws;
 mod hearing;
 mod kept;
 mod kind;

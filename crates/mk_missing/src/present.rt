@@ -22,7 +22,7 @@ pub(crate) fn present_nodes(alloc: Global, jobs: &Jobs) -> Result<Vec<u32>, Allo
 }
 
 /// Whether a node is live and not phony, and is listed.
-fn is_present(jobs: &Jobs, n: u32) -> bool
+pub(crate) fn is_present(jobs: &Jobs, n: u32) -> bool
     requires { n < node_count jobs.now }
     ensures { result ≡ spec.is_live jobs.now n && not (spec.is_phony jobs.now n) && spec.is_listed jobs.now n }
 {

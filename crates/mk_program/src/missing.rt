@@ -72,6 +72,8 @@ fn has_none(found: &Violations) -> bool
         && found.late.is_empty()
         && found.shared.is_empty()
         && found.present.is_empty()
+        && found.outputs.is_empty()
+        && found.trees.is_empty()
 }
 
 /// Whether there is no change.

@@ -1,5 +1,5 @@
 -- The report of what keeps jobs from being declared. Every line ends in a newline.
-use Rattle.std.specs.Prelude.{ℕ, ◌&&◌, Bool, true, not, List, [], ◌++◌, Option, Some, None, codes, get_or, length, nat_lt, slice_get, zip, if◌then◌else◌}
+use Rattle.std.specs.Prelude.{ℕ, ◌+◌, ◌&&◌, Bool, true, not, List, [], ◌++◌, Option, Some, None, codes, get_or, length, nat_lt, slice_get, zip, if◌then◌else◌}
 use Rattle.std.specs.List.{flat_map}
 use Rattle.mk_name.specs.Names.{Name, has, same_name}
 use Rattle.mk_name.specs.Shown.{line, shown}
@@ -77,6 +77,14 @@ shared_lines jobs n last path = line (path_text (codes "shared") path ++ writes_
 abbrev pub present_line : Jobs → ℕ → List ℕ
 present_line jobs n = line (codes "present" ++ name_text jobs n)
 
+-- so is another file that a recipe writes
+abbrev pub output_line : Path → List ℕ
+output_line path = line (codes "present " ++ shown (text_of path))
+
+-- the path is a tree that its last writer writes
+abbrev pub tree_line : Jobs → Option ℕ → Path → List ℕ
+tree_line jobs last path = line (path_text (codes "tree") path ++ last_text jobs last)
+
 -- what is written of a file; nothing where there is none
 abbrev pub of_file : Option Path → (Path → List ℕ) → List ℕ
 of_file None text = []
@@ -99,13 +107,21 @@ late_pair jobs found late = of_file (file_at found late.0.0) (late_line jobs lat
 abbrev pub shared_pair : Jobs → Violations → ℕ × ℕ → List ℕ
 shared_pair jobs found pair = of_file (file_at found pair.0) (shared_lines jobs pair.1 (last_at found pair.0))
 
+-- what is written of the place of a file, by what is wrong with it
+abbrev pub output_at : Violations → ℕ → List ℕ
+output_at found k = of_file (file_at found k) output_line
+
+abbrev pub tree_at : Jobs → Violations → ℕ → List ℕ
+tree_at jobs found k = of_file (file_at found k) (tree_line jobs (last_at found k))
+
 -- how many there are of each kind, how many unlisted inputs and races there are, and the counts
 abbrev pub missing_head : Jobs → ℕ → Violations → List ℕ
 missing_head jobs races found =
     number_line (codes "missing") (length found.missing.items)
     ++ number_line (codes "late") (length found.late.items)
     ++ number_line (codes "shared") (length found.shared.items)
-    ++ number_line (codes "present") (length found.present.items)
+    ++ number_line (codes "present") (length found.present.items + length found.outputs.items)
+    ++ number_line (codes "tree") (length found.trees.items)
     ++ number_line (codes "unlisted") found.unlisted
     ++ number_line (codes "races") races
     ++ counts_text jobs
@@ -118,3 +134,5 @@ missing_text jobs listing races found =
     ++ flat_map (late_pair jobs found) (zip found.late.items found.late_by.items)
     ++ flat_map (shared_pair jobs found) found.shared.items
     ++ flat_map (present_line jobs) found.present.items
+    ++ flat_map (output_at found) found.outputs.items
+    ++ flat_map (tree_at jobs found) found.trees.items

@@ -33,6 +33,8 @@ pub fn missing_report(
     push_all_late(&mut out, alloc, jobs, found)?;
     push_all_shared(&mut out, alloc, jobs, found)?;
     push_all_present(&mut out, jobs, &found.present)?;
+    push_all_outputs(&mut out, alloc, found)?;
+    push_all_trees(&mut out, alloc, jobs, found)?;
     Ok(out)
 }
 
@@ -45,10 +47,12 @@ fn push_head(
 ) -> Result<(), AllocError>
     ensures { OnOk result (out.new.items ≡ out.old.items ++ spec.missing_head jobs.now races found.now) }
 {
+    let present = found.present.len() as u64 + found.outputs.len() as u64;
     push_number(out, b"missing", found.missing.len() as u64)?;
     push_number(out, b"late", found.late.len() as u64)?;
     push_number(out, b"shared", found.shared.len() as u64)?;
-    push_number(out, b"present", found.present.len() as u64)?;
+    push_number(out, b"present", present)?;
+    push_number(out, b"tree", found.trees.len() as u64)?;
     push_number(out, b"unlisted", found.unlisted as u64)?;
     push_number(out, b"races", races as u64)?;
     push_counts(out, jobs)
@@ -109,6 +113,31 @@ fn push_all_present(out: &mut Vec<u8>, jobs: &Jobs, nodes: &[u32]) -> Result<(),
 {
     for node in nodes {
         push_present(out, jobs, *node)?;
+    }
+    Ok(())
+}
+
+/// Puts the lines of further listed outputs at the end. The only error is out of memory.
+fn push_all_outputs(out: &mut Vec<u8>, alloc: Global, found: &Violations) -> Result<(), AllocError>
+    ensures { OnOk result (out.new.items ≡ out.old.items ++ flat_map (spec.output_at found.now) found.now.outputs.items) }
+{
+    for place in &found.outputs {
+        push_output(out, alloc, found, *place)?;
+    }
+    Ok(())
+}
+
+/// Puts the lines of trees that recipes write at the end. The only error is out of memory.
+fn push_all_trees(
+    out: &mut Vec<u8>,
+    alloc: Global,
+    jobs: &Jobs,
+    found: &Violations,
+) -> Result<(), AllocError>
+    ensures { OnOk result (out.new.items ≡ out.old.items ++ flat_map (spec.tree_at jobs.now found.now) found.now.trees.items) }
+{
+    for place in &found.trees {
+        push_tree(out, alloc, jobs, found, *place)?;
     }
     Ok(())
 }
@@ -175,6 +204,66 @@ fn push_present(out: &mut Vec<u8>, jobs: &Jobs, n: u32) -> Result<(), AllocError
 {
     out.extend_from_slice(b"present")?;
     push_name(out, jobs, n)?;
+    out.push(b'\n')?;
+    Ok(())
+}
+
+/// Puts the line of a listed output at the end; none where its place is that of no file. The only error is out of memory.
+fn push_output(
+    out: &mut Vec<u8>,
+    alloc: Global,
+    found: &Violations,
+    place: u32,
+) -> Result<(), AllocError>
+    ensures { OnOk result (out.new.items ≡ out.old.items ++ spec.output_at found.now place) }
+{
+    match found.files.get(place as usize) {
+        Some(path) => push_output_line(out, alloc, path),
+        None => Ok(()),
+    }
+}
+
+/// Puts the line of a tree that recipes write at the end; none where its place is that of no file. The only error is out of
+/// memory.
+fn push_tree(
+    out: &mut Vec<u8>,
+    alloc: Global,
+    jobs: &Jobs,
+    found: &Violations,
+    place: u32,
+) -> Result<(), AllocError>
+    ensures { OnOk result (out.new.items ≡ out.old.items ++ spec.tree_at jobs.now found.now place) }
+{
+    let last = last_at(found, place);
+    match found.files.get(place as usize) {
+        Some(path) => push_tree_line(out, alloc, jobs, last, path),
+        None => Ok(()),
+    }
+}
+
+/// Puts the line at the end that a file is listed, which a recipe writes. The only error is out of memory.
+fn push_output_line(out: &mut Vec<u8>, alloc: Global, path: &Path) -> Result<(), AllocError>
+    ensures { OnOk result (out.new.items ≡ out.old.items ++ spec.output_line path.now) }
+{
+    let spelled = text_of(alloc, path)?;
+    out.extend_from_slice(b"present ")?;
+    push_shown(out, &spelled)?;
+    out.push(b'\n')?;
+    Ok(())
+}
+
+/// Puts the line at the end that the last writer of a tree writes it. The only error is out of memory.
+fn push_tree_line(
+    out: &mut Vec<u8>,
+    alloc: Global,
+    jobs: &Jobs,
+    last: Option<u32>,
+    path: &Path,
+) -> Result<(), AllocError>
+    ensures { OnOk result (out.new.items ≡ out.old.items ++ spec.tree_line jobs.now last path.now) }
+{
+    push_path(out, alloc, b"tree", path)?;
+    push_last(out, jobs, last)?;
     out.push(b'\n')?;
     Ok(())
 }

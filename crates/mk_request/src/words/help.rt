@@ -212,6 +212,8 @@ these kinds. NAME and NODE are files of the build:
   late PATH : NAME reads NODE writes       NODE writes PATH, and may do so after NAME
   shared PATH : NAME writes NODE writes    NODE writes PATH last, and may not run when NAME does
   present NAME                             a recipe makes NAME, and LISTING has it
+  tree PATH : NODE writes                  NODE may write all below the folder PATH: no footprint
+                                           shows that it removes what stood there
   plan NAME                                a second build, which finds what the first one made,
                                            lacks NAME or makes it in another way: an inference rule
                                            may find another source
@@ -232,9 +234,9 @@ A status of 0 means:
   - so they are with any number of jobs, and no `make clean` is needed;
   - this is proved, where the premises hold.
 The premises are those of `race check`, and for each build these: it runs to its end, and from the
-same MAKEFILE; a recipe leaves the same after the same inputs, whatever stood there before; only
-sources are edited, and are newer than all files then; unlisted inputs never change, and absent
-ones stay absent. docs/THEOREM.md has them all.
+same MAKEFILE; a recipe looks at what it may write only after it wrote it, and writes or removes
+all that stood there; only sources are edited, and are newer than all files then; unlisted inputs
+never change, and absent ones stay absent. docs/THEOREM.md has them all.
 
 Example, an object that uses a header, and does not say so:
   $ printf 'a.o: a.c\\n\\tcc -c a.c\\n' > makefile
@@ -245,6 +247,7 @@ Example, an object that uses a header, and does not say so:
   late 0
   shared 0
   present 0
+  tree 0
   unlisted 0
   races 0
   nodes 2

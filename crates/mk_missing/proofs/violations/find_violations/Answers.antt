@@ -1,5 +1,6 @@
-use Rattle.std.proofs.Common.{ℕ, ◌≡◌, ◌∙◌, Bool, false, not, List, ap, filter, get_or, length, map}
-use Rattle.mk_missing.specs.Users.{is_nowhere}
+use Rattle.std.proofs.Common.{ℕ, ◌≡◌, ◌∙◌, Bool, false, not, List, ap, filter, get_or, length, map, subst}
+use Rattle.mk_missing.specs.Users.{files_of, is_nowhere}
+use Rattle.mk_missing.specs.Violations.{ArePlaces, IsListedOutput, IsWrittenTree}
 use Rattle.mk_missing.specs.declared.kind.Kind.TheVariants.{Unwatched, Late, Shared}
 use Rattle.mk_missing.specs.declared.users.Users.{Users}
 use Rattle.mk_missing.proofs.Exact.{AreResults, checked_of, declared_is, late_by_of, late_of, violations_are}
@@ -25,6 +26,8 @@ results : (c : goal.After-drop-checker-inside-4) → AreResults c.args.jobs.now 
   late_by = c.in_ok-late_by.late_by;
   shared = c.in_ok-shared.shared;
   present = c.in_ok-present_nodes.field-0;
+  outputs = c.in_ok-outputs.outputs;
+  trees = c.in_ok-trees.trees;
 })
 results c =
     let jobs = c.args.jobs.now in
@@ -41,7 +44,7 @@ results c =
       rise = c.in_ok-users.ensures.rise;
       files = c.in_ok-users.ensures.files;
       used = c.in_ok-users.ensures.users;
-      last = c.in_ok-last_writers.ensures ∙ ap (map (λ (user : Users). user.last)) c.deref-8.ensures.value;
+      last = c.in_ok-last_writers.ensures ∙ ap (map (λ (user : Users). user.last)) c.deref-10.ensures.value;
       unwatched = unwatched;
       all_unwatched = checked_of jobs c.in_ok-checker.checker users c.deref.result.now Unwatched unwatched first c.deref.ensures.value c.in_ok-missing.ensures.pairs;
       missing = c.drop_unlisted-unlisted.ensures.kept ∙ ap (λ (ms : List Bool). filter (λ (pair : ℕ × ℕ). not (get_or ms pair.0 false)) unwatched) marks;
@@ -52,6 +55,8 @@ results c =
       shared = checked_of jobs c.late_writers.new.checker users c.deref-7.result.now Shared c.in_ok-shared.shared.items fourth c.deref-7.ensures.value c.in_ok-shared.ensures.pairs;
       present_rise = c.in_ok-present_nodes.ensures.rise;
       present = c.in_ok-present_nodes.ensures.exact;
+      outputs = subst (λ (us : List Users). ArePlaces (files_of us) (IsListedOutput jobs c.args.listing.now) c.in_ok-outputs.outputs.items) c.deref-8.ensures.value c.in_ok-outputs.ensures;
+      trees = subst (λ (us : List Users). ArePlaces (files_of us) (IsWrittenTree jobs) c.in_ok-trees.trees.items) c.deref-9.ensures.value c.in_ok-trees.ensures;
     }
 
 pub returns-clause-all : goal.returns-clause-all

@@ -1,0 +1,8 @@
+use Rattle.std.proofs.Common.{◌≡◌, ◌++◌, take}
+use Rattle.std.specs.List.{flat_map}
+use Rattle.mk_report.specs.MissingText.{output_at}
+use Rattle.mk_report.proofs.missing.push_all_outputs.Given as goal
+
+-- the lines so far are there
+abbrev pub invariant-loop-place : goal.invariant-loop-place
+invariant-loop-place l = l.out.items ≡ l.initial.out.items ++ flat_map (output_at l.found) (take l.place-index l.found.outputs.items)
