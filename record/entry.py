@@ -11,17 +11,19 @@ import sys
 import time
 import traceback
 from importlib import import_module
-from pathlib import Path
-from typing import Iterator, List
+from typing import Callable, Dict, Iterable, Iterator, List
 
 from record.messages import reason
 
 STOPPING = (signal.SIGINT, signal.SIGTERM, signal.SIGHUP, signal.SIGQUIT, signal.SIGALRM, signal.SIGUSR1, signal.SIGUSR2, signal.SIGXCPU)  # the last ones by batch systems
 UNHEARD: List[signal.Signals] = []  # what this program hears, and its caller ignores, as a build would
 FAILED = 3
-SHORT = 100  # bytes of a path that may stand in the first line of a script
+COERCED = ("C.UTF-8", "C.utf8", "UTF-8")  # locales that Python sets as it begins
 PATIENCE = 10  # so many seconds a build has to end
 OF_ITS_OWN = "Nothing of your project or its build is lost. Please report it: the command, and the lines above from Traceback on, which say where it stopped"
+
+
+Left = Callable[[], Iterable[int]]
 
 
 class Stopped(KeyboardInterrupt):
@@ -59,41 +61,36 @@ def traced(tracer: int) -> Iterator[int]:
     return (int(pid) for pid in filter(str.isdigit, os.listdir("/proc")) if b"\nTracerPid:\t%d\n" % tracer in read_of(pid, "status"))
 
 
-def left_of(room: str) -> Iterator[int]:
-    """The processes of a build whose tracer has ended before them: their PATH begins in the folder that the recorder has for it."""
-    return (int(pid) for pid in filter(str.isdigit, os.listdir("/proc")) if os.fsencode("PATH=%s/" % room) in read_of(pid, "environ"))
-
-
-def to_end(strace: "subprocess.Popen[bytes]", room: str) -> List[int]:
+def to_end(strace: "subprocess.Popen[bytes]", left: Left) -> List[int]:
     """The processes of a build. strace may have just begun, and then follows none yet; a signal to all may have ended it, and not them."""
     until = time.monotonic() + PATIENCE
     while True:
         is_over = strace.poll() is not None
-        found = list(left_of(room) if is_over else traced(strace.pid))
+        found = list(left() if is_over else traced(strace.pid))
         if found or is_over or time.monotonic() > until:
             return found
         time.sleep(0.02)
 
 
-def have_ended(strace: "subprocess.Popen[bytes]", room: str) -> bool:
+def have_ended(strace: "subprocess.Popen[bytes]", left: Left) -> bool:
     """Whether strace, and all processes of the build that it does not follow any more, end in time. Two looks have to show none: one that
     becomes another program has no environment for a moment."""
     until, looks = time.monotonic() + PATIENCE, 0
     while looks < 2 and time.monotonic() < until:
-        looks = looks + 1 if strace.poll() is not None and not any(left_of(room)) else 0
+        looks = looks + 1 if strace.poll() is not None and not any(left()) else 0
         time.sleep(0.02)
     return looks == 2
 
 
-def end_traced(strace: "subprocess.Popen[bytes]", room: str) -> None:
-    """Ends all processes of a build, and so strace, which hears no signal itself."""
+def end_traced(strace: "subprocess.Popen[bytes]", left: Left) -> None:
+    """Ends all processes of a build, and so strace, which hears no signal itself. `left`: those whose tracer has ended before them."""
     for number in (signal.SIGTERM, signal.SIGKILL):
-        for pid in to_end(strace, room):
+        for pid in to_end(strace, left):
             try:
                 os.kill(pid, number)
             except OSError:  # it has ended, or is of another user
                 pass
-        if have_ended(strace, room):
+        if have_ended(strace, left):
             return
     strace.kill()
     strace.wait()
@@ -104,14 +101,16 @@ def paths_of_python() -> List[str]:
     return [path for path in (sys.executable, os.path.realpath("/proc/self/exe")) if path]
 
 
-def interpreter(room: Path) -> str:
-    """What runs this, as the first line of a script can name it: a short path without blanks; else by a link in a folder."""
-    found = paths_of_python()
-    for path in found:
-        if len(os.fsencode(path)) < SHORT and not set(path) & set(" \t\n"):
-            return path
-    (room / "python").symlink_to(found[-1])
-    return str(room / "python")
+def forget_coerced(environment: Dict[str, str]) -> None:
+    """Takes out what Python itself puts there as it begins where the locale is C: programs would count the signs of a text in another way."""
+    if environment.get("LC_CTYPE") in COERCED:
+        try:
+            with open("/proc/self/environ", "rb") as file:
+                given = [one.partition(b"=")[2] for one in file.read().split(b"\0") if one.startswith(b"LC_CTYPE=")]
+        except OSError:  # there is no /proc, or it is of other processes
+            return
+        del environment["LC_CTYPE"]
+        environment.update({"LC_CTYPE": os.fsdecode(value) for value in given[:1]})
 
 
 def speak_utf8() -> None:

@@ -1,7 +1,7 @@
 """What an import needs of a build that has ended, in one folder. `--keep-trace` keeps it, so that the record can be made again: elsewhere, by another version.
 
 The folder holds what strace and each make said; `before` and `after`, what the machine answered before the build and behind it (machine.py); and
-`facts.json`, how the build was called and how it ended.
+`facts.json`, how the build was called and how it ended. Values of the environment are left out of what makes said, for they may be secrets.
 """
 
 import argparse
@@ -15,8 +15,10 @@ from record import machine
 from record.folder import Record
 from record.ninja.log import Kept
 from record.trace.names import Names
+from record.watch.files import keep_files
 
-OWN = ("bin", "wrapper", "outputs", "again", "*.start", "*.read", "stop.mk", "sifted.part")  # what the recorder put there to run the build; and copies, which are among the answers
+OWN = ("stop.mk", "sifted.part")  # what the recorder put there
+SAID = "said"  # the folder in it of what makes said
 
 
 @dataclass
@@ -28,14 +30,18 @@ class Facts:
     real: str  # the make
     names: Names  # the tree before the build
     kept: Kept  # what of ninja was there before
+    said: Path = Path("/nowhere")  # the folder of what makes said
+    said_place: str = ""  # its name while the build ran
+    covered: Sequence[str] = ()  # the makes over which copies with the library lay
 
     def keep(self, record: Record, options: argparse.Namespace, before: machine.Answers, after: machine.Answers, folder: Path) -> None:
         """Writes them, and what the machine answered."""
         shutil.copytree(self.spool, folder, ignore=shutil.ignore_patterns(*OWN))
+        keep_files(self.said, folder / SAID)
         before.write(folder / "before")
         after.write(folder / "after")
         about = {"words": record.words, "folder": record.folder, "status": record.status, "seconds": record.seconds, "tools": record.tools,
-                 "place": self.place, "real": self.real, "tops": self.names.tops, "linked": options.linked, "warm": options.warm}
+                 "place": self.place, "said": self.said_place, "covered": list(self.covered), "real": self.real, "tops": self.names.tops, "linked": options.linked, "warm": options.warm}
         (folder / "facts.json").write_text(json.dumps(about, indent=1) + "\n", encoding="utf-8")
 
 

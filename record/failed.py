@@ -83,14 +83,14 @@ def inner(work: Work) -> Set[int]:
 
 def tried(makes: Sequence[Make]) -> List[Make]:
     """The makes that failed for CMake, which only tried what a compiler does, and goes on then."""
-    return [make for make in makes if make.words.status and TRIED.search(make.folder)]
+    return [make for make in makes if make.words.has_failed and TRIED.search(make.folder)]
 
 
 def ignored(makes: Sequence[Make]) -> Set[int]:
     """What ran inside of other recipes than the one by which a make failed, and what CMake only tries: whether it failed did not matter."""
     found = {id(make) for make in tried(makes)}
     for make in makes:
-        failing = failed_job(make) if make.words.status else None
+        failing = failed_job(make) if make.words.has_failed else None
         if failing is not None:
             found.update(*(inner(work) for job, work in make.work.items() if job != id(failing[1])))
     return found
@@ -117,7 +117,7 @@ def unmade(makes: Sequence[Make], names: Names, folder: str) -> Dict[str, str]:
 def lacked(makes: Sequence[Make], names: Names, folder: str) -> List[str]:
     """What the recipe that failed first looked for and did not find, where another rule makes it: had it waited for that, the file
     would have been there. The recipes around it look for what makes inside of them look for; there this file alone counts."""
-    failed = {id(make) for make in makes if make.words.status} - ignored(makes)
+    failed = {id(make) for make in makes if make.words.has_failed} - ignored(makes)
     jobs = [(make, found[1]) for make in makes if id(make) in failed for found in [failed_job(make)] if found is not None]
     missed = [(make, job, {path for kind, path in make.work.get(id(job), Work()).events if kind == "N"}) for make, job in jobs]
     own = [(make.life.died, paths) for make, job, paths in missed if not failed.intersection(inner(make.work.get(id(job), Work())))]
@@ -142,8 +142,26 @@ def name_in_rules(make: Make, names: Names, path: str) -> str:
 
 def failures(makes: Sequence[Make], ninjas: Sequence[Ninja], folder: str) -> List[Failure]:
     """All that failed by itself, the first one first."""
-    failed = ({id(make) for make in makes if make.words.status} | {id(ninja) for ninja in ninjas if lost_jobs(ninja)}) - ignored(makes)
+    failed = ({id(make) for make in makes if make.words.has_failed} | {id(ninja) for ninja in ninjas if lost_jobs(ninja)}) - ignored(makes)
     return sorted([*of_makes(makes, failed, folder), *of_ninjas(ninjas, folder)], key=lambda one: one.ended)
+
+
+def passed_over(make: Make) -> str:
+    """What a make that failed had not come to, and may run with several jobs before that: a prerequisite of what it considered, or a goal. Nothing where
+    it had come to all of them."""
+    for one in make.words.rounds[-1:]:
+        base = one.base or Base()
+        wanted = [name for node in one.nodes for name in (*base.prerequisites.get(node, ()), *base.order_only.get(node, ()))]
+        wanted += base.values.get("MAKECMDGOALS", "").split() if one.stage == "goals" else []
+        return next((name for name in wanted if name not in one.nodes), "")
+    return ""
+
+
+def answers(makes: Sequence[Make], folder: str) -> List[str]:
+    """What is not known where makes failed and the build did not: that a make fails may be what it is asked for (`if $(MAKE) compare; then ..`), and then
+    it matters what else it might have run."""
+    found = [(make, passed_over(make)) for make in makes if make.words.has_failed and make not in tried(makes)]
+    return ["a make failed, and had not come to %s: %s" % (name, one) for make, name in found if name for one in of_makes([make], {id(make)}, folder)]
 
 
 def explained(holes: List[str], makes: Sequence[Make], ninjas: Sequence[Ninja], folder: str) -> List[str]:

@@ -6,7 +6,7 @@ from pathlib import Path
 from typing import Any, Dict, Optional, Tuple
 
 from record import machine
-from record.facts import Facts, begun, first_tree
+from record.facts import SAID, Facts, begun, first_tree
 from record.folder import Record
 from record.importing import Imported, complete, imported
 
@@ -18,6 +18,7 @@ def import_again(folder: Path, out: Optional[Path] = None) -> Tuple[Record, Impo
     with machine.answering(machine.Answers.written(folder / "before")):
         names, kept = first_tree(about["tops"], about["linked"])
     record = begun(about["words"], about["folder"], about["status"], about["seconds"], about["tools"])
-    facts, options = Facts(folder, about["place"], about["real"], names, kept), argparse.Namespace(warm=about["warm"], footprints=False, missing=False)
+    facts = Facts(folder, about["place"], about["real"], names, kept, folder / SAID, about["said"], about["covered"])
+    options = argparse.Namespace(warm=about["warm"], footprints=False, missing=False)
     with machine.answering(machine.Answers.written(folder / "after")):
         return record, complete(record, facts, out, options) if out else imported(record, facts, options.warm)

@@ -5,11 +5,12 @@ These modules are loaded while the build runs (main.py): that takes as long as P
 
 import argparse
 import gc
+import os
 import sys
 from dataclasses import dataclass
 from itertools import chain
 from pathlib import Path
-from typing import List, Set
+from typing import List, Optional, Set
 
 from record import machine
 from record.build.assumptions import Assumptions
@@ -18,11 +19,10 @@ from record.cleaned import Cleaned
 from record.clock import named_by_time
 from record.configured import find_configured
 from record.facts import Facts
-from record.failed import explained, failures, lacked, tried
+from record.failed import answers, explained, lacked, tried
 from record.folder import Record, write_record
 from record.footprints import write_footprints
 from record.make.build import MakeBuilder as Builder
-from record.make.cover import copy_of, way_to_cover
 from record.make.elsewhere import Elsewhere
 from record.make.owners import Owners, beginning
 from record.make.spellings import twice
@@ -31,7 +31,7 @@ from record.missing.inputs import write_missing
 from record.ninja.builds import versions as ninja_versions
 from record.ninja.builds import beside, find_ninjas, import_ninjas
 from record.ninja.runs import Ninja
-from record.premises import add_granted, add_granted_by_ninjas, idle_targets, named_by_ninja
+from record.premises import add_granted, add_granted_by_ninjas, idle_targets
 from record.progress import watched
 from record.tools.caches import settle_caches
 from record.tools.exists import credit_makes, settle_exists
@@ -47,6 +47,7 @@ from record.trace.sifting import SYSTEM, unseen_changes
 from record.trace.snapshots import Past
 from record.trace.strace import read_trace
 from record.unasked import unasked
+from record.watch.files import PRINTS, files_in, open_file, read_start
 from record.warm import did_nothing, made_unseen, stand_alone, warm_names
 
 
@@ -56,10 +57,11 @@ IDLE = "nothing was to be done, so nothing was seen: record a clean tree (make c
 def replay_trace(facts: Facts, folder: str) -> Calls:
     """The trace, played in the name space."""
     spool, names = facts.spool, facts.names
-    real, ran = machine.realpath(facts.real), copy_of(spool)
-    replay = Calls(names, facts.place, ran or real, folder, names.tops, machine.mask())
-    replay.covered = real if ran else ""
+    replay = Calls(names, facts.place, machine.realpath(facts.real), folder, names.tops, machine.mask())
     trace = spool / ("sifted" if (spool / "sifted").exists() and not names.leads_to(SYSTEM) else "trace")
+    if facts.said_place:
+        replay.own, replay.said, replay.covered = (facts.place, os.path.dirname(facts.said_place)), facts.said_place + "/", {*facts.covered}
+        note_silent(replay, facts.said)
     with open(trace, encoding="latin-1", newline="\n") as lines:
         for event in read_trace(watched(lines, trace.stat().st_size)):
             replay.play(event)
@@ -67,7 +69,15 @@ def replay_trace(facts: Facts, folder: str) -> Calls:
     return replay
 
 
-PRINTED = "a make that ran past the recorder prints the recorder's words, where a make started it (its version, what it considers, its data base): a file that keeps what it printed is not as without race-record, so clean the tree before you build again"
+def note_silent(replay: Calls, said: Path) -> None:
+    """The makes that say nothing of what they do: most only answer."""
+    for _, _, path in files_in(said):
+        with open_file(path) as lines:
+            start = read_start(lines)
+        if not start.says:
+            replay.silent.add(path.name)
+        if start.asks in PRINTS:
+            replay.holes.append("a make that prints its own words (-d, -p, --debug) cannot be seen: make " + " ".join(start.args)[:200])
 
 
 @dataclass
@@ -85,7 +95,7 @@ class Imported:
 
 def settle_all(replay: Calls, facts: Facts, assumed: Assumptions) -> Owners:
     """Puts what is meant in the place of what known programs did; who did what."""
-    logs = list(read_logs(facts.spool, facts.place))
+    logs = read_logs(facts.said, facts.said_place)
     settle_scripts(replay.lists, replay.all, logs)
     for kind, example in chain(settle(replay.all, replay.tops), settle_modules(replay.all)):
         assumed.add(kind, example)
@@ -101,23 +111,19 @@ def settle_all(replay: Calls, facts: Facts, assumed: Assumptions) -> Owners:
     return owners
 
 
-def cut_words(spool: Path, lives: List[Life]) -> List[str]:
+def cut_words(said: Path, lives: List[Life]) -> List[str]:
     """The makes whose words could not be kept."""
-    pids = sorted({int(path.name.split(".")[0]) for path in spool.glob("*.cut") if path.name[0].isdigit()})
+    pids = sorted({int(path.name.split(".")[0]) for path in said.glob("*.cut")})
     return [next((" ".join(life.argv)[:100] for life in lives if life.pid == pid and life.is_make), "make") for pid in pids]
 
 
-def note_holes(spool: Path, replay: Calls, owners: Owners, names: Names, record: Record) -> None:
+def note_holes(said: Path, replay: Calls, owners: Owners, names: Names, record: Record) -> None:
     """The holes of the trace itself, and of makes that ran past the recorder."""
-    record.holes += ["a limit on the size of files (ulimit -f) cuts what a make says: " + one for one in cut_words(spool, replay.all)]
+    record.holes += ["a limit on the size of files (ulimit -f) cuts what a make says: " + one for one in cut_words(said, replay.all)]
     record.holes += replay.holes + owners.holes + names.mounted({*mounts_below(*names.tops)}) + names.too_long() + twice(names, replay.all, owners.makes)
     record.holes += ["--fresh copied %s, which has a name outside of the folder too, and the build writes it" % path for path in replay.hard_links if path in names.shared]
     record.holes += ["nobody knows who started a process: " + one for one in replay.strays()]
-    record.holes += ["a make ran past the recorder: " + p for p in replay.past + replay.without_program()]
-    record.notes += [PRINTED] if (replay.past or replay.unread) and owners.makes else []
-    record.hints += way_to_cover(record.words, replay.real) if replay.past and not replay.covered else []
-    for path in sorted(spool.glob("*.past")):
-        record.holes += ["a make that prints its own words (-d, -p, --debug), or has nowhere to print them, ran past the recorder: " + t for t in path.read_text(errors="replace").splitlines()]
+    record.holes += ["a make ran past the recorder: " + words for words in replay.past]
 
 
 def add_seen(replay: Calls, assumed: Assumptions) -> None:
@@ -153,7 +159,7 @@ def import_record(facts: Facts, record: Record) -> Imported:
     owners = settle_all(replay, facts, assumed)
     if owners.makes:
         assumed.add("serial", "")
-    note_holes(facts.spool, replay, owners, names, record)
+    note_holes(facts.said, replay, owners, names, record)
     elsewhere = Elsewhere(owners, names)
     ninjas, ties, holes = find_ninjas(replay.all, owners, names, facts.kept, record.status == 0)
     add_granted_by_ninjas(ninjas, ties, owners, assumed)
@@ -164,7 +170,7 @@ def import_record(facts: Facts, record: Record) -> Imported:
         record.holes = explained(record.holes, owners.makes, ninjas, folder)
         record.hints = lacked(owners.makes, names, folder)
     else:
-        record.holes += ["a make failed: %s" % one for one in failures(owners.makes, [], folder)]
+        record.holes += answers(owners.makes, folder)
     for make in tried(owners.makes):
         assumed.add("tried", make.folder)
     if not owners.makes and not ninjas:
@@ -172,8 +178,9 @@ def import_record(facts: Facts, record: Record) -> Imported:
     for name in unasked(owners.makes, ninjas):
         assumed.add("unasked", name)
     add_seen(replay, assumed)
-    add_granted(owners, assumed, facts.place)
-    named_by_ninja(ninjas, assumed, facts.place)
+    add_granted(owners, assumed)
+    if owners.makes and not facts.covered:
+        assumed.add("preload", "")
     past = Past(names.before, replay.changes)
     builds = builds_of_makes(owners, elsewhere, past, names, assumed, record)
     for path in made_unseen(owners.makes, ninjas, names, past.until(sys.maxsize)):

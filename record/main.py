@@ -1,7 +1,6 @@
 """`race-record -- make [GOALS]` or `-- ninja`: one recorded build, and the verdict of `race` on it."""
 
 import argparse
-import marshal
 import os
 import re
 import shutil
@@ -14,22 +13,17 @@ import time
 from concurrent.futures import ThreadPoolExecutor
 from functools import lru_cache
 from importlib import import_module
-from importlib.util import find_spec
 from itertools import islice
 from pathlib import Path
 from typing import Dict, List, Optional, Set, Tuple, cast
 
 from record import RELEASE, VERSION, machine
-from record.entry import STOPPING, UNHEARD, Stopped, end_traced, interpreter
+from record.entry import STOPPING, UNHEARD, Stopped, end_traced, forget_coerced
 from record.messages import printable
 from record.facts import Facts, begun, first_tree
 from record.folder import NO_ROOM, Idle, NotWhole, Record, Taken, accept_warm, alone, aside, is_record, reading, rewrite, room_of_programs, rooms_of_programs, seconds_of, what_stands
 from record.judge import find_race, judge, no_race
-from record.make.cover import Cover
-from record.make.options import forget_coerced
-from record.make.outputs import note_output
-from record.make.unwrapped import name_real_makes
-from record.ninja.retry import JOBS, TRIES, by_hand, by_name, hints, tops_of, undo, with_jobs
+from record.ninja.retry import JOBS, TRIES, by_hand, hints, tops_of, undo, with_jobs
 from record.ninja.cold_copy import CannotClean, cold_copy, fresh_folder, saved_name
 from record.ninja.log import Kept
 from record.progress import Elapsed
@@ -39,7 +33,8 @@ from record.trace.classes import traced
 from record.trace.unfollowed import Older
 from record.trace.pipe import Pipe
 from record.trace.sifting import sift
-from record.unseen_makes import unseen
+from record.watch.lay import Watch, makes_of, why_silent
+from record.watch.library import NotBuilt
 
 STRACE = ["strace", "-f", "-q", "-y", "--seccomp-bpf", "-s", str(32 * os.sysconf("SC_PAGE_SIZE")), "-e", "signal=hup,int,quit,abrt,kill,segv,pipe,term,xfsz", "-e", "trace=" + traced()]
 EXAMPLE = """examples:
@@ -51,21 +46,9 @@ statuses: 0 safe, with --missing also nothing missing, 1 races or missing inputs
           2 no verdict on one of the two, 3 usage or a tool that is missing"""
 NOT_TRACED = ("strace may not follow processes here, so nothing was built (see its lines above). In a container allow it, such as docker run --cap-add=SYS_PTRACE; "
               "on a machine /proc/sys/kernel/yama/ptrace_scope must be less than 3")
-WRAPPER = ("record.make.limits", "record.make.lines", "record.make.options", "record.make.given", "record.make.copied", "record.make.heard", "record.make.outputs", "record.make.wrapper")
-PROGRAM = """#!%s -ISBXutf8
-import marshal, os, sys
-try:
-    file = open(%r, "rb")
-except OSError:  # of another user: it runs past the recorder
-    os.execv(%r, sys.argv)
-with file:
-    for name, code in marshal.loads(file.read()):
-        sys.modules[name] = module = type(sys)(name)
-        exec(code, module.__dict__)
-module.main(%r)
-"""
 PACKAGES = {"make": "make", "ninja": "ninja-build", "cmake": "cmake", "meson": "meson"}  # of Debian, by what builds
-JOB_WORDS = re.compile(r"(?:^| +)(?:-j[0-9]*|--jobserver-(?:auth|fds)=\S*)(?![^ ])")  # of MAKEFLAGS
+MAKES = ("make", "gmake", "bmake")
+SILENT = "%s cannot be recorded: %s. Nothing was built. Let a GNU make build, of version 4.2 or later (Debian: apt-get install make), and record again"
 SERIAL_FAILED = "the serial build failed"
 ASKED = min(4, os.cpu_count() or 1)  # how many builds `race` is asked about at once
 WARM = ("WARM: what was up to date did not run; record a clean tree (make clean, or --fresh for ninja), or, if builds start from this one, "
@@ -107,26 +90,14 @@ def versions() -> Dict[str, str]:
     return found
 
 
-@lru_cache(maxsize=None)
-def wrapper() -> bytes:
-    """The modules of the wrapper as it loads them, compiled."""
-    return marshal.dumps([(name, find_spec(name).loader.get_code(name)) for name in WRAPPER])  # type: ignore[union-attr]
-
-
-def prepare_spool(spool: Path, real: str, past: Path) -> None:
-    """The wrapper under the names of make. It is compiled once: a build may start many."""
-    (spool / "bin").mkdir(parents=True)
-    (spool / "real").write_text(real)
-    (spool / "outputs").mkdir()
-    for stream in (1, 2):
-        note_output(str(spool), stream, "")
-    (spool / "wrapper").write_bytes(wrapper())
-    text = PROGRAM % (interpreter(spool), str(spool / "wrapper"), str(past), str(spool))
-    for name in ("make", "gmake"):
-        if shutil.which(name):
-            path = spool / "bin" / name
-            path.write_text(text)
-            path.chmod(0o755)
+def silent_make(word: str) -> str:
+    """What to say where the make of a command, or the first one on PATH, cannot say what it does; nothing where it can."""
+    for name in ([word] if os.path.basename(word) in MAKES else []) + ["make"]:
+        path = os.path.realpath(shutil.which(name) or "/")
+        why = why_silent(path) if os.path.isfile(path) else ""
+        if why:
+            return SILENT % (path, why)
+    return ""
 
 
 def has_calls(trace: Path) -> bool:
@@ -135,9 +106,10 @@ def has_calls(trace: Path) -> bool:
         return any(b"(" in line for line in islice(lines, 9))
 
 
-def enter(cover: Cover, older: Older, heard: object, held: Set[signal.Signals]) -> None:
+def enter(watch: Watch, older: Older, heard: object, held: Set[signal.Signals]) -> None:
     """What the process does first that becomes strace. `held`: the signals that it does not hear."""
-    cover.enter()
+    if watch.covered:
+        watch.lay()
     older.enter(heard)
     for one in STOPPING[1:]:
         if signal.getsignal(one) is not signal.SIG_IGN:
@@ -147,20 +119,17 @@ def enter(cover: Cover, older: Older, heard: object, held: Set[signal.Signals]) 
     signal.pthread_sigmask(signal.SIG_SETMASK, held)
 
 
-def environment(spool: Path) -> Dict[str, str]:
-    """The build's: the wrapper comes first on PATH. Where a recipe calls the recorder, the jobs of the make above are not for what is recorded."""
+def environment(watch: Watch) -> Dict[str, str]:
+    """The build's: that of the recorder, as it was given."""
     env = dict(os.environ)
     forget_coerced(env)
-    for name in {"MAKEFLAGS", "MFLAGS"}.intersection(env) if "MAKELEVEL" in env else ():
-        words, dashes, values = env[name].partition(" -- ")
-        env[name] = JOB_WORDS.sub("", words) + dashes + values
-    env["PATH"] = "%s:%s" % (spool / "bin", env.get("PATH", os.defpath))
-    return env
+    env.setdefault("PATH", os.defpath)  # by which strace finds the command
+    return watch.environment(env)
 
 
-def run_build(words: List[str], spool: Path, tops: List[str], cover: Cover, expected: float) -> Tuple[int, float]:
+def run_build(words: List[str], spool: Path, tops: List[str], watch: Watch, expected: float) -> Tuple[int, float]:
     """The build under strace; meanwhile its trace is sifted, and the modules are loaded that read it. Its status and seconds; `Missing` where nobody may trace."""
-    env = environment(spool)
+    env = environment(watch)
     began = time.monotonic()
     interrupts: List[int] = []  # the build hears them too, and may go on all the same
     old = signal.getsignal(signal.SIGINT)
@@ -170,7 +139,8 @@ def run_build(words: List[str], spool: Path, tops: List[str], cover: Cover, expe
     with ThreadPoolExecutor(3) as pool:
         words = STRACE + ["-o", str(pipe.path), "--"] + words
         held = cast(Set[signal.Signals], signal.pthread_sigmask(signal.SIG_BLOCK, STOPPING))  # until what has begun would be ended
-        process = subprocess.Popen(words, env=env, close_fds=False, preexec_fn=lambda: enter(cover, older, heard, held))  # what the caller has opened for the build stays open
+        process = subprocess.Popen(words, env=env, close_fds=False, preexec_fn=lambda: enter(watch, older, heard, held))  # what the caller has opened for the build stays open
+        watch.note(process.pid)
         ended, filled = threading.Event(), threading.Event()
         standstill, elapsed = Standstill(process.pid), Elapsed(expected)
 
@@ -180,13 +150,13 @@ def run_build(words: List[str], spool: Path, tops: List[str], cover: Cover, expe
 
         filling = pool.submit(pipe.fill, ended.wait, see)
         filling.add_done_callback(lambda _: filled.set())
-        covered = [cover.real] if cover.is_ready else []
-        sifting, loading = pool.submit(sift, pipe.file, tops, spool / "sifted", filled.wait, covered), pool.submit(import_module, "record.importing")
+        counting = [*watch.covered, env.get("PATH", os.defpath).split(":")[0]]  # where a shell looks first for programs
+        sifting, loading = pool.submit(sift, pipe.file, tops, spool / "sifted", filled.wait, counting), pool.submit(import_module, "record.importing")
         try:
             signal.pthread_sigmask(signal.SIG_SETMASK, held)
             status, seconds = process.wait(), time.monotonic() - began
         except BaseException:
-            end_traced(process, str(spool))
+            end_traced(process, watch.left)
             raise
         finally:
             ended.set()
@@ -276,19 +246,14 @@ def attempt(options: argparse.Namespace, words: List[str], tools: Dict[str, str]
     if rooms is None:
         raise Missing(NO_ROOM % ", ".join(rooms_of_programs()))
     room = Path(tempfile.mkdtemp(prefix="race-record-", dir=rooms))
-    spool = Path(os.path.realpath(room))
-    cover = Cover(spool, real, rooms)
+    spool, watch = Path(os.path.realpath(room)), Watch(rooms)
     try:
-        prepare_spool(spool, real, cover.past)
-        cover.prepare(names.tops)
-        if options.missing:
-            (spool / "again").touch()
-        status, seconds = run_build(by_name(words, real, is_covered=cover.can_be_laid), spool, names.tops, cover, options.expected)
-        record, facts = begun(options.words, folder, status, round(seconds, 2), dict(tools)), Facts(spool, str(spool), real, names, kept)
+        watch.prepare(makes_of(os.environ.get("PATH", os.defpath)))
+        status, seconds = run_build(words, spool, names.tops, watch, options.expected)
+        record, facts = begun(options.words, folder, status, round(seconds, 2), dict(tools)), Facts(spool, str(spool), real, names, kept, watch.said, str(watch.said), list(watch.covered))
         from record.importing import complete  # it was loaded while the build ran
         with machine.answering(after):
             found = complete(record, facts, out, options)
-        record.notes += name_real_makes(found.lives, str(spool / "bin"), names.tops)
         if before is not None and after is not None:
             facts.keep(record, options, before, after, out / "trace")
         if status != 1 or not any(stage.jobs for ninja in found.ninjas for stage in ninja.stages):
@@ -300,7 +265,7 @@ def attempt(options: argparse.Namespace, words: List[str], tools: Dict[str, str]
         return record, words != options.words and not changed
     finally:
         shutil.rmtree(room, ignore_errors=True)
-        cover.remove()
+        watch.remove()
 
 
 def record_all(options: argparse.Namespace, tools: Dict[str, str], out: Path) -> Record:
@@ -345,8 +310,8 @@ def run(options: argparse.Namespace) -> int:
         return judge_warm(out, race) if out.exists() else stop("there is no record in %s: which command builds the project? (race-record --warm -- make)" % out)
     if shutil.which(options.words[0]) is None:
         return stop(no_command(options.words[0]))
-    why = unseen(options.words)
-    if why is not None:
+    why = silent_make(options.words[0])
+    if why:
         return stop(why)
     try:
         with alone(out):
@@ -354,7 +319,7 @@ def run(options: argparse.Namespace) -> int:
     except Idle as idle:
         print("\n".join(["NO VERDICT", *("  - %s" % why for why in idle.args), "  the record that was in %s stays: race-report shows it" % out]))
         return 2
-    except (CannotClean, Missing, Taken) as fault:
+    except (CannotClean, Missing, NotBuilt, Taken) as fault:
         return stop(str(fault))
 
 

@@ -15,22 +15,17 @@ from record.trace.lives import Life
 from record.trace.names import Names
 from record.warm import is_beyond
 
-FLAGS = re.compile(r"\bM(?:AKE)?FLAGS\b")
 GUILE = re.compile(r"\$[({]guile\s")
 HANDS_JOBS = re.compile(r"\$(?:\(MAKE\)|\{MAKE\})|^[\s@-]*\+")  # lines of recipes that get the jobs of their make
 GROUPS = re.compile(r"(?:^|\s)(?:-[a-zA-Z]*O|--output-sync)")
-ENVIRONMENT = re.compile(r"(^|[;&|(\n`]\s*)(printenv\b|env\s*($|[|>;&])|export\s+-p|set\s*($|[|>;&]))|\$\{?PATH\b|\b(which|command\s+-[vV]|type)\s+g?make\b")
 
 
-def add_granted(owners: Owners, assumed: Assumptions, spool: str) -> None:
+def add_granted(owners: Owners, assumed: Assumptions) -> None:
     """All that is counted over makes and their jobs."""
     for make in owners.makes:
-        works = [w for w in (make.work.get(id(j)) for r in make.words.rounds for j in r.jobs) if w is not None]
-        for work in works:
+        for work in (w for w in (make.work.get(id(j)) for r in make.words.rounds for j in r.jobs) if w is not None):
             interpreters(work, assumed)
-        named_flags(make, works, assumed, spool)
-        if make.words.spoken:
-            assumed.add("language", "make " + make.words.args)
+        runs_guile(make, assumed)
         for name in make.words.loaded:
             assumed.add("loaded", name)
     at_once(owners, assumed)
@@ -38,7 +33,7 @@ def add_granted(owners: Owners, assumed: Assumptions, spool: str) -> None:
     beside(owners, assumed)
     asked(owners, assumed)
     for make in owners.makes:
-        if says_jobs(owners, make):
+        if says_jobs(make):
             assumed.add("jobs-said", "make " + make.words.args)
 
 
@@ -61,29 +56,11 @@ def interpreters(work: Work, assumed: Assumptions) -> None:
                 assumed.add("interpreters", " ".join(argv)[:60])
 
 
-def named_flags(make: Make, works: List[Work], assumed: Assumptions, spool: str) -> None:
-    """Makefiles and recipes that name what holds the recorder's words: MAKEFLAGS, and PATH; and makefiles that run programs inside of make."""
+def runs_guile(make: Make, assumed: Assumptions) -> None:
+    """Makefiles that run programs inside of make."""
     for name in sorted(makefiles(make.words)):
-        text = make.known_text(name) or ""
-        found = FLAGS.search(text)
-        if found:
-            assumed.add("flags", "%s in %s" % (found.group(), name))
-        if GUILE.search(text):
+        if GUILE.search(make.known_text(name) or ""):
             assumed.add("loaded", "$(guile ..) in %s" % name)
-    for argv in (a for work in works for life in work.lives if not life.is_make for a in life.ran):
-        if sees_words(argv, spool):
-            assumed.add("flags", " ".join(argv)[:60])
-
-
-def sees_words(argv: List[str], spool: str) -> bool:
-    """Whether a program's words hold those of the recorder, or ask for the environment that does."""
-    if argv[:1] and argv[0].startswith(spool):
-        return False
-    if shelltext.base_name(argv) == "printenv" or shelltext.base_name(argv) == "env" and len(argv) == 1:
-        return True
-    text = shelltext.shell_text(argv)
-    own = spool in " ".join(argv[1:]) or "--debug=v,j,m" in " ".join(argv[1:])
-    return own or bool(text and (FLAGS.search(text) or ENVIRONMENT.search(text)))
 
 
 def add_granted_by_ninja(ninjas: List[Ninja], owners: Owners, assumed: Assumptions) -> None:
@@ -117,14 +94,6 @@ def side_by_side(ninjas: List[Ninja], owners: Owners) -> List[List[str]]:
     return [second.argv for _, second in pairs]
 
 
-def named_by_ninja(ninjas: List[Ninja], assumed: Assumptions, spool: str) -> None:
-    """Commands of ninjas that name what holds the recorder's words, or show it; those below a make are its recipes."""
-    for life in (life for ninja in ninjas for stage in ninja.stages for job in stage.jobs for life in job.work.lives):
-        for argv in () if any(up.is_make for up in life.up()) else life.ran:
-            if sees_words(argv, spool):
-                assumed.add("flags", " ".join(argv)[:60])
-
-
 def asked(owners: Owners, assumed: Assumptions) -> None:
     """Makes that only ask (`make -n`), and yet run several lines, which have a `+` or name $(MAKE): these may run at once."""
     for life in owners.lives:
@@ -132,19 +101,15 @@ def asked(owners: Owners, assumed: Assumptions) -> None:
             assumed.add("queries", " ".join(life.argv)[:60])
 
 
-def says_jobs(owners: Owners, make: Make) -> bool:
+def says_jobs(make: Make) -> bool:
     """Whether a make whose errors are kept says there, with several jobs, that it is not handed the jobs of the make above, or does not take them;
     one that groups what recipes print names its folder around each of them."""
-    words, chain = make.words, list(make.life.up())
+    words = make.words
     if GROUPS.search(words.args + " " + words.flags) and words.output:
         return True
     if not words.kept_errors or not (words.below or make.is_called):
         return False
-    caller, above = next(((life, up) for life, up in zip(chain, chain[1:]) if up.is_make), (make.life, None))
-    outer, job = owners.of_life.get(id(above)), owners.jobs.get(id(caller))
-    bases = [one.base.recipes for one in outer.words.rounds if one.base is not None] if outer is not None else []
-    lines = [line for recipes in bases for line in recipes.get(job.target, ())] if job is not None else []
-    return bool(words.slots) or not any(HANDS_JOBS.search(line) for line in lines)
+    return bool(words.slots) or not any(HANDS_JOBS.search(line) for line in make.callers)
 
 
 def does_more(owners: Owners, life: Life) -> bool:

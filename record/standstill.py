@@ -17,7 +17,7 @@ CHANGE = re.compile(rb"O_(?:WRONLY|RDWR|CREAT|TRUNC)[^\n]*\) = \d+</(?!dev/|proc
                     rb"|\b(?:rename|unlink|rmdir|mkdir|mknod|link|symlink|truncate)\w*\([^\n]*\) = 0\n")
 STATUS = re.compile(r"Name:\t(.*)\n(?:.*\n)*?PPid:\t(\d+)\n")
 BUILDERS = ("make", "gmake", "ninja")
-LINE = ("race-record: no file was made or changed for %d minutes%s. A build is recorded with one job, so a recipe that waits for another one never ends: "
+LINE = ("race-record: no file was made or changed for %d minutes%s. With one job a recipe that waits for another one never ends: "
         "stop it with Ctrl-C (then there is no verdict), and let it need the other one. A long test or download may go on")
 
 

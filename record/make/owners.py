@@ -6,7 +6,7 @@ import os
 import re
 from dataclasses import dataclass, field
 from functools import cached_property
-from typing import Container, Dict, Iterable, Iterator, List, Optional, Set, Tuple
+from typing import Container, Dict, Iterable, Iterator, List, Optional, Sequence, Set, Tuple
 
 from record import machine
 from record.build.work import Tool, Work, take_piece, written_by
@@ -16,13 +16,14 @@ from record.make.asked import EVERYTHING, Asked, asked_in, is_of_linker
 from record.make.database import Base
 from record.make.globs import listed, patterns
 from record.make.idle import TAKES, idle_of, without_defaults, without_idle
-from record.make.one_job import says_one_job
-from record.make.options import asks_jobs
+from record.make.one_job import has_one_job
 from record.make.programs import Programs
 from record.make.searches import asked_names
-from record.make.words import SEVERAL, Job, Round, Words, makefiles
+from record.make.words import Job, Round, Words, makefiles
 from record.trace.events import ABSENT, ENTERED, LISTED, LOOKS, MAKE_LISTED, MAKE_OPENED, ORDER_SEEN, READ, REMOVED, SEEN
 from record.trace.lives import Life
+
+SHELL = re.compile(r"\$[({]shell\s|!=")  # what calls a program while make reads or expands a text
 
 
 @dataclass(eq=False)
@@ -44,6 +45,7 @@ class Make(Tool):
     lists: List[Tuple[int, str]] = field(default_factory=list)  # each list of a folder that it read by itself, or piece of one
     first_looks: Dict[int, Dict[str, int]] = field(default_factory=dict)  # by start and target: when make first looked at it
     stale: Set[str] = field(default_factory=set)  # makefiles that say something else by now
+    callers: Sequence[str] = ()  # the lines of the recipe that called it, as they stand in the makefile
     pieces: List[Tuple[int, List[Tuple[str, str, int]]]] = field(default_factory=list)  # what it did by itself, where it expands prerequisites late
 
     @cached_property
@@ -107,7 +109,7 @@ class Make(Tool):
         a make that none is above are the user's own."""
         if not any(life.is_make or life.is_ninja for life in self.life.up() if life is not self.life):
             return False
-        return self.words.slots == "1" and says_one_job(self.life) if self.words.slots else not (self.words.below or self.is_called or asks_jobs([], self.words.flags))
+        return (bool(self.words.slots) or not self.is_called) and has_one_job(self.words, self.life, self.callers)
 
 
 def beginning(make: Make, number: int) -> int:
@@ -176,7 +178,7 @@ class Owners:
             self.holes.extend(make.words.holes)
             self.match_jobs(make)
         for make in self.makes:
-            make.is_called = self.is_called(make)
+            make.is_called, make.callers = self.is_called(make), self.callers_of(make)
             self.collect(make)
 
     def add_make(self, life: Life, words: Words) -> None:
@@ -233,8 +235,6 @@ class Owners:
                 self.holes.append("a recipe that ran has no process: " + one.jobs[births.index(-1)].target)
             elif births != sorted(births):
                 self.holes.append("the jobs of make are not in the order of the trace: make " + make.words.args)
-        if SEVERAL + make.words.args not in make.words.holes and self.are_several(make):
-            self.holes.append(SEVERAL + make.words.args)
 
     def match_by_number(self, make: Make, kids: List[Life]) -> None:
         """Where they do not fit, or in more than one way: the k-th process of a number is the k-th job of that number, and the record has a hole."""
@@ -245,12 +245,6 @@ class Owners:
             for life, job in zip(lives, jobs):
                 self.jobs[id(life)] = job
 
-    @staticmethod
-    def are_several(make: Make) -> bool:
-        """Whether two processes that make started ran at once: it waits for each, unless it was asked for several jobs."""
-        children = sorted(make.life.children, key=lambda life: life.born)
-        return any(second.born < first.died for first, second in zip(children, children[1:]))
-
     def is_called(self, make: Make) -> bool:
         """Whether a make above calls a make by `$(shell ..)`, and leaves MAKEFLAGS as that make has found it: it may ask for several jobs."""
         chain = list(make.life.up())
@@ -258,6 +252,18 @@ class Owners:
             if up.is_make or up.is_ninja:
                 return up.is_make and id(child) not in self.jobs and not any("MAKEFLAGS" in word for one in chain[:chain.index(up)] for argv in one.ran for word in argv)
         return False
+
+    def callers_of(self, make: Make) -> Sequence[str]:
+        """The lines of the recipe of a make above that called a make, as they stand in the makefile, or of those that call `$(shell ..)`."""
+        chain = list(make.life.up())
+        caller, above = next(((life, up) for life, up in zip(chain, chain[1:]) if up.is_make), (make.life, None))
+        outer, job = self.of_life.get(id(above)), self.jobs.get(id(caller))
+        if outer is None:
+            return []
+        if job is None:
+            texts = (outer.known_text(name) or "" for name in makefiles(outer.words))
+            return [line for text in texts for line in text.split("\n") if SHELL.search(line)]
+        return [line for one in outer.words.rounds if one.base is not None for line in one.base.recipes.get(job.target, ())]
 
     # ---------------------------------------------------------------- what jobs did
     def below(self, life: Life) -> Iterable[Life]:
@@ -320,6 +326,7 @@ class Owners:
         rounds = [(n, r) for n, r in enumerate(make.words.rounds) if r.start == start]
         table = sorted((self.births.get(id(job), 0), number, job.number + 1) for number, one in rounds for job in one.jobs)  # the last: jobs of the round so far
         births = [t[0] for t in table]
+        jobs = [job for _, one in rounds for job in one.jobs if job.pids[1:]]
         names = {n for _, r in rounds for n in r.nodes} | {v for _, r in rounds for v in r.vpath.values()}
         apart = self.removed_last(make) | self.read_archives(make, names)
         programs = Programs(make.words, make.life)
@@ -339,9 +346,10 @@ class Owners:
             at = bisect.bisect_right(births, place)
             before = make.words.rounds[table[at - 1][1]].jobs[table[at - 1][2] - 1] if at else None
             last = self.lasts.get(id(before), 0)
-            if before is not None and (place < last or not before.is_ended):  # make starts a line of a recipe
-                take_piece(make.work.setdefault(id(before), Work()), ran, events)
-            if place > last:
+            later = [job for job in jobs if self.births.get(id(job), place) < place < self.lasts.get(id(job), 0)]
+            for job in {id(one): one for one in [*later, *([before] if before is not None and not before.is_ended else [])]}.values():  # make starts a line of a recipe
+                take_piece(make.work.setdefault(id(job), Work()), ran, events)
+            if place > last or len(later) > 1:
                 owners = self.owners_at(make, rounds, table, at)
                 for number, target in {o for o in owners if looks.get(o[1], -1) < place} or owners:
                     take_piece(make.acts.setdefault((number, target), Work()), ran, events)

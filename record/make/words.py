@@ -5,9 +5,11 @@ from collections import Counter
 from dataclasses import dataclass, field
 from functools import cached_property, lru_cache
 from pathlib import Path
-from typing import Dict, FrozenSet, Iterable, Iterator, List, Optional, Set, Tuple
+from typing import Container, Dict, FrozenSet, Iterable, Iterator, List, Optional, Set, Tuple
 
 from record.make.database import Base, read_base
+from record.make.flags import own_jobs
+from record.watch.files import Output, Start, files_in, open_file, own_outputs, read_start
 
 KEPT = 1 << 14  # how many lines are remembered: most come again for each target that needs the same
 CHILD = re.compile(r"(Putting child|Live child|Reaping (?:winning|losing) child|Removing child) (0x[0-9a-f]+) (?:\((.*)\) )?PID (\d+)")
@@ -20,8 +22,6 @@ SORTED = (4, 3)  # from this version on, make sorts what patterns find
 # From this one on `$(shell ..)` gets exported macros, which make works out for it, and make expands all prerequisites a second time when it considers their
 # target, knows rows of some targets, looks for each name of which no rule is about and at all targets of a recipe, and reads folders anew when a command has ended.
 LATER = (4, 4)
-RUNNING = re.compile(r" *Recipe of '")  # make says so where it does not wait for a recipe
-SEVERAL = "a makefile or GNUMAKEFLAGS asks for several jobs, and so they ran; say -j1: make "
 # Lines of which each word counts: one that is none of those above was not read as a whole.
 BROKEN = re.compile(r" *(?:Considering target file|Pruning file|Finished prerequisites of target file|Must remake target|Failed to remake target file|Giving up on target file) '"
                     r"(?!.*'\.$)|(?:Putting|Live|Reaping \w+|Removing) child 0x(?!.*PID \d)")
@@ -91,13 +91,12 @@ class Words:
     args: str = ""
     flags: str = ""
     environment: FrozenSet[str] = frozenset()  # the names of the variables that it found there
-    below: bool = False  # the words of a make above came with MAKEFLAGS
+    below: bool = False  # a make above has handed it flags
     slots: str = ""  # how many jobs its own words ask for: digits, or `all`
     output: str = ""  # where its output goes, if that is not the build's own: `file` or `pipe`
     log: str = ""  # the path of the file that keeps its output
     errors: str = ""  # the same of standard error, where that is not with its output
     is_joined: bool = False  # standard error goes where its output goes
-    spoken: bool = False  # it would have spoken another language than English
     version: str = ""
     status: Optional[int] = None
     rounds: List[Round] = field(default_factory=list)
@@ -108,6 +107,8 @@ class Words:
     place: str = ""  # how the paths of its copies begin
     times: "Counter[str]" = field(default_factory=Counter)  # by name of a makefile: how often make has read it
     copies: Dict[str, List[str]] = field(default_factory=dict)  # those that the build had made: copies of what make has read
+    patterns: List[str] = field(default_factory=list)  # what it has looked for by `glob`
+    start: Start = field(default_factory=Start)  # how it was called
     loaded: List[str] = field(default_factory=list)  # objects that it has loaded into itself
     holes: List[str] = field(default_factory=list)
 
@@ -115,6 +116,11 @@ class Words:
         """All that a makefile said when make read it, as paths of copies; none where there is not one for each time."""
         found = self.copies.get(name, [])
         return found if len(found) == self.times[name] else []
+
+    @property
+    def has_failed(self) -> bool:
+        """Whether it failed, or a signal ended it."""
+        return self.status != 0
 
     @property
     def sorts_names(self) -> bool:
@@ -164,12 +170,14 @@ class _Reader:
         self.stack: List[Tuple[int, str]] = []  # depths and names of the targets that are being looked at
         self.children: Dict[str, Job] = {}
         self.clock = 0
+        self.name = ""  # the makefile that it reads
+        self.is_said = False  # make has printed something since it began a process
 
     def begin(self, stage: str) -> None:
-        """A round begins: make remakes its makefiles, or its goals."""
+        """A round begins: make remakes its makefiles, or its goals. With several jobs a recipe of the round before may still run."""
         self.round = Round(stage, len(self.words.read) - 1)
         self.words.rounds.append(self.round)
-        self.stack, self.children = [], {}
+        self.stack = []
 
     def child(self, what: str, pointer: str, name: str, pid: int) -> None:
         """A line about a job: it starts, goes on with its next line, or has ended. Make names it by a pointer, which a later job may have too."""
@@ -184,6 +192,7 @@ class _Reader:
         if owner is not None:
             if owner.pids[-1:] != [pid]:
                 owner.pids.append(pid)
+                owner.is_said, self.is_said = owner.is_said or self.is_said, False
                 self.words.jobs.setdefault(pid, []).append(owner)
                 self.words.processes.append((pid, owner))
             owner.is_ended = what == "Removing child"
@@ -218,16 +227,13 @@ class _Reader:
             words.holes.append("a line of make's words cannot be read: " + text[:200])
         elif text.startswith("Reading makefiles..."):
             words.read.append([])
+            self.children = {}
         elif text.startswith("Updating makefiles"):
             self.begin("makefiles")
         elif text.startswith("Updating goal targets"):
             self.begin("goals")
-        elif text.startswith("# GNU Make ") and not words.version:
-            words.version = text[len("# GNU Make "):]
-        elif self.is_of_wrapper(text):
+        elif self.is_of_library(text):
             pass
-        elif text.startswith("Need a job token; ") or RUNNING.match(text):
-            words.holes += [SEVERAL + words.args] if SEVERAL + words.args not in words.holes else []
         elif text.startswith("Loading symbol "):
             words.loaded.append(text.partition(" from ")[2])
         elif READING.match(text) and words.read:
@@ -238,33 +244,20 @@ class _Reader:
         elif self.round is not None:
             self.target(text)
 
-    def is_of_wrapper(self, text: str) -> bool:
-        """Whether a line is one that the wrapper adds (`head_of` and others of wrapper.py), such as `ARGS -k all`; what it says is kept."""
-        (key, blank, value), words = text.partition(" "), self.words
-        if key == "ARGS" and blank:
-            words.args = value
-        elif key == "FLAGS" and blank:
-            words.flags = value
-        elif key == "NAMES" and blank:
-            words.environment = frozenset(value.split(" "))
-        elif key == "COPY" and blank:
-            words.copies.setdefault(self.name, []).append("%s%s.read" % (words.place, value))
-        elif key == "BELOW" and blank:
-            words.below = value == "1"
-        elif key == "JOBS" and blank:
-            words.slots = value
-        elif key == "OUTPUT" and blank:
-            words.output = value
-        elif key == "LOG" and blank:
-            words.log = value
-        elif key == "ERRORS" and blank:
-            words.is_joined = value == "joined"
-            words.errors = "" if words.is_joined else value
-        elif key == "SPOKEN" and blank:
-            words.spoken = value == "1"
-        elif key == "SAID" and value in self.children:
-            self.children[value].is_said = True
-        elif key == "EXIT" and blank:
+    def is_of_library(self, text: str) -> bool:
+        """Whether a line is one that the library adds to make's own (watch.c); what it says is kept."""
+        (key, _, value), words = text.partition(" "), self.words
+        if key in ("SAID", "GREW"):
+            self.is_said = self.is_said or key == "SAID" or not self.children
+            for job in self.children.values():
+                job.is_said = True
+        elif key == "COPY":
+            number, _, path = value.partition(" ")
+            if path == self.name or path.endswith("/" + self.name):
+                words.copies.setdefault(self.name, []).append("%s%s.read" % (words.place, number))
+        elif key == "GLOB":
+            words.patterns.append(value)
+        elif key == "EXIT":
             words.status = int(value)
         else:
             return False
@@ -326,9 +319,26 @@ def failures(words: Words) -> Iterator[str]:
                 yield "a recipe failed for a makefile that need not be there, and what stands behind it did not run: %s" % name
 
 
-def read_words(pid: int, life: int, lines: Iterable[str], place: str = "") -> Words:
-    """What a make process said, of the lines that the wrapper kept: each of its starts ends in a data base."""
-    words = Words(pid, life, place=place)
+def begun(words: Words, start: Start, own: Container[Tuple[int, int]]) -> Words:
+    """The words of a make as it was called. `own`: the files to which the output of the recorder itself goes."""
+    def leads(stream: int) -> str:
+        found = start.outputs.get(stream, Output())
+        return {"f": "file", "p": "pipe"}.get(found.kind, "") if (found.device, found.number) not in own else ""
+
+    first, second = start.outputs.get(1, Output()), start.outputs.get(2, Output())
+    words.start, words.version, words.args = start, start.version, " ".join(start.args).replace("\n", " ")
+    words.flags, words.environment = start.environment.get("MAKEFLAGS", ""), frozenset(start.environment)
+    words.slots = own_jobs(start.args)
+    words.below = {"MAKELEVEL", "MAKEFLAGS"} <= words.environment
+    words.output, words.log = leads(1), first.path if leads(1) == "file" else ""
+    words.is_joined = first[1:3] == second[1:3] and first.kind != "-"
+    words.errors = "" if words.is_joined else leads(2)
+    return words
+
+
+def read_words(pid: int, life: int, lines: Iterable[str], place: str = "", start: Optional[Start] = None, own: Container[Tuple[int, int]] = ()) -> Words:
+    """What a make process said, of the lines that the library kept: each of its starts ends in a data base."""
+    words = begun(Words(pid, life, place=place), start or Start(), own)
     reader = _Reader(words)
     bases = 0  # how many data bases it printed
     base: List[str] = []  # the lines of the one that has not ended
@@ -346,20 +356,24 @@ def read_words(pid: int, life: int, lines: Iterable[str], place: str = "") -> Wo
     if base:
         take_base(words, base)
     words.holes += failures(words)
-    if not words.read:
-        words.holes.append("a make says nothing that the recorder knows, as in another language: make " + words.args)
-    if bases != len(words.read):
+    for job in (job for one in words.rounds for job in one.jobs) if words.output == "pipe" else ():
+        job.is_said = True  # nobody sees what it prints
+    if not words.read and not words.status:
+        words.holes.append("a make says nothing that the recorder knows: make " + words.args)
+    if bases != len(words.read) and words.read:
         words.holes.append("a make that began %d times printed %d data bases: make %s" % (len(words.read), bases, words.args))
     return words
 
 
-def read_logs(spool: Path, place: str) -> List[Words]:
-    """The words of all makes of a recorded build. `place` is where their folder was then."""
-    logs = []
-    for path in sorted(spool.glob("*.make")):
-        pid, life, _ = path.name.split(".")
-        with open(path, encoding="utf-8", errors="surrogateescape", newline="\n") as lines:
-            logs.append(read_words(int(pid), int(life), lines, "%s/%s" % (place, path.name[:-len("make")])))
+def read_logs(said: Path, place: str) -> List[Words]:
+    """The words of all makes of a recorded build, without those that only answer. `place` is where their folder was then."""
+    logs, own = [], own_outputs(said)
+    for pid, life, path in files_in(said):
+        with open_file(path) as lines:
+            start = read_start(lines)
+        if start.says:
+            with open_file(path) as lines:
+                logs.append(read_words(pid, life, lines, "%s/%s" % (place, path.name[:-len("make")]), start, own))
     return logs
 
 

@@ -8,14 +8,15 @@ stops it: it prints its data base, and considers, runs and remakes nothing. Only
 import os
 import re
 import subprocess
-from dataclasses import dataclass
 from pathlib import Path
 from typing import Dict, List, Optional, Set, Tuple
 
 from record.make.database import Base, cut, read_base
-from record.make.options import LONG_WITH_WORD, cluster
+from record.make.flags import LONG_WITH_WORD, cluster
 from record.make.owners import Make
 from record.make.words import makefiles
+from record.commands.shelltext import first_words
+from record.watch.files import Start
 
 STOP = "race-record: the makefiles are read"
 DEFAULTS = ("GNUmakefile", "makefile", "Makefile")
@@ -27,25 +28,6 @@ OWN_EXTRA = re.compile(r"(\S+): \.EXTRA_PREREQS :?= ?(.*)", re.S)
 
 class Unknown(Exception):
     """Why nobody can say what a make knows in a later build."""
-
-
-@dataclass
-class Start:
-    """How a make was started."""
-
-    real: str
-    name: str
-    folder: str
-    args: List[str]
-    environment: Dict[str, str]
-
-
-def read_start(path: Path) -> Start:
-    """What the wrapper kept of a make."""
-    words = [os.fsdecode(word) for word in path.read_bytes().split(b"\0")]
-    count = 4 + int(words[3])
-    pairs = (word.partition("=") for word in words[count:])
-    return Start(words[0], words[1], words[2], words[4:count], {name: value for name, _, value in pairs})
 
 
 def named_by(args: List[str], option: str, long: Tuple[str, ...]) -> List[str]:
@@ -95,28 +77,17 @@ def words_again(args: List[str], folder: str, stop: str) -> List[str]:
     return [*args[:split], "-p", "-q", *extra, "-f", stop, *args[split:]]
 
 
-def environment_of(start: Start, spool: Path) -> Dict[str, str]:
-    """The environment without the recorder's folder in front of PATH."""
-    own = str(spool / "bin") + ":"
-    found = dict(start.environment)
-    if found.get("PATH", "").startswith(own):
-        found["PATH"] = found["PATH"][len(own):]
-    return found
-
-
 def ask(make: Make, spool: Path) -> Base:
     """The data base of a make as a later build has it."""
-    path = spool / ("%d.%d.start" % (make.words.pid, make.words.life))
-    if not path.exists():
-        raise Unknown("nobody kept how it was started")
-    start = read_start(path)
+    start = make.words.start
     for name in taken_as_old(start):
         raise Unknown("it is asked to take %s as old (-o), so what needs that is not made again" % name)
     stop = spool / "stop.mk"
     stop.write_text("$(error %s)\n" % STOP)
     words = [start.name, *words_again(start.args, make.folder, str(stop))]
+    program = next(iter(first_words(make.life.program)), make.life.program)
     try:
-        ran = subprocess.run(words, executable=start.real, cwd=start.folder, env=environment_of(start, spool), capture_output=True,
+        ran = subprocess.run(words, executable=program, cwd=start.folder, env=start.environment, capture_output=True,
                              stdin=subprocess.DEVNULL, timeout=SECONDS, check=False)
     except (OSError, subprocess.TimeoutExpired) as fault:
         raise Unknown(str(fault)) from fault

@@ -65,7 +65,7 @@ class Turned:
         for make in self.makes:
             key = innermost(self.chain(make.life))
             self.calls[key] = max(make.life.born, self.calls.get(key, 0))
-        own = [life for life in lives if not (life.is_make or life.is_wrapper or life.is_ninja)]
+        own = [life for life in lives if not (life.is_make or life.is_ninja)]
         of_makes = {id(life) for make in self.makes for life in called_by(make) if same(self.chain(life), self.chain(make.life))}
         self.lives = [life for life in own if life.argv and not is_idle(life.argv) and id(life) not in of_makes]
         for life in own:

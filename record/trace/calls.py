@@ -37,7 +37,6 @@ CHANGES = {"chmod", "chown", "lchown", "utime", "utimes", "truncate", "setxattr"
 TIMES = {"utime", "utimes", "utimensat", "futimesat", "utimensat_time64"}
 BY_NUMBER = {"fchmod", "fchown", "fchown32", "ftruncate", "ftruncate64", "fsetxattr", "fremovexattr"}  # by a descriptor alone
 NUMBERED = {"umask", "kill", "tkill", "tgkill", "rt_sigqueueinfo", "rt_tgsigqueueinfo", "pidfd_open"}  # calls whose first number is no descriptor
-OF_WRAPPER = {"execve", *MAKES_PROCESS}  # what counts of the recorder's own wrapper
 THERE = ("EEXIST", "EISDIR", "ENXIO", "EACCES", "ENOTEMPTY")  # errors of an open that say that something has the name
 
 # Parts of arguments, as strace shows them.
@@ -58,10 +57,6 @@ class Calls(Started):
         """One finished call."""
         name, ok = call.name, not call.error
         handler = HANDLERS.get(name)
-        if life.is_wrapper and name not in OF_WRAPPER:
-            if life in self.unread and ok and first_text(call.args) == self.spool + "/wrapper":
-                self.unread.remove(life)
-            return
         if handler is not None:
             if ok and call.args[:1].isdigit() and name not in NUMBERED and BARE.match(call.args):
                 self.put_bare(life, call)
@@ -112,7 +107,7 @@ class Calls(Started):
         plain = path if call.name == "stat" or (call.name == "newfstatat" and follow and not path.startswith("/")) else ""
         link = call.name.startswith("readlink") and ok
         found = self.look(life, path, ok or call.error == "EINVAL", follow, READ if link else SEEN, base, plain)
-        self.note_search(life, found, ok)
+        self.note_search(life, path, ok)
         is_begin = path == "." and life.looks == 0 and (life.last_look == found.path or self.is_place(life, life.last_look))  # as shells do when they start
         life.looks, life.last_look = life.looks + (path == "."), found.path if path.startswith("/") else ""
         traits = life.traits()
@@ -163,6 +158,9 @@ class Calls(Started):
             life.folder = folder
         if ok and changes and SETTINGS.match(call.opened or path):
             self.put_unfollowed(life, "the change of " + path)
+        if self.said and path.startswith(self.said):
+            self.open_words(life, path[len(self.said):], ok)
+            return
         if ok and DEVICES.match(path):
             if not call.opened.startswith("/") or DEVICES.match(call.opened) and not self.is_inside(call.opened):
                 self.note_watcher(life, path)

@@ -27,7 +27,7 @@ FOR_A_WHILE = re.compile(r"-\w*[nw]|--[nwt]")  # options of `flock`: `-n`, `-w S
 STATUS = re.compile(r"-\w*E|--c[a-z-]*")  # and one that has a word behind it: `-E NUMBER`
 LEASE = re.compile(r", F_(?:SETLEASE|NOTIFY), ")
 LOOSE = re.compile(r"AF_(?:INET6?|UNIX), SOCK_(?:DGRAM|RAW)\b")  # a socket that may send without being connected
-STAND_IN = "a program read make itself, and found the recorder's script in its place: "
+STAND_IN = "a program read make itself, and found the recorder's copy in its place: "
 OF_KERNEL = re.compile(r"/(?:dev/(?!shm/)|proc/|sys/)")  # requests to devices change no file
 
 
@@ -87,9 +87,8 @@ class Opened(Processes):
         life.opened.add(found.path)
 
     def note_stand_in(self, life: Life, path: str) -> None:
-        """Who opens the make as a file finds the recorder's script there: it sees another file than without the recorder."""
-        is_stand_in = path == self.covered or path.startswith(self.spool + "/bin/")
-        if is_stand_in and not any(one.startswith(STAND_IN) for one in self.holes):
+        """Who opens a make as a file finds the copy that lies over it: it sees another file than without the recorder."""
+        if path in self.covered and not any(one.startswith(STAND_IN) for one in self.holes):
             self.holes.append(STAND_IN + " ".join(life.argv)[:100])
 
     def makes_way(self, life: Life, flags: str, folder: str) -> bool:

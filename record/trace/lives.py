@@ -54,7 +54,6 @@ class Life:
     changed: Dict[str, int] = field(default_factory=dict)  # names: where it last changed what stands there
     acts: List[Act] = field(default_factory=list)
     starts: List[Tuple[int, str]] = field(default_factory=list)  # where make began (again), and its folder
-    is_wrapper: bool = False
     is_make: bool = False
     is_ninja: bool = False
     program: str = ""  # the file that runs

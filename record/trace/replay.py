@@ -27,9 +27,13 @@ class Replay:
 
     def __init__(self, names: Names, spool: str, real: str, folder: str, tops: List[str], mask: int = 0o22) -> None:
         self.mask = mask
-        self.names, self.spool, self.real, self.tops = names, spool, real, tops
-        self.covered = ""  # the make over which the recorder's lies: `real` is a copy of it then
-        self.unread: List[Life] = []  # who runs the recorder's make, and has not read its program yet
+        self.names, self.real, self.tops = names, real, tops
+        self.own: Tuple[str, ...] = (spool,)  # folders of the recorder
+        self.said = ""  # the one in which each make has a file for what it says
+        self.silent: Set[str] = set()  # names of the files of makes that only answer
+        self.covered: Set[str] = set()  # the makes over which copies lie that have the library
+        self.first_place = os.environ.get("PATH", os.defpath).split(":")[0]  # where a shell begins to look for a program
+        self.unheard: Dict[int, str] = {}  # by id of a life: the words of a make that has not opened its file
         self.below_tops = tuple(top.rstrip("/") + "/" for top in tops)
         self.first_folder = folder
         self.lives: Dict[int, Life] = {}
@@ -38,9 +42,7 @@ class Replay:
         self.begun: List[int] = []
         self.waiting: Dict[int, List[Event]] = {}
         self.sharing: Set[int] = set()  # who has begun to start a thread
-        self.makes: Dict[int, int] = {}
         self.holes: List[str] = []
-        self.past: List[str] = []
         self.sockets: List[str] = []
         self.locks: List[str] = []  # what was locked by somebody who does not wait for it, or not for long
         self.taken: Dict[int, List[str]] = {}  # by id of the first process of a recipe: what was locked by somebody who waits for it
@@ -110,7 +112,6 @@ class Replay:
             child.folder, child.mask = parent.folder, parent.mask
         child.cut, child.taken, child.compares_here, child.looks = parent.cut, parent.taken, parent.compares_here, parent.looks
         child.argv = child.argv or parent.argv
-        child.is_wrapper = parent.is_wrapper if not child.ran else child.is_wrapper
 
     def play(self, event: Event) -> None:
         """One event of the trace; those of a process wait until it is known who started it."""
@@ -132,7 +133,7 @@ class Replay:
         if life is not None and life.died > self.place or not self.all:
             return False
         parents = [self.lives[p] for p in self.begun if p in self.lives and p != pid]
-        return not self.sharing.isdisjoint(self.begun) or len({(p.folder, p.is_wrapper, p.mask) for p in parents}) > 1
+        return not self.sharing.isdisjoint(self.begun) or len({(p.folder, p.mask) for p in parents}) > 1
 
     def take(self, event: Event) -> None:
         """One event of a process that is known."""
@@ -172,7 +173,7 @@ class Replay:
             for name in life.handed() if kind in (AGE_SEEN, AGE_UNKNOWN) and NUMBER.match(path) else ():
                 self.put(life, kind, name)
             return
-        if path.startswith(self.spool):
+        if path.startswith(self.own):
             return
         if PROGRESS in path and life.traits().shows_progress:
             self.progress.append(path[:path.index(PROGRESS) + len(PROGRESS)])

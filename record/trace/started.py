@@ -17,6 +17,7 @@ from record.trace.processes import sets_others
 from record.trace.strace import Call, first_text, folders, is_cut, texts
 
 CHECKS = re.compile(r"\b(?:AT_EXECVE_CHECK|0x10000(?: /\* AT_\?\?\? \*/)?)$")  # flags of execveat by which nothing is run
+OF_MAKE = re.compile(r"(\d+)\.(\d+)\.make$")  # the file for what a make says
 SCRIPTS = 5  # how many scripts may be the interpreter of one another; the kernel allows no more
 
 
@@ -40,26 +41,19 @@ class Started(Opened):
             self.look(life, program, True, True, READ)
             return
         words = [program, *texts(call.args)[1:]]
-        was_wrapper, was_make = life.is_wrapper, life.is_make
-        forked = was_wrapper and not life.ran
         found = self.names.find(life.folder, words[0], True)
         self.take_words(life, call, words, found)
         self.begin_program(life, words, self.first_words(found.path))
-        if life.is_wrapper:
-            self.begin_stand_in(life, words[0], found)
-            return
         self.note_rights(life, found.path)
         self.is_open_shell = self.is_open_shell or shelltext.sets_options(life.argv, life.folder)
         if sets_others(life.argv):
             self.watchers.append(" ".join(life.argv)[:100])
         if shellages.asks_reads(life.argv, life.folder):
             self.askers.append(" ".join(life.argv)[:100])
-        if self.is_real_make(found.path):
-            self.begin_make(life, was_wrapper, was_make, forked)
-        else:
-            life.is_make = life.is_make and life.number >= 0 and was_make
-            if is_other_make(found.path, self.real):
-                self.past.append(" ".join(life.argv)[:200])
+        is_real = self.is_real_make(found.path)
+        life.is_make = is_real or life.is_make and life.number >= 0
+        if is_real or is_other_make(found.path, self.real):
+            self.unheard[id(life)] = " ".join(life.argv)[:200]
         self.look(life, words[0], True, True, READ)
         self.look_at_interpreters(life, words[0])
         self.note_handed(life)
@@ -69,10 +63,8 @@ class Started(Opened):
         argv = words[1:]
         life.taken, life.compares_here, life.looks = (), False, 0
         life.last_look = ""
-        own = self.stand_in(life, found.path)
-        life.is_wrapper = own != ""
-        argv = argv if own == found.path else shelltext.with_interpreter(argv, found.path, self.first_words(found.path))
-        life.program = own or found.path
+        argv = shelltext.with_interpreter(argv, found.path, self.first_words(found.path))
+        life.program = found.path
         life.is_ninja = argv == words[1:] and bool(shelltext.NINJA.match(os.path.basename(found.path)))
         if life.is_ninja:
             life.starts.append((self.place, life.folder))
@@ -81,38 +73,27 @@ class Started(Opened):
             self.holes.append("the words of a program are too many to be seen: " + " ".join(argv)[:100])
         life.ran.append(argv)
 
-    def stand_in(self, life: Life, path: str) -> str:
-        """The recorder's make that the kernel runs for a program, by its own name or that of the make below it; nothing where it runs another one."""
-        for _ in range(SCRIPTS):
-            if path.startswith(self.spool + "/bin/") or path == self.covered:
-                return path
-            words = self.first_words(path)
-            if not words:
-                break
-            path = self.names.find(life.folder, words[0], True).path
-        return ""
+    def open_words(self, life: Life, name: str, ok: bool) -> None:
+        """A make opens the file for what it says: so it is one, whatever its program is called. One that begins again has its number already."""
+        match = OF_MAKE.match(name)
+        if match is None or not ok or int(match[1]) != life.pid:
+            return
+        self.unheard.pop(id(life), None)
+        life.is_make, life.is_query = True, name in self.silent
+        if not life.is_query:
+            life.number = int(match[2])
+            life.starts.append((life.begun, life.folder))
 
-    def begin_stand_in(self, life: Life, program: str, found: Found) -> None:
-        """A process runs the recorder's make: by name, by that of the make which lies below it, or by the first line of a script, which the kernel reads."""
-        if found.path == life.program:
-            self.put_links(life, found)
-        else:
-            self.look(life, program, True, True, READ)
-            self.look_at_interpreters(life, program)
-        self.unread.append(life)
-
-    def without_program(self) -> List[str]:
-        """Who ran the recorder's make by its path, but not its program: the mount was gone, or the user of the process may not read it."""
-        return [" ".join(life.argv)[:200] for life in self.unread]
+    @property
+    def past(self) -> List[str]:
+        """The makes that have not opened a file for what they say: they have no library."""
+        return list(self.unheard.values())
 
     def fail_to_run(self, life: Life, program: str, error: str) -> None:
         """A program did not start. Where the kernel does not know what kind of file it is, bash reads it itself, as a script."""
-        if not life.is_wrapper:
-            found = self.look(life, program, False, True)
-            if self.stand_in(life, found.path) == self.covered != "":  # it lies over the make, and its interpreter does not let each user in
-                self.past.append(program)
-            self.look_at_interpreters(life, program)
-            life.taken += (found.path,) if error == "ENOEXEC" and life.traits().is_shell else ()
+        found = self.look(life, program, False, True)
+        self.look_at_interpreters(life, program)
+        life.taken += (found.path,) if error == "ENOEXEC" and life.traits().is_shell else ()
 
     def note_handed(self, life: Life) -> None:
         """A program may ask how old a file is that a shell has opened for it, and no call names that."""
@@ -121,10 +102,10 @@ class Started(Opened):
         for path in life.handed() if is_asked else ():
             self.put(life, AGE_SEEN if traits.asks_input or self.ages(life) else AGE_UNKNOWN, path)
 
-    def note_search(self, life: Life, found: Found, ok: bool) -> None:
-        """bash looks at `.` before it searches for a program, and then in the first folder of `PATH`, which is the recorder's: that was no
-        question for an age. It looks there without a search for what it has found before: so what is there does not count."""
-        if life.sought and not ok and found.path.startswith(self.spool + "/bin/") and is_bash(life.argv):
+    def note_search(self, life: Life, path: str, ok: bool) -> None:
+        """bash looks at `.` before it searches for a program, and then in the first folder of `PATH`: that was no question for an age. It looks
+        there without a search for what it has found before: so what is there does not count."""
+        if life.sought and not ok and os.path.dirname(path) == self.first_place and is_bash(life.argv):
             life.events.pop((AGE_SEEN, life.sought), None)
         life.sought = ""
 
@@ -142,7 +123,7 @@ class Started(Opened):
     def is_real_make(self, path: str) -> bool:
         """Whether a program is the make that the recorder knows."""
         if path not in self.makes_by_path:
-            self.makes_by_path[path] = path == self.real or machine.realpath(path) == self.real
+            self.makes_by_path[path] = path == self.real or machine.realpath(path) in {self.real, *self.covered}
         return self.makes_by_path[path]
 
     def look_at_interpreters(self, life: Life, program: str) -> None:
@@ -154,23 +135,9 @@ class Started(Opened):
                 return
             program = words[0]
             found = self.found(life, program, True)
-            if found.path == self.real:  # the kernel runs make in the script's place
-                self.past.append(" ".join(life.argv)[:200])
+            if self.is_real_make(found.path):  # the kernel runs make in the script's place
+                self.unheard.setdefault(id(life), " ".join(life.argv)[:200])
             self.put_look(life, found, found.inode is not None, READ)
-
-    def begin_make(self, life: Life, was_wrapper: bool, was_make: bool, forked: bool) -> None:
-        """A process runs make: again, as the child of the wrapper that reads its words, as a question of the wrapper, or past the wrapper."""
-        life.is_make = True
-        if was_make and life.number >= 0:
-            life.starts.append((self.place, life.folder))
-        elif forked:
-            life.number = self.makes.get(life.pid, 0)
-            self.makes[life.pid] = life.number + 1
-            life.starts.append((self.place, life.folder))
-        elif was_wrapper:
-            life.is_query = True
-        else:
-            self.past.append(" ".join(life.argv)[:200])
 
     def is_unknown(self, life: Life) -> bool:
         """Whether nobody knows if a program compares the ages of what it looks at, or of what it has opened."""

@@ -10,6 +10,7 @@ from typing import Dict, Iterable, Iterator, List, NamedTuple, Set, TextIO, Tupl
 ESCAPED = re.compile(r"\\([n\\])")
 HEAD = ("MAKE", "ARG", "ENV", "CWD", "OUT", "ASKS", "SAYS")
 PRINTS = ("db_level", "print_data_base_flag")  # flags of a make that prints its own words, and runs recipes all the same
+PUBLIC = {"PATH", "HOME", "PWD", "OLDPWD", "SHELL", "MAKEFLAGS", "MFLAGS", "GNUMAKEFLAGS", "MAKELEVEL", "MAKEFILES"}  # variables that hold no secrets
 OWN_OUTPUTS = "recorder.out"  # where the output of the recorder itself leads
 NAME = re.compile(r"(\d+)\.(\d+)\.make$")
 
@@ -100,7 +101,9 @@ def without_values(lines: Iterable[str]) -> Iterator[str]:
             continue
         if line.startswith("ENV "):
             start.take(line.rstrip("\n"))
-        if is_own and line.startswith("define "):
+        if is_public(line):
+            pass
+        elif is_own and line.startswith("define "):
             left = start.environment.get(line[len("define "):].rstrip("\n"), "").count("\n") + 1
         elif is_own or line.startswith("ENV "):
             line = line.partition("=")[0] + "=\n"
@@ -108,10 +111,17 @@ def without_values(lines: Iterable[str]) -> Iterator[str]:
         yield line
 
 
+def is_public(line: str) -> bool:
+    """Whether a line of a variable is about one that says where a build runs, and how make was called."""
+    name = line[len("ENV "):].partition("=")[0] if line.startswith("ENV ") else line.partition(" ")[0]
+    return name in PUBLIC
+
+
 def keep_files(said: Path, to: Path) -> None:
-    """Copies all files without values of the environment."""
+    """Copies all files without values of the environment. Copies of makefiles are among the answers of the machine."""
+    to.mkdir()
     for path in said.iterdir():
-        if path.suffix == ".make":
+        if path.suffix in (".make", ".out"):
             with open_file(path) as lines, open(to / path.name, "w", encoding="utf-8", errors="surrogateescape", newline="\n") as file:
                 file.writelines(without_values(lines))
 

@@ -11,7 +11,7 @@
      SAYS                its version, where it says from here on what it does
      ASKS                else the flag of make by which it only answers
      lines of make       what it considers, and what it does with jobs, in English
-     SAID                something was printed since the last line
+     SAID, GREW          make has printed something; the file that keeps standard output has grown
      GLOB, COPY          a pattern that it looks for; the copy of a makefile as it was read, SAID/PID.LIFE.N.read
      # Make data base .. what `make -p` prints: at its end, and before it begins again
      EXIT                its status
@@ -22,7 +22,9 @@
 #include <dlfcn.h>
 #include <errno.h>
 #include <fcntl.h>
+#include <glob.h>
 #include <link.h>
+#include <signal.h>
 #include <stdarg.h>
 #include <stdio.h>
 #include <stdlib.h>
@@ -42,6 +44,7 @@ static int number;          /* its descriptor */
 static int is_raised;       /* make says what it considers */
 static int is_base;         /* the data base is being printed */
 static int is_open;         /* make has begun a line for people, and not ended it */
+static int is_inside;       /* a line of the file has begun, and not ended */
 static int is_reading;      /* make has said that it reads a makefile, and not opened it */
 static int is_cut;          /* a limit does not let the file grow */
 static int own;             /* the process: a child of make is another one */
@@ -51,42 +54,39 @@ static char *low, *high;    /* where make itself lies: what an object prints tha
 static off_t printed = -1;  /* the size of the file that keeps standard output; -1 where none does */
 static struct timespec began;
 
-#define NEXT(name) ((__typeof__(&name))next_of(#name))
+#define NEXT(name) ((__typeof__(&name))dlsym(RTLD_NEXT, #name)) /* that of the C library */
 #define CALLER __builtin_return_address(0)
 #define FROM_MAKE (said && (char *)CALLER >= low && (char *)CALLER < high)
 
-static void *next_of(const char *name) {
-  return dlsym(RTLD_NEXT, name);
-}
-
 /* ---- the file */
 
-/* Whether so many bytes more may be written; where a limit is in the way that may be raised, it is raised, and `old` has it. */
-static int has_room(size_t more, struct rlimit *old) {
-  struct rlimit now;
-  if (getrlimit(RLIMIT_FSIZE, old) || old->rlim_cur == RLIM_INFINITY) return 1;
-  now.rlim_cur = now.rlim_max = old->rlim_max;
-  setrlimit(RLIMIT_FSIZE, &now);
-  return now.rlim_cur == RLIM_INFINITY || lseek(number, 0, SEEK_END) + (off_t)more <= (off_t)now.rlim_cur;
+/* Writes all bytes to the end of a file; whether that could be done. A limit on the size of files is raised meanwhile, as far as it may be. */
+static int put_bytes(int file, const char *text, size_t size) {
+  struct rlimit old = {RLIM_INFINITY, RLIM_INFINITY}, now = old;
+  size_t at = 0;
+  getrlimit(RLIMIT_FSIZE, &old);
+  if (old.rlim_cur != RLIM_INFINITY && setrlimit(RLIMIT_FSIZE, &now)) {
+    now.rlim_cur = now.rlim_max = old.rlim_max;
+    setrlimit(RLIMIT_FSIZE, &now);
+  }
+  while (at < size && (now.rlim_cur == RLIM_INFINITY || lseek(file, 0, SEEK_END) + (off_t)(size - at) <= (off_t)now.rlim_cur)) {
+    ssize_t done = write(file, text + at, size - at);
+    if (done < 0 && errno != EINTR) break;
+    at += done < 0 ? 0 : done;
+  }
+  if (old.rlim_cur != RLIM_INFINITY) setrlimit(RLIMIT_FSIZE, &old);
+  return at == size;
 }
 
 static ssize_t keep(void *cookie, const char *text, size_t size) {
-  struct rlimit limit;
   char path[LONGEST + 16];
   int before = errno;
   (void)cookie;
-  if (getpid() != own) return size;
-  if (!is_cut && !has_room(size, &limit)) {
+  if (getpid() == own && !is_cut && !put_bytes(number, text, size)) {
     is_cut = 1;
     snprintf(path, sizeof path, "%smake.cut", place);
     close(open(path, O_CREAT | O_WRONLY | O_CLOEXEC, 0600));
   }
-  for (size_t at = 0; at < size && !is_cut;) {
-    ssize_t done = write(number, text + at, size - at);
-    if (done < 0 && errno != EINTR) is_cut = 1;
-    at += done < 0 ? 0 : done;
-  }
-  setrlimit(RLIMIT_FSIZE, &limit);
   errno = before;
   return size;
 }
@@ -114,12 +114,12 @@ static void put_output(int stream) {
   put_line("", path);
 }
 
-/* Something was printed: by make, or, as far as a file shows it, by a recipe. */
-static void put_printed(int by_make) {
+/* Something was printed by a recipe, as far as a file shows that. */
+static void note_growth(void) {
   struct stat found;
-  int grew = printed >= 0 && !fstat(1, &found) && found.st_size != printed;
-  if (grew) printed = found.st_size;
-  if (is_raised && !is_base && (grew || by_make)) fputs_unlocked("SAID\n", said);
+  if (printed < 0 || is_base || is_inside || fstat(1, &found) || found.st_size == printed) return;
+  printed = found.st_size;
+  fputs_unlocked("GREW\n", said);
 }
 
 /* Opens the file of this life; where make begins again, that of the last one. */
@@ -139,6 +139,54 @@ static int open_file(const char *folder) {
     if (fd < 0 && errno != EEXIST) return -1;
   }
   return fd;
+}
+
+/* ---- the end of make */
+
+/* The data base, by the functions of `make -p`. */
+static void put_base(void) {
+  static const char *const parts[] = {"print_variable_data_base", "print_dir_data_base", "print_rule_data_base", "print_file_data_base", "print_vpath_data_base"};
+  FILE *real = stdout;
+  if (!is_raised || getpid() != own) return;
+  note_growth();
+  fputs_unlocked("# Make data base, printed on\n", said);
+  stdout = said;
+  is_base = 1;
+  for (size_t at = 0; at < sizeof parts / sizeof *parts; at++) {
+    void (*part)(void) = (void (*)(void))dlsym(RTLD_DEFAULT, parts[at]);
+    if (part) part();
+  }
+  is_base = 0;
+  stdout = real;
+  fputs_unlocked("\n# Finished Make data base on\n", said);
+  fflush_unlocked(said);
+}
+
+static void end(int status) {
+  put_base();
+  if (!said || getpid() != own) return;
+  fprintf(said, "EXIT %d\n", status);
+  fflush_unlocked(said);
+}
+
+void exit(int status) {
+  fflush(stdout);
+  end(status);
+  NEXT(exit)(status);
+  __builtin_unreachable();
+}
+
+/* Nobody reads what make prints: that ends it in the middle of a write. */
+static void end_unread(int number_of_signal) {
+  end(128 + number_of_signal);
+  signal(number_of_signal, SIG_DFL);
+  raise(number_of_signal);
+}
+
+/* Make begins again: a job is another process. */
+int execvp(const char *file, char *const words[]) {
+  put_base();
+  return NEXT(execvp)(file, words);
 }
 
 /* ---- the begin of make */
@@ -178,21 +226,20 @@ __attribute__((constructor)) static void begin(int argc, char **argv) {
   put_line("CWD", getcwd(cwd, sizeof cwd) ? cwd : "");
   put_output(1), put_output(2);
   fflush_unlocked(said);
+  if (signal(SIGPIPE, end_unread) != SIG_DFL) signal(SIGPIPE, SIG_IGN);
   errno = before;
 }
 
-/* Make has read its options: it asks next whether it prints to a terminal. */
 static void raise_level(void) {
-  static const char *const asking[] = {"db_level", "print_version_flag", "print_data_base_flag", "just_print_flag", "question_flag", "touch_flag"};
+  static const char *const asking[] = {"print_version_flag", "just_print_flag", "question_flag", "touch_flag", "print_data_base_flag", "db_level"};
   static int is_known;
   if (!said || is_known++) return;
   for (size_t at = 0; at < sizeof asking / sizeof *asking; at++) {
     int *flag = dlsym(RTLD_DEFAULT, asking[at]);
-    if (flag && *flag) {
-      put_line("ASKS", asking[at]);
-      fflush_unlocked(said);
-      return;
-    }
+    if (!flag || !*flag) continue;
+    put_line("ASKS", asking[at]);
+    fflush_unlocked(said);
+    return;
   }
   const char **version = dlsym(RTLD_DEFAULT, "version_string");
   put_line("SAYS", version ? *version : "");
@@ -201,7 +248,7 @@ static void raise_level(void) {
 }
 
 int isatty(int stream) {
-  raise_level();
+  raise_level(); /* make has read its options, when it asks first whether it prints to a terminal */
   return NEXT(isatty)(stream);
 }
 
@@ -231,22 +278,24 @@ static int is_word(int from_make) {
   return is_raised && from_make && (!is_open || is_base);
 }
 
-static void end_word(void) {
+/* A part of such a word was written. */
+static void end_word(int is_end) {
+  is_inside = !is_end;
   if (!is_base) fflush_unlocked(said);
 }
 
 static void note_text(int from_make, FILE *file, const char *text, size_t size) {
   if (!is_raised || is_base || !from_make || file != stdout || !size) return;
   is_open = text[size - 1] != '\n';
-  put_printed(1);
+  fputs_unlocked("SAID\n", said);
 }
 
 static int print(int from_make, int flag, const char *format, va_list words) {
-  int done;
   if (!is_word(from_make)) return flag < 0 ? vfprintf(stdout, format, words) : __vfprintf_chk(stdout, flag, format, words);
-  put_printed(0);
-  done = vfprintf(said, in_english(format), words);
-  end_word();
+  note_growth();
+  int done = vfprintf(said, in_english(format), words);
+  if (!strcmp(format, "%s")) fputc_unlocked('\n', said); /* why an object cannot be loaded: make ends no line there */
+  end_word(!strcmp(format, "%s") || (*format && format[strlen(format) - 1] == '\n'));
   return done;
 }
 
@@ -274,12 +323,15 @@ int puts(const char *text) {
   }
   is_reading = is_reading || !strcmp(text, "...");
   fprintf(said, "%s\n", in_english(text));
-  end_word();
+  end_word(1);
   return 1;
 }
 
 static int put_sign(int from_make, int sign, FILE *file) {
-  if (file == stdout && is_word(from_make)) return fputc_unlocked(sign, said);
+  if (file == stdout && is_word(from_make)) {
+    is_inside = sign != '\n';
+    return fputc_unlocked(sign, said);
+  }
   if (file == stdout && sign == '\n') is_open = 0;
   return NEXT(fputc)(sign, file);
 }
@@ -312,100 +364,35 @@ size_t fwrite(const void *text, size_t size, size_t count, FILE *file) {
 static FILE *copied(const char *path, FILE *file) {
   struct stat found;
   char name[LONGEST + 32], bytes[LONGEST];
-  size_t got, all = 0;
+  size_t got;
   if (fstat(fileno(file), &found)) return file;
-  int is_plain = S_ISREG(found.st_mode);
-  if (is_plain && (found.st_size > MOST || found.st_ctim.tv_sec < began.tv_sec || (found.st_ctim.tv_sec == began.tv_sec && found.st_ctim.tv_nsec < began.tv_nsec))) return file;
+  int is_plain = S_ISREG(found.st_mode), is_whole = 1;
+  long newer = found.st_ctim.tv_sec != began.tv_sec ? found.st_ctim.tv_sec - began.tv_sec : found.st_ctim.tv_nsec - began.tv_nsec;
+  if (is_plain && (found.st_size > MOST || newer < 0)) return file;
   FILE *whole = is_plain ? file : fdopen(memfd_create("makefile", MFD_CLOEXEC), "w+");
   snprintf(name, sizeof name, "%s%d.read", place, copies + 1);
   int copy = whole ? open(name, O_WRONLY | O_CREAT | O_TRUNC | O_CLOEXEC, 0600) : -1;
   if (copy < 0) return file;
   while ((got = fread(bytes, 1, sizeof bytes, file)) > 0) {
-    struct rlimit limit;
-    is_cut = is_cut || !has_room(got, &limit) || (all += got) > MOST || write(copy, bytes, got) != (ssize_t)got;
-    setrlimit(RLIMIT_FSIZE, &limit);
+    is_whole = put_bytes(copy, bytes, got) && is_whole;
     if (!is_plain) NEXT(fwrite)(bytes, 1, got, whole);
   }
   close(copy);
   rewind(whole);
   if (!is_plain) fclose(file);
-  fprintf(said, "COPY %d", ++copies);
+  fprintf(said, "%s %d", is_whole ? "COPY" : "CUT", ++copies);
   put_line("", path);
   return whole;
 }
 
-static FILE *open_stream(FILE *(*next)(const char *, const char *), const char *path, const char *mode, int from_make) {
-  FILE *file = next(path, mode);
-  if (!file || !is_raised || !is_reading || !from_make || *mode != 'r') return file;
-  int before = errno;
-  is_reading = 0;
-  file = copied(path, file);
-  errno = before;
-  return file;
-}
-
 FILE *fopen(const char *path, const char *mode) {
-  return open_stream(NEXT(fopen), path, mode, FROM_MAKE);
+  FILE *file = NEXT(fopen)(path, mode);
+  if (!file || !is_raised || !is_reading || !FROM_MAKE || *mode != 'r') return file;
+  is_reading = 0;
+  return copied(path, file);
 }
 
-FILE *fopen64(const char *path, const char *mode) {
-  return open_stream(NEXT(fopen64), path, mode, FROM_MAKE);
-}
-
-/* `glob` and `glob64`, whose last word this hands on as it is. */
-typedef int (*Globbing)(const char *, int, int (*)(const char *, int), void *);
-
-static int find(const char *name, const char *pattern, int flags, int (*fault)(const char *, int), void *found) {
+int glob(const char *pattern, int flags, int (*fault)(const char *, int), glob_t *found) {
   if (is_raised && getpid() == own) put_line("GLOB", pattern);
-  return ((Globbing)next_of(name))(pattern, flags, fault, found);
-}
-
-int glob(const char *pattern, int flags, int (*fault)(const char *, int), void *found) {
-  return find("glob", pattern, flags, fault, found);
-}
-
-int glob64(const char *pattern, int flags, int (*fault)(const char *, int), void *found) {
-  return find("glob64", pattern, flags, fault, found);
-}
-
-/* ---- the end of make */
-
-/* The data base, by the functions of `make -p`. */
-static void put_base(void) {
-  static const char *const parts[] = {"print_variable_data_base", "print_dir_data_base", "print_rule_data_base", "print_file_data_base", "print_vpath_data_base"};
-  FILE *real = stdout;
-  if (!is_raised || getpid() != own) return;
-  fflush(stdout);
-  put_printed(0);
-  fputs_unlocked("# Make data base, printed on\n", said);
-  stdout = said;
-  is_base = 1;
-  for (size_t at = 0; at < sizeof parts / sizeof *parts; at++) {
-    void (*part)(void) = (void (*)(void))dlsym(RTLD_DEFAULT, parts[at]);
-    if (part) part();
-  }
-  is_base = 0;
-  stdout = real;
-  fputs_unlocked("\n# Finished Make data base on\n", said);
-  fflush_unlocked(said);
-}
-
-void exit(int status) {
-  put_base();
-  if (said && getpid() == own) {
-    fprintf(said, "EXIT %d\n", status);
-    fflush_unlocked(said);
-  }
-  NEXT(exit)(status);
-  __builtin_unreachable();
-}
-
-int execve(const char *path, char *const words[], char *const env[]) {
-  put_base();
-  return NEXT(execve)(path, words, env);
-}
-
-int execvp(const char *file, char *const words[]) {
-  put_base();
-  return NEXT(execvp)(file, words);
+  return NEXT(glob)(pattern, flags, fault, found);
 }

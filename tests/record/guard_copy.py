@@ -151,7 +151,7 @@ class Copy:
         modules = {name_of(Path(self.packages[0], module)): module for module in edited}
         patches = self.patches([*modules.values()])
         kept = self.kept if may_replay(modules.values()) else None
-        work = tests_of(names, self.uses(modules) if patches is None else set(), patches or [], modules, kept)
+        work = tests_of(names, self.uses(modules) if patches is None else set(), patches or [], kept)
         ran = forked.run(work, self.tests, SECONDS)
         return (ran.stdout + ran.stderr).decode("utf-8", "replace")
 
@@ -193,16 +193,13 @@ class Result(unittest.TextTestResult):
         super().startTest(test)
 
 
-def tests_of(names: List[str], stale: Set[str], patches: List[Patch], changed: Iterable[str], kept: Optional[Path]) -> Callable[[], int]:
+def tests_of(names: List[str], stale: Set[str], patches: List[Patch], kept: Optional[Path]) -> Callable[[], int]:
     """What a child does that runs these tests, where some modules were edited: either some are no longer those that were loaded, or functions have
     other codes."""
 
     def work() -> int:
         forget(stale)
         apply(patches)
-        main = sys.modules.get("record.main")
-        if main is not None and not set(main.WRAPPER).isdisjoint(changed):
-            main.wrapper.cache_clear()
         Result.kept = kept
         runner = unittest.TextTestRunner(sys.stderr, resultclass=Result)
         return 0 if runner.run(unittest.defaultTestLoader.loadTestsFromNames(names)).wasSuccessful() else 1

@@ -21,12 +21,8 @@ def later(name: str) -> str:
 
 
 FOUND_GUARDS: List[Guard] = [
-    Guard("several jobs: processes that ran at once", "make/owners.py", "return any(second.born < first.died for", "return any(False for", several("processes_that_ran_at_once")),
-    Guard("several jobs: with no number", "make/words.py", ' or RUNNING.match(text):', ":", found("jobs_with_no_number"), "", ("make/owners.py", "return any(second.born < first.died for", "return any(False for")),
-    Guard("several jobs: make's words about them", "make/wrapper.py", "or running is not None and running == self.target:", "or False:", several("words_of_make_that_does_not_wait")),
-    Guard("several jobs: not what a recipe prints", "make/wrapper.py", "or running is not None and running == self.target:", "or running is not None:", several("words_about_another_recipe")),
-    Guard("several jobs: letters of the environment", "make/options.py", "bool(own_jobs([letters])) or ", "", several("letters_of_the_environment")),
-    Guard("several jobs: letters that a recipe sets", "make/owners.py", "or asks_jobs([], self.words.flags))", 'or "-j" in self.words.flags)', found("jobs_by_letters_that_a_recipe_sets"), YES),
+    Guard("several jobs: letters of the environment", "make/flags.py", "bool(own_jobs([letters])) or ", "", several("letters_of_the_environment")),
+    Guard("several jobs: letters that a recipe sets", "make/one_job.py", "return not asks_jobs([], words.flags)", 'return "-j" not in words.flags', found("jobs_by_letters_that_a_recipe_sets"), YES),
     Guard("at once: looks", "at_once.py", '"WCDFMTXRSNEx"', '"WCDFMTXR"', found("look_beside_a_process_that_makes"), UNSAID),
     Guard("at once: folders", "at_once.py", 'CHANGES, TOUCHES = "WCDFMTX"', 'CHANGES, TOUCHES = "WDF"', found("folder_that_is_made_beside_a_look"), UNSAID),
     Guard("at once: many processes", "at_once.py", "if path in left or overlap(path, who)", "if path in left or len(who) < 40 and overlap(path, who)", found("many_processes_at_once"), UNSAID,

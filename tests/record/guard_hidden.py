@@ -103,6 +103,6 @@ HIDDEN_GUARDS: List[Guard] = [
     Guard("lists: of a make that begins again", "make/owners.py", "            if self.begin(start) <= place < self.begin(start + 1):", "            if True:", hidden("listing_of_a_make_that_begins_again"), YES,
           ("make/memory.py", "if last > began}", "if first > began}")),
     Guard("lists: in pieces", "make/owners.py", "found[path] = (found[path][0] if path in found else place, place)", "found.setdefault(path, (place, place))", trace("list_that_is_read_in_pieces")),
-    Guard("serial: not a make that make calls", "make/owners.py", "self.words.below or self.is_called or", "self.words.below or", hidden("make_that_make_calls"), YES),
+    Guard("serial: not a make that make calls", "make/owners.py", "(bool(self.words.slots) or not self.is_called) and ", "", hidden("make_that_make_calls"), YES),
     Guard("serial: a make that make calls without flags", "make/owners.py", ' and not any("MAKEFLAGS" in word', ' and not any(False', hidden("make_that_make_calls_without_flags"), FALSE_RACE),
 ]

@@ -3,7 +3,7 @@ test_hunted.py for the tests."""
 
 from typing import List
 
-from guard_table import COPIES, FALSE_RACE, LOST_HOLE, UNSAID, YES, Guard
+from guard_table import FALSE_RACE, LOST_HOLE, UNSAID, YES, Guard
 
 
 def hunted(name: str) -> str:
@@ -12,9 +12,9 @@ def hunted(name: str) -> str:
 
 
 HUNTED_GUARDS: List[Guard] = [
-    Guard("acts of make: between the lines of a recipe", "make/owners.py", "if before is not None and (place < last or not before.is_ended):", "if False:", hunted("program_of_a_later_line"), YES),
-    Guard("acts of make: not of the next recipe", "make/owners.py", "            if place > last:\n", "            if True:\n", hunted("program_that_the_next_recipe_does_not_need"), FALSE_RACE),
-    Guard("acts of make: a line that starts nothing", "make/owners.py", "(place < last or not before.is_ended)", "place < last", hunted("program_that_is_not_there"), YES),
+    Guard("acts of make: between the lines of a recipe", "make/owners.py", "[*later, *([before] if before is not None and not before.is_ended else [])]", "()", hunted("program_of_a_later_line"), YES),
+    Guard("acts of make: not of the next recipe", "make/owners.py", "            if place > last or len(later) > 1:\n", "            if True:\n", hunted("program_that_the_next_recipe_does_not_need"), FALSE_RACE),
+    Guard("acts of make: a line that starts nothing", "make/owners.py", ", *([before] if before is not None and not before.is_ended else [])]", "]", hunted("program_that_is_not_there"), YES),
     Guard("acts of make: names that the data base shows in an odd way", "make/owners.py", " or t not in base.prerequisites)", ")", hunted("name_that_ends_in_a_colon"), YES),
     Guard("data base: names that begin like a remark", "make/database.py", ' and text[1:2] in ("", " "):', ":", hunted("name_that_begins_like_a_remark"), YES, ("make/owners.py", " or t not in base.prerequisites)", ")")),
     Guard("programs: in relative folders", "make/owners.py", "programs.are_at(act.word)", "False", hunted("program_that_is_a_target"), YES),
@@ -22,13 +22,7 @@ HUNTED_GUARDS: List[Guard] = [
     Guard("programs: not any target", "make/programs.py", "os.path.basename(word) in self.names and (", "(", hunted("target_that_is_no_program"), FALSE_RACE),
     Guard("holes: targets that were given up for a makefile", "make/words.py", "(?:Failed to remake|Giving up on)", "(?:Failed to remake)", hunted("target_that_is_given_up_for_a_makefile"), LOST_HOLE),
     Guard("holes: not targets without a rule", "make/words.py", "if name in needed and not ran.isdisjoint(one.below(name)):", "if name in needed:", hunted("target_without_a_rule_for_a_makefile"), "0 != 2"),
-    Guard("holes: makes that are not understood", "make/words.py", "    if not words.read:\n", "    if False:\n", "test_hunted.Language.test_make_that_is_not_understood"),
-    Guard("language: that of make", "make/options.py", '    environment["LC_MESSAGES"] = "C"\n', "", "test_hunted.Language.test_environment"),
-    Guard("language: the rest of the locale stays", "make/options.py", "dict.fromkeys(CATEGORIES, ", "dict.fromkeys([], ", "test_hunted.Language.test_environment"),
-    Guard("output: a first line that starts nothing", "make/lines.py", 'BEGINS_JOB, ENDS_JOB = (b"Putting", b"Live"),', 'BEGINS_JOB, ENDS_JOB = (b"Putting",),', "test_hunted.Said.test_first_line"),
-    Guard("output: a last line that starts nothing", "make/wrapper.py", "return not self.is_last(packet)", "return True", "test_hunted.Said.test_last_line"),
-    Guard("makefiles: written again", "make/owners.py", "if make.stale or any(", "if any(", hunted("makefile_that_is_written_again"), YES, COPIES),
-    Guard("makefiles: not those written before", "make/owners.py", "any(first < place < last", "any(first < place", hunted("makefile_that_is_written_once"), FALSE_RACE, COPIES),
+    Guard("holes: makes that are not understood", "make/words.py", "    if not words.read and not words.status:\n", "    if False:\n", "test_hunted.Language.test_make_that_is_not_understood"),
     Guard("folders: in another way too", "make/quiet.py", "return found and all(is_of_form(life, folder, is_kept) for life in lives)", "return found", hunted("folder_that_a_script_makes_too"), YES),
     Guard("folders: twice in a text", "commands/shelltext.py", """, r"\\bmkdir\\s+(?!-p\\b|--p)[^;&|\\n]*?"))""", ",))", hunted("folder_that_a_text_makes_twice"), YES),
     Guard("folders: a word that is cut", "commands/shelltext.py", 'w.startswith("--v")', 'w == "--verbose"', hunted("folder_that_is_told"), YES),

@@ -83,8 +83,4 @@ LATE_GUARDS: List[Guard] = [
     Guard("system: links that lead out", "trace/sifting.py", " or not (real + \"/\").startswith(self.inside)", "", trace("link_that_leads_out_of_the_system")),
     Guard("texts: what cannot be read again", "commands/texts.py", "return machine.isfile(path) and not", "return machine.exists(path) and not", "test_late.Texts.test_what_cannot_be_read_again"),
     Guard("texts: what is of each process", "commands/texts.py", " and not os.path.normpath(path).startswith(OF_PROCESS)", "", "test_late.Texts.test_what_cannot_be_read_again"),
-    Guard("words of make: marks of an encoding", "make/lines.py", """, (b"Skipping UTF-8 BOM in makefile '", (b"'",)),""", ",", "test_late.Changed.test_makefile_with_a_mark_of_its_encoding"),
-    Guard("wrapper: by a link", "trace/started.py", "own = self.stand_in(life, found.path)", "own = self.stand_in(life, words[0])", "test_late.Changed.test_link_to_make"),
-    Guard("wrapper: names of a link", "make/wrapper.py", 'return name if is_own or next((place for place in places if os.access(place, os.X_OK)), "") == me else me', "return name", "test_late.Changed.test_link_to_make"),
-    Guard("wrapper: a pipe that does not wait", "make/wrapper.py", "            os.set_blocking(writing, True)\n", "            pass\n", "test_late.Changed.test_recipe_that_lets_no_write_wait"),
 ]

@@ -115,8 +115,6 @@ LATER: List[Guard] = [
     Guard("ninja's own: a log that one before has made", "ninja/build.py", " and not any(self.build.is_before(maker, at) for maker in makers):", ":", ninja("log-that-is-listed-behind-another"), FALSE_RACE),
     Guard("ninja's own: a log that does not fit", "ninja/build.py", "folder == os.path.dirname(path) and fits(pattern, path, self.names)", "folder == os.path.dirname(path)", ninja("log-that-a-pattern-does-not-fit"), FALSE_RACE),
     Guard("ninja's own: its log and the age of the folder", "ninja/build.py", "            if is_new and folder in self.timed:\n", "            if False:\n", ninja("log-and-the-age-of-its-folder"), YES),
-    Guard("ninja, said: a command that shows PATH", "importing.py", "    named_by_ninja(ninjas, assumed, facts.place)\n", "", ninja("path"), UNSAID),
-    Guard("ninja, said: a command below a make once", "premises.py", "() if any(up.is_make for up in life.up()) else life.ran:", "life.ran:", ninja("path-below-a-make"), UNSAID),
     Guard("ninja, holes: a ninja of another name", "ninja/runs.py", "            elif is_unknown(life):", "            elif False:", ninja("another-name"), LOST_HOLE),
     Guard("ninja, hints: the last build stays", "main.py", "tools, out, number == TRIES)", "tools, out)", "test_ninja.Hints.test_last_build_stays"),
     Guard("ninja, holes: a manifest that is gone", "ninja/runs.py", "ninja.is_tried = is_tried(ninja)", "ninja.is_tried = bool(jobs)", ninja("tried-by-another"), LOST_HOLE),

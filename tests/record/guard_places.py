@@ -10,7 +10,7 @@ def placed(name: str) -> str:
     return "test_places.Places.test_" + name
 
 
-BASE, OPTIONS, WRAPPER = "make/database.py", "make/options.py", "make/wrapper.py"
+BASE = "make/database.py"
 TWICE = "test_words.Holes.test_data_base_with_a_part_or_a_macro_that_comes_twice"
 
 PLACE_GUARDS: List[Guard] = [
@@ -21,33 +21,17 @@ PLACE_GUARDS: List[Guard] = [
     Guard("data base: lines that look like its own are a hole", "make/words.py", "    if found.is_unclear:\n", "    if False:\n", "test_places.Makefiles.test_text_with_lines_like_those_of_the_data_base", LOST_HOLE),
     Guard("places: descriptors of the caller", "main.py", "close_fds=False", "close_fds=True", placed("descriptors_that_the_caller_has_opened")),
     Guard("places: what Python sets of the locale", "main.py", "    forget_coerced(env)\n", "", placed("signs_where_no_locale_is_set")),
-    Guard("places: what Python sets of the locale, for each make", WRAPPER, "    forget_coerced(os.environ)\n", "", placed("signs_where_no_locale_is_set")),
-    Guard("places: what the locale was", OPTIONS, "        environment.update({\"LC_CTYPE\"", "        dict({\"LC_CTYPE\"", placed("signs_where_no_locale_is_set")),
-    Guard("places: signals where make begins again", WRAPPER, "begins again\n        as_usual()\n", "begins again\n", placed("signals_where_make_begins_again")),
-    Guard("places: signals that are ignored", WRAPPER, "[signal.SIGINT] if signal.signal(signal.SIGINT, signal.SIG_IGN) != signal.SIG_IGN else []", "[signal.SIGINT, signal.signal(signal.SIGINT, signal.SIG_IGN)][:1]", placed("signals_that_the_caller_ignores")),
-    Guard("places: a key of the caller ends what it ends", WRAPPER, "[signal.SIGINT] if signal.signal(signal.SIGINT, signal.SIG_IGN) != signal.SIG_IGN else []", "[signal.signal(signal.SIGINT, signal.SIG_IGN)][:0]", placed("signals_where_make_begins_again")),
-    Guard("places: flags of GNUMAKEFLAGS that only ask", WRAPPER, 'asked(args, flags, os.environ.get("GNUMAKEFLAGS", ""))', "asked(args, flags)", placed("flags_that_only_ask")),
-    Guard("places: flags with a dash that only ask", OPTIONS, "        found |= asked_by(words_of(text))\n", "        found |= asked_by(words_of(text)[:1])\n", placed("flags_that_only_ask")),
-    Guard("places: flags of a make above", "main.py", 'JOB_WORDS.sub("", words) + dashes + values', '""', placed("flags_of_a_make_above")),
-    Guard("places: the job server of a make above", "main.py", 'JOB_WORDS.sub("", words) + dashes', "words + dashes", placed("flags_of_a_make_above")),
-    Guard("places: blanks in flags", OPTIONS, "words[-1] + \" \" + word] if goes_on else", "words[-1] + \" \" + word] if False else", "test_wrapper.Asked.test_flags_of_the_make_above"),
-    Guard("places: backslashes in flags", OPTIONS, '(len(word) - len(word.rstrip("\\\\"))) % 2 == 1', 'word.endswith("\\\\")', "test_wrapper.Asked.test_flags_of_the_make_above"),
+    Guard("places: what the locale was", "entry.py", "        environment.update({\"LC_CTYPE\"", "        dict({\"LC_CTYPE\"", placed("signs_where_no_locale_is_set")),
     Guard("places: the end of a child", "entry.py", "    if signal.signal(signal.SIGCHLD, signal.SIG_DFL) is signal.SIG_IGN:", "    if False:", placed("end_of_a_child_that_the_caller_ignores")),
-    Guard("places: the end of a child, for each make", WRAPPER, "    signal.signal(signal.SIGCHLD, signal.SIG_DFL)", "    pass", placed("end_of_a_child_that_the_caller_ignores")),
     Guard("places: the end of a child, as the caller has it", "entry.py", "        UNHEARD.append(signal.SIGCHLD)", "        pass", placed("end_of_a_child_that_the_caller_ignores")),
     Guard("places: no variables", "entry.py", "(sys.executable, os.path.realpath(\"/proc/self/exe\"))", "[sys.executable]", placed("no_variables_at_all")),
-    Guard("places: a path of Python that no script can name", "entry.py", "if len(os.fsencode(path)) < SHORT and not set(path) & set(\" \\t\\n\"):", "if True:", "test_entry.Python.test_paths_that_no_script_can_name"),
-    Guard("signals: those that come for make", WRAPPER, "    hand_on(child)\n", "", "test_output.Output.test_signals_that_a_recipe_sends_to_a_make"),
-    Guard("signals: an interrupt of make alone", "make/heard.py", " or one in USUAL:", ":", "test_output.Output.test_signals_that_a_recipe_sends_to_a_make"),
-    Guard("ends: what strace has left and lives on", "entry.py", " and not any(left_of(room)) else 0", " else 0", "test_ends.Signals.test_what_does_not_hear_the_first_signal"),
+    Guard("ends: what strace has left and lives on", "entry.py", " and not any(left()) else 0", " else 0", "test_ends.Signals.test_what_does_not_hear_the_first_signal"),
     Guard("ends: what becomes another program", "entry.py", "while looks < 2 and", "while looks < 1 and", "test_ends.Signals.test_what_becomes_another_program"),
-    Guard("ends: what strace followed and has left", "entry.py", "list(left_of(room) if is_over else traced(strace.pid))", "list(traced(strace.pid))", "test_ends.Signals.test_strace_that_ended_before_the_build"),
+    Guard("ends: what strace followed and has left", "entry.py", "list(left() if is_over else traced(strace.pid))", "list(traced(strace.pid))", "test_ends.Signals.test_strace_that_ended_before_the_build"),
     Guard("ends: the key that quits", "entry.py", ", signal.SIGQUIT, signal.SIGALRM", ", signal.SIGALRM", "test_ends.Signals.test_quit"),
     Guard("ends: signals of batch systems", "entry.py", ", signal.SIGUSR1, signal.SIGUSR2, signal.SIGXCPU)", ")", "test_ends.Signals.test_signal_of_a_batch_system"),
     Guard("places: temporary folders in which no program runs", "folder.py", "if runs_programs(path) and", "if", "test_ends.Places.test_temporary_folders_in_which_no_program_runs"),
     Guard("places: a temporary folder in the project", "folder.py", "(path == ROOMS or not (os.path.realpath(path) + \"/\").startswith(tuple(inside)))", "True", "test_ends.Places.test_temporary_folders_in_which_no_program_runs"),
     Guard("ends: a make that was killed", "failed.py", "if one.base is not None and target not in one.base.recipes:", "if target not in (one.base or Base()).recipes:", "test_failed.Failed.test_make_that_was_killed"),
-    Guard("output: files that a make removes which stops", WRAPPER, "elif self.next is not None and packet == REMOVING:", "elif False:", "test_output.Output.test_intermediate_files_of_a_build_that_fails"),
-    Guard("output: that line of a recipe that prints it", WRAPPER, "remade(packet) == self.next and not any(", "False and not any(", "test_wrapper.Splits.test_files_that_a_make_removes_which_stops_before_a_recipe"),
     Guard("data base: lines that begin like one of its parts", BASE, "elif text == PARTS[2]:", "elif text.startswith(PARTS[2]):", "test_places.Makefiles.test_file_with_lines_that_begin_so", YES),
 ]

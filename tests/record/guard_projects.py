@@ -2,7 +2,7 @@
 
 from typing import List
 
-from guard_table import COPIES, FALSE_RACE, LISTED_FIRST, LOST_HOLE, LOST_RACE, UNSAID, YES, Guard
+from guard_table import FALSE_RACE, LISTED_FIRST, LOST_HOLE, LOST_RACE, UNSAID, YES, Guard
 
 
 def project(name: str) -> str:
@@ -81,8 +81,6 @@ NUMBERS: List[Guard] = [
 PROJECT_GUARDS: List[Guard] = [
     Guard("projects: shells that get exported macros", "make/ahead.py", "if builder.make.words.exports_to_shell and", "if False and",
           "test_projects.Ahead.test_macro_that_looks_at_the_folder", YES),
-    Guard("projects: makes by which GCC optimises", "make/owners.py", "([], []) if is_of_linker(make.life) else self.patterns_of(make)", "self.patterns_of(make)",
-          project("programs_that_are_optimised_while_linked"), FALSE_RACE, COPIES),
     *NUMBERS,
     *CONFIGURED_GUARDS,
     Guard("folders: those above the project", "trace/names.py", "self.above.update(path for path in above if machine.isdir(path))", "pass", project("folders_by_a_whole_path"), FALSE_RACE),
@@ -228,7 +226,6 @@ PROJECT_GUARDS: List[Guard] = [
     Guard("wildcard: arguments that a text may set", "make/globs.py", "is_known and not self.is_bound_otherwise and not self.is_open", "is_known and not self.is_bound_otherwise", "test_globs.Globs.test_arguments_that_have_a_value_otherwise"),
     Guard("wildcard: functions that macros name", "make/globs.py", "is_plain_call and name.strip()", "name.strip()", "test_globs.Globs.test_arguments_that_have_a_value_otherwise"),
     Guard("wildcard: folders of targets that a loop names", "make/memory.py", ' or BOUND.search(whole):', ":", hidden("pattern_of_a_loop_over_targets"), YES),
-    Guard("wrapper: makes with nowhere to print", "make/wrapper.py", "if query or is_closed(1):", "if query:", project("make_with_its_output_closed"), UNSAID),
     Guard("markers: of Perl", "tools/exists.py", "        life.acts = [act for act in life.acts if act.path not in found]\n", "", project("marker_of_two_makes"), FALSE_RACE, ("tools/exists.py", "return not is_read and", "return False and")),
     Guard("markers: makes that would make the folder", "importing.py", "    credit_makes(owners, markers)\n", "", project("marker_of_two_makes"), FALSE_RACE),
     Guard("markers: modes of folders that a make above has made", "make/folders.py", "known.get(path, set()).union(made[path].modes if path in made else ())", "set(made[path].modes if path in made else ())", project("mode_that_a_make_above_has_set"), FALSE_RACE),

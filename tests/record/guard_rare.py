@@ -62,6 +62,4 @@ RARE_GUARDS: List[Guard] = [
           texts("not_parallel_that_is_no_target")),
     Guard("one job at a time: by a pattern", "make/considered.py", ' and ".NOTPARALLEL" not in base.implicit', "", rare("not_parallel_by_a_pattern"), YES),
     Guard("output: recipes that look into it", "make/unfiled.py", 'which is kept in a file", seeing, ', 'which is kept in a file", set(), ', rare("output_that_a_recipe_reads"), YES),
-    Guard("output: recipes of makes below that look into it", "make/outputs.py", "return known[1] if known is not None", 'return "" if known is not None',
-          rare("output_that_a_recipe_of_a_make_below_reads"), YES),
 ]

@@ -142,6 +142,4 @@ SEEN_GUARDS: List[Guard] = [
     Guard("times of reading: by scripts", "commands/shellages.py", " or bool(script_of(argv)) and asks_reads_in(", " or False and asks_reads_in(", seen("times_of_reading_by_a_script"), UNSAID),
     Guard("links: attributes of their own", "trace/calls.py", '"removexattr", "lremovexattr", "fchmodat"', '"removexattr", "fchmodat"', trace("attributes_of_a_link")),
     Guard("programs by their numbers", "trace/started.py", ' or "".join(folders(call.args)[:1])', "", trace("a_program_by_its_number")),
-    Guard("wrapper: words in one piece with a recipe's", "make/wrapper.py", "        if at > 0:\n", "        if False:\n", "test_wrapper.Splits.test_words_that_come_with_those_of_a_recipe"),
-    Guard("wrapper: one line a write behind them", "make/wrapper.py", "end = end if at == 0 or is_own else 0", "end = end if at == 0 else 0", "test_wrapper.Splits.test_words_that_come_with_those_of_a_recipe"),
 ]

@@ -16,7 +16,7 @@ WAY_GUARDS: List[Guard] = [
     Guard("ways: from the system's folders", "trace/replay.py", " or self.is_inside(os.path.normpath(path)))", ")", ways("folder_that_a_whole_path_leaves_again"), YES),
     Guard("ways: what a link says", "trace/replay.py", '            if inode is not None and "/.." in inode.target:\n', "            if False:\n", ways("folder_that_a_link_leaves_again"), YES),
     Guard("ways: by way of /proc", "trace/calls.py", '            if "/.." in path:\n                self.put_left', '            if False:\n                self.put_left', ways("folder_that_a_path_by_way_of_proc_leaves_again"), YES),
-    Guard("ways: interpreters", "trace/started.py", "            found = self.found(life, program, True)\n            if found.path == self.real:", "            found = self.names.find(life.folder, program, True)\n            if found.path == self.real:",
+    Guard("ways: interpreters", "trace/started.py", "            found = self.found(life, program, True)\n            if self.is_real_make", "            found = self.names.find(life.folder, program, True)\n            if self.is_real_make",
           ways("folder_that_the_way_to_an_interpreter_leaves_again"), YES),
     Guard("ways: where nothing was there", "trace/replay.py", "WAY_ABSENT if found.path.startswith(found.missing + \"/\") else ABSENT, found.missing", "WAY_ABSENT, found.missing",
           ways("folder_by_way_of_which_nothing_was_there"), YES),

@@ -18,11 +18,10 @@ from typing import Any, Callable, Dict, Iterable, List, Optional, Sequence, Tupl
 # Modules that act before the build has ended. A guard of theirs builds anew; test_kept.py wants each one that does to stand here, or among those that
 # also read the kept trace.
 BUILDING = {"main.py", "entry.py", "folder.py", "standstill.py", "trace/pipe.py", "trace/unfollowed.py", "trace/classes.py", "trace/sifting.py", "ninja/retry.py", "ninja/cold_copy.py",
-            "unseen_makes.py", "make/cover.py", "make/limits.py", "make/lines.py", "make/given.py", "make/copied.py", "make/heard.py", "make/options.py", "make/outputs.py", "make/wrapper.py"}
+            "watch/lay.py", "watch/library.py", "watch/elf.py"}
 READING = {"trace/arguments.py", "trace/strace.py"}  # what reads a trace ahead, too
-PREFIX = "race-record-"  # of the folders that the recorder makes for itself
-MAKES = "race-make-"  # of those in which it copies make (record/make/cover.py)
-LEFT_OUT = {"bin", "wrapper", "lines", "sifted", "sifted.part"}  # what the recorder makes there anew
+PREFIXES = ("race-record-", "race-watch-")  # of the folders that the recorder makes for itself
+LEFT_OUT = {"sifted", "sifted.part"}  # what the recorder makes there anew
 MOST = 1 << 22  # bytes of a tree
 Entry = Tuple[str, int, int, bytes]  # a name below a folder, its mode and time, and what it holds or leads to
 
@@ -110,8 +109,8 @@ class Recording:
     asked: Any = None  # the words and the tops of the build
     before: bytes = b""  # the digest of the tree before
     given: Any = None  # the status and the seconds
-    make: str = ""  # the make that ran
     spool: List[Entry] = field(default_factory=list)
+    said: List[Entry] = field(default_factory=list)  # what makes said
     tree: List[Entry] = field(default_factory=list)
     printed: List[Tuple[int, int]] = field(default_factory=list)  # of each stream: what the recorder itself had printed before, and then in all
 
@@ -179,18 +178,18 @@ def keep(work: Callable[[], int], kept: Recording, room: str, path: Path) -> int
 
     build, make, leave, whole = main.run_build, tempfile.mkdtemp, os._exit, []
 
-    def run_build(words: List[str], spool: Path, tops: List[str], cover: Any) -> Tuple[int, float]:
+    def run_build(words: List[str], spool: Path, tops: List[str], watch: Any) -> Tuple[int, float]:
         tree, kept.printed = tree_of(room), [printed()]
-        kept.asked, kept.given = (words, tops), build(words, spool, tops, cover)
-        left = tree_of(room), tree_of(str(spool), LEFT_OUT)
-        whole.append(tree is not None and left[0] is not None and left[1] is not None)
+        kept.asked, kept.given = (words, tops), build(words, spool, tops, watch)
+        left = tree_of(room), tree_of(str(spool), LEFT_OUT), tree_of(str(watch.said))
+        whole.append(tree is not None and None not in left)
         if whole[-1]:
-            kept.before, kept.tree, kept.spool, kept.make = digest(tree or []), left[0] or [], left[1] or [], (spool / "real").read_text()
+            kept.before, kept.tree, kept.spool, kept.said = digest(tree or []), left[0] or [], left[1] or [], left[2] or []
         return kept.given  # type: ignore[no-any-return]
 
     def mkdtemp(suffix: Any = None, prefix: Any = None, dir: Any = None) -> str:  # noqa: A002
         found = make(suffix, prefix, dir)
-        kept.rooms += [found] if prefix == PREFIX else []
+        kept.rooms += [found] if prefix in PREFIXES else []
         return found
 
     def _exit(status: int) -> None:
@@ -214,12 +213,13 @@ def replay(work: Callable[[], int], args: List[str], room: str, path: Path) -> i
     os.environ.update(kept.environment)
     build, make, rooms, used = main.run_build, tempfile.mkdtemp, list(kept.rooms), []
 
-    def run_build(words: List[str], spool: Path, tops: List[str], cover: Any) -> Tuple[int, float]:
+    def run_build(words: List[str], spool: Path, tops: List[str], watch: Any) -> Tuple[int, float]:
         tree = tree_of(room)
-        if used or rooms or (words, tops) != kept.asked or tree is None or digest(tree) != kept.before or not moved(cover, kept.make):
-            return build(words, spool, tops, cover)
+        if used or rooms or (words, tops) != kept.asked or tree is None or digest(tree) != kept.before:
+            return build(words, spool, tops, watch)
         used.append(True)
         put(str(spool), kept.spool)
+        put(str(watch.said), kept.said)
         clear(room, kept.tree)
         put(room, kept.tree)
         main.sift(spool / "trace", tops, spool / "sifted")
@@ -227,23 +227,10 @@ def replay(work: Callable[[], int], args: List[str], room: str, path: Path) -> i
         return kept.given  # type: ignore[no-any-return]
 
     def mkdtemp(suffix: Any = None, prefix: Any = None, dir: Any = None) -> str:  # noqa: A002
-        return prefix == PREFIX and rooms and made(rooms[0]) and rooms.pop(0) or make(suffix, prefix, dir)  # (one that is there stays in the list: then it builds)
+        return prefix in PREFIXES and rooms and made(rooms[0]) and rooms.pop(0) or make(suffix, prefix, dir)  # (one that is there stays in the list: then it builds)
 
     main.run_build, tempfile.mkdtemp = run_build, mkdtemp  # type: ignore[assignment]
     return work()
-
-
-def moved(cover: Any, make: str) -> bool:
-    """Whether the make that ran is there: a copy of it, where the recorder's own lay over it, gets the name that it had."""
-    room = os.path.dirname(make)
-    if not os.path.basename(room).startswith(MAKES):
-        return True
-    try:
-        os.rename(cover.room, room)
-    except OSError:  # another process takes the same recording
-        return False
-    cover.room = Path(room)
-    return True
 
 
 def show(kept: Recording, path: Path) -> None:

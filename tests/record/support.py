@@ -35,7 +35,7 @@ from record.trace.unfollowed import first_unknown  # noqa: E402
 
 # What is found here is kept for all children.
 skipping([])
-record.main.wrapper(), record.main.parser_of_words()
+record.main.parser_of_words()
 if shutil.which("strace"):
     first_unknown()
     with contextlib.suppress(record.main.Missing):

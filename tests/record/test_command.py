@@ -13,7 +13,6 @@ from unittest import mock
 
 import forked
 import support
-from record.unseen_makes import other_user
 
 RACE = "all: a b\na: ; echo a > a\nb: ; cp a b\n"
 SAFE = "all: a b\na: ; echo a > a; echo said; echo aside >&2\nb: a ; cp a b\n"
@@ -72,23 +71,6 @@ def python_of_nobody() -> str:
 
 class Users(unittest.TestCase):
     """Builds of another user."""
-
-    def test_command_that_changes_the_user(self) -> None:
-        says = "race-record: %s starts make as another user, or with a PATH of its own, where the recorder does not see it. Nothing was built. Let %s start race-record: %s\n"
-        text, which = "su .. -c 'race-record -- make'", shutil.which
-
-        def there(name: str, path: Optional[str] = None) -> str:
-            return which(name, path=path) or name
-
-        for words, inner in ((AS_NOBODY + ["make"], "setpriv .. race-record -- make"), (["/usr/bin/su", "nobody", "-c", "make"], text)):
-            with self.subTest(words[0]), support.Project({"Makefile": RACE}) as project, mock.patch("record.main.shutil.which", there):
-                outcome = project.record(words)
-                self.assertEqual(["Makefile"], os.listdir(project.folder))
-            name = os.path.basename(words[0])
-            self.assertEqual((3, says % (name, name, inner)), (outcome.status, outcome.stderr.decode()))
-
-    def test_setpriv_that_keeps_the_user(self) -> None:
-        self.assertIsNone(other_user(["setpriv", "--no-new-privs", "make"]))
 
     def test_recorder_as_another_user(self) -> None:
         python = python_of_nobody()

@@ -254,24 +254,6 @@ class Older(unittest.TestCase):
             self.status(FILLED.replace("all: c", "all: c e") % "echo $(wildcard d/*) > c" + "e: a b c ; echo $(wildcard d/*) > e\n", version, says)
 
 
-# A process with a limit, which it may not raise where that is refused, keeps a file, and has the limits that it had before.
-LIMITING = """
-import resource, sys
-sys.path.insert(0, %r)
-from record.make import limits
-before = (10, resource.getrlimit(resource.RLIMIT_FSIZE)[1])
-set_to, is_refused = resource.setrlimit, %s
-set_to(resource.RLIMIT_FSIZE, before)
-def setrlimit(which, pair):
-    if is_refused and pair[0] != before[0]:
-        raise ValueError
-    set_to(which, pair)
-resource.setrlimit = setrlimit
-limits.keep("f", b"x" * 100)
-assert resource.getrlimit(resource.RLIMIT_FSIZE) == before
-"""
-
-
 class Limits(unittest.TestCase):
     """A limit on the size of files changes no build."""
 
@@ -285,13 +267,6 @@ class Limits(unittest.TestCase):
 
     def test_limit_that_is_raised_for_the_recorder_alone(self) -> None:
         self.both(LIMITED.replace("; touch all", " > log || true") % "ulimit -S -f 1", in_mk=MANY + "a b: ; @seq 300\n")
-
-    def test_limit_that_cannot_be_raised(self) -> None:
-        for refused, is_cut in (("True", True), ("False", False)):
-            text = LIMITING % (str(support.TOP), refused)
-            with tempfile.TemporaryDirectory(prefix="race-test-") as room:
-                done = subprocess.run([sys.executable, "-c", text], cwd=room, capture_output=True, check=False)
-                self.assertEqual((0, is_cut, 10 if is_cut else 100), (done.returncode, os.path.exists(room + "/f.cut"), os.path.getsize(room + "/f")))
 
     def test_limit_says_so(self) -> None:
         if can_raise():

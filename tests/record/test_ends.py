@@ -22,8 +22,9 @@ from record.entry import STOPPING, end_traced, have_ended
 from record.folder import Taken, alone as alone_at, aside, come_back, move
 from record.messages import printable, reason
 from record.trace.pipe import Pipe
+from record.watch.lay import Watch
 
-SLOW = {"Makefile": "all: ; @echo $$PPID $$$$ > pids; echo \"$$PATH\" > path; : > begun; exec sleep 100\n"}  # a shell that waits for a child may go on behind an interrupt
+SLOW = {"Makefile": "all: ; @echo $$PPID $$$$ > pids; sed -n 's/.* //; /watch.so/{p;q}' /proc/$$PPID/maps > path; : > begun; exec sleep 100\n"}  # a shell that waits for a child may go on behind an interrupt
 SAFE = {"Makefile": "all: ; @touch all\n"}
 
 
@@ -91,17 +92,18 @@ class Signals(unittest.TestCase):
             self.assertEqual("race-record: stopped by %s; there is no verdict" % signal.Signals(number).name, said.decode().splitlines()[-1])
             self.assertEqual("older\n", (project.folder / ".race" / "record.json").read_text())
             self.assertFalse([pid for pid in (project.folder / "pids").read_text().split() if is_alive(pid)])
-            self.assertFalse(os.path.exists((project.folder / "path").read_text().split(":")[0]))
+            library = (project.folder / "path").read_text().strip()
+            self.assertEqual(("watch.so", False), (os.path.basename(library), os.path.exists(os.path.dirname(library))))
 
     def test_what_does_not_hear_the_first_signal(self) -> None:
         """It is killed then, also where strace does not follow it any more."""
         with tempfile.TemporaryDirectory() as room, mock.patch("record.entry.PATIENCE", 0.2), subprocess.Popen(["true"]) as strace:
             strace.wait()
-            env = {**os.environ, "PATH": "%s/bin:%s" % (room, os.environ["PATH"])}
-            with subprocess.Popen(["sh", "-c", "trap '' TERM; echo; exec sleep 100"], env=env, stdout=subprocess.PIPE) as left:
+            watch = Watch(room)
+            with subprocess.Popen(["sh", "-c", "trap '' TERM; echo; exec sleep 100"], env=watch.environment(dict(os.environ)), stdout=subprocess.PIPE, stderr=subprocess.DEVNULL) as left:
                 assert left.stdout is not None
                 left.stdout.readline()  # it ignores the signal now
-                end_traced(strace, room)
+                end_traced(strace, watch.left)
                 time.sleep(0.1)
                 status = left.poll()
                 left.kill()
@@ -110,10 +112,10 @@ class Signals(unittest.TestCase):
     def test_what_becomes_another_program(self) -> None:
         """It has no environment for a moment, by which it would be found."""
         for shown, looks in (((False, True, False, False), 4), ((False, False), 2)):
-            found = [iter((1,) if is_there else ()) for is_there in shown]
-            with subprocess.Popen(["true"]) as strace, mock.patch("record.entry.left_of", side_effect=found) as left:
+            left = mock.Mock(side_effect=[iter((1,) if is_there else ()) for is_there in shown])
+            with subprocess.Popen(["true"]) as strace:
                 strace.wait()
-                self.assertEqual((True, looks), (have_ended(strace, ""), left.call_count))
+                self.assertEqual((True, looks), (have_ended(strace, left), left.call_count))
 
     def test_terminated(self) -> None:
         self.stopped(signal.SIGTERM)
@@ -184,12 +186,12 @@ class Places(unittest.TestCase):
             self.assertFalse((project.folder / "all").exists())
 
     def test_temporary_folders_in_which_no_program_runs(self) -> None:
-        """/tmp is often mounted so: the recorder's make runs from another one, which is no part of the project."""
-        files = {"Makefile": 'all: ; @echo "$${PATH%%/bin:*}" > all\n'}
+        """/tmp is often mounted so: the library comes from another one, which is no part of the project."""
+        files = {"Makefile": "all: ; @sed -n 's:.* \\(.*\\)/race-watch-.*/watch.so:\\1:; T; p; q' /proc/$$PPID/maps > all\n"}
         with support.Project(files) as project, mock.patch("record.folder.runs_programs", lambda path: path != "/tmp"):
             with mock.patch.dict(os.environ, TMPDIR=os.fspath(project.folder)):
                 self.assertEqual(0, project.record().status)
-            self.assertEqual("/var/tmp", os.path.dirname((project.folder / "all").read_text()))
+            self.assertEqual("/var/tmp\n", (project.folder / "all").read_text())
         with support.Project(SAFE) as project, mock.patch("record.folder.runs_programs", lambda path: False):
             self.ends(project, "no folder for temporary files lets programs run (/tmp, ", ("--", "make"))
 

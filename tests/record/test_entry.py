@@ -13,8 +13,6 @@ from unittest import mock
 
 from support import TOP, Project, race_program
 
-from record.entry import interpreter
-
 LINES = {"record": "there is no verdict", "report": "there is no report", "confirm": "nothing is confirmed", "explain": "nothing is explained"}
 BROKEN = {"a main that fails": "def main():\n    raise IndexError('no such thing')\n", "no Python": "def main(:\n"}
 
@@ -95,20 +93,6 @@ class Pythons(unittest.TestCase):
         for path in filter(Path.is_file, [TOP / "record" / "__init__.py", TOP / "record" / "needed.py", *scripts, TOP / "install", TOP / "demo"]):
             ast.parse(path.read_text(encoding="utf-8"), feature_version=(3, 7))
             self.assertNotIn("import annotations", path.read_text(encoding="utf-8"), path)
-
-
-class Python(unittest.TestCase):
-    """The Python that runs the stand-in for make, as the first line of a script names it."""
-
-    def test_paths_that_no_script_can_name(self) -> None:
-        real = os.path.realpath("/proc/self/exe")
-        for own, wanted in (("/usr/bin/x", "/usr/bin/x"), ("", real), ("/a b/x", real), ("/" + "x" * 300, real)):
-            with self.subTest(own), tempfile.TemporaryDirectory() as room, mock.patch.object(sys, "executable", own):
-                self.assertEqual(wanted, interpreter(Path(room)))
-        with tempfile.TemporaryDirectory() as room, mock.patch("record.entry.paths_of_python", lambda: ["/a b/x", "/a\tb"]):
-            link = Path(interpreter(Path(room)))
-            self.assertEqual(Path(room), link.parent)
-            self.assertEqual("/a\tb", os.readlink(link))
 
 
 class Closed(unittest.TestCase):

@@ -22,6 +22,14 @@ class Failed(unittest.TestCase):
         assert outcome.record is not None
         return outcome.record["holes"], outcome.record["hints"]
 
+    def holes(self, makefile: str, files: Dict[str, str]) -> List[str]:
+        """The holes of a build that does not fail."""
+        with support.Project({"Makefile": makefile, **files}) as project:
+            outcome = project.record()
+        assert outcome.record is not None
+        self.assertEqual((2 if outcome.record["holes"] else 0, 0), (outcome.status, outcome.record["status"]), outcome.text())
+        return list(outcome.record["holes"])
+
     def test_recipe(self) -> None:
         holes, hints = self.failed("all: a b\na: ; touch a\nb:\n\tfalse\n")
         self.assertEqual([END + "; the recipe of b failed first (Makefile:4, make)"], holes)
@@ -69,14 +77,20 @@ class Failed(unittest.TestCase):
         holes, _ = self.failed("all: a b\na: ; -$(MAKE) -f one.mk\nb: ; -false\n\tfalse\n", files)
         self.assertEqual([END + "; the recipe of b failed first (Makefile:3, make)"], holes)
 
+    def test_make_that_is_asked(self) -> None:
+        """That it fails is its answer; what it built before counts, and what it might have run beside is not known."""
+        files = {"one.mk": "x: a ; cmp a b\na: ; echo > a\n", "two.mk": "x: a b\na: ; false\nb: ; echo > c\n"}
+        for name, holes in (("one.mk", []), ("two.mk", ["a make failed, and had not come to b: the recipe of a failed first (two.mk:2, make -f two.mk)"]), ("two.mk -k", [])):
+            with self.subTest(name):
+                self.assertEqual(holes, self.holes("all: ; echo 1 > b; if $(MAKE) -f %s; then echo same > c; else echo other > c; fi\n" % name, files))
+
     def test_failures_that_a_recipe_ignores(self) -> None:
-        holes, hints = self.failed("all: ; -$(MAKE) -f one.mk\n", {"one.mk": "x: ; $(MAKE) -f two.mk\n", "two.mk": "y: ; false\n"})
-        self.assertEqual((["a make failed: the recipe of y failed first (two.mk:1, make -f two.mk)"], []), (holes, hints))
+        self.assertEqual([], self.holes("all: ; -$(MAKE) -f one.mk\n", {"one.mk": "x: ; $(MAKE) -f two.mk\n", "two.mk": "y: ; false\n"}))
 
     def test_long_words_that_differ_at_their_end(self) -> None:
         """As where a recipe tries many libraries, each by a make."""
-        holes, _ = self.failed("all:\n" + "".join("\t-$(MAKE) -f one.mk X=%s\n" % ("x" * 200 + end) for end in "abc"), {"one.mk": "x: ; false\n"})
-        self.assertEqual(["a make failed: the recipe of x failed first (one.mk:1, make -f one.mk X=%s..)" % ("x" * 83)], holes)
+        holes, _ = self.failed("all:\n" + "".join("\t-$(MAKE) -f one.mk X=%s\n" % ("x" * 200 + end) for end in "abc"), {"one.mk": "all: x y\nx: ; false\ny: ;\n"})
+        self.assertEqual(["a make failed, and had not come to y: the recipe of x failed first (one.mk:2, make -f one.mk X=%s..)" % ("x" * 83)], holes)
 
     def test_several_that_failed(self) -> None:
         self.assertEqual([END + "; the recipe of a failed first (Makefile:2, make -k)"], self.failed("all: a b\na: ; false\nb: ; false\n", words=("make", "-k"))[0])

@@ -5,15 +5,15 @@ import unittest
 from typing import Callable, Dict, Tuple
 
 import support
-from record.make import searches, wrapper
+from record.make import searches
 from record.make.considered import is_row
 from record.make.database import read_base
+from record.make.flags import asks_jobs
 from record.make.owners import Owners
-from record.make.words import Words
+from record.make.words import Words, read_words
 from test_owners import make_of, words_of
 from test_replay import events_of, lives_of, played
 from test_small import COMMANDS, Small, test_of
-from test_wrapper import BEGIN, END, MUST, split
 
 PAIR = "all: a b\na: ; sleep 0.2; echo a > x; touch a\nb: ; cat x > b\n"
 SECOND = ".SECONDEXPANSION:\n"
@@ -32,7 +32,7 @@ one.wait()
 
 FOUND: Dict[str, Small] = {
     # several jobs that no number bounds: make asks for no token then
-    "jobs_with_no_number": Small("no verdict", "MAKEFLAGS += -j\n" + PAIR, {"x": "x"}, says="a makefile or GNUMAKEFLAGS asks for several jobs"),
+    "jobs_with_no_number": Small("race", "MAKEFLAGS += -j\n" + PAIR, {"x": "x"}),
     "jobs_with_no_number_and_one_job": Small("race", "MAKEFLAGS += -j\n" + PAIR, {"x": "x"}),
     "jobs_by_letters_of_the_environment": Small("race", PAIR, {"x": "x"}),
     "jobs_by_letters_that_a_recipe_sets": Small("race", "all: ; MAKEFLAGS=kj4 $(MAKE) -f in.mk\n", {"in.mk": PAIR, "x": "x"}),
@@ -119,23 +119,22 @@ for key, (says, makefile, files) in LATER.items():
 class Several(unittest.TestCase):
     """Recipes that run at once."""
 
-    RUNNING = b"  Recipe of 'a' is being run.\n"
-
-    def test_words_of_make_that_does_not_wait(self) -> None:
-        more = (self.RUNNING, b"Must remake target 'b'.\n")
-        self.assertEqual((b"", MUST + BEGIN + b"".join(more)), split(MUST, BEGIN, *more))
-
-    def test_words_about_another_recipe(self) -> None:
-        other = b"  Recipe of 'b' is being run.\n"
-        self.assertEqual((other, MUST + BEGIN + END), split(MUST, BEGIN, other, END))
-
     def test_processes_that_ran_at_once(self) -> None:
         words = words_of("Putting child 0x5 (a) PID 8 on the chain.", "Putting child 0x6 (b) PID 9 on the chain.")
-        self.assertIn("asks for several jobs", "; ".join(Owners(make_of((8, 5), (9, 6)), [words]).holes))
+        owners = Owners(make_of((8, 5), (9, 6)), [words])
+        self.assertEqual(([], ["a", "b"]), (owners.holes, [job.target for job in owners.jobs.values()]))
+
+    def test_recipe_that_goes_on_in_the_next_round(self) -> None:
+        """As where a recipe fails for a makefile that need not be there, while another one runs."""
+        lines = ["Reading makefiles...", "Updating makefiles....", "Putting child 0x5 (a) PID 8 on the chain.", "Updating goal targets....", "Live child 0x5 (a) PID 8 ",
+                 "Removing child 0x5 PID 8 from chain."]
+        words = read_words(7, 0, lines)
+        self.assertEqual([["a"], []], [[job.target for job in one.jobs] for one in words.rounds])
+        self.assertTrue(words.rounds[0].jobs[0].is_ended)
 
     def test_letters_of_the_environment(self) -> None:
         for flags, wanted in (("j", True), ("kj", True), ("kj4", True), ("k", False), ("w -- J=j", False), ("J=kj", False), ("Ij", False)):
-            self.assertEqual(wanted, wrapper.asks_jobs([], flags), flags)
+            self.assertEqual(wanted, asks_jobs([], flags), flags)
 
 
 class Rows(unittest.TestCase):

@@ -9,7 +9,6 @@ from typing import Dict
 import support
 from record.commands.shelltext import glob_words, takes_in
 from record.commands.system import OF_SYSTEM
-from record.make.options import speak_english
 from record.make.words import read_words
 from record.trace.processes import lends_rights
 from test_output import Output
@@ -165,18 +164,7 @@ class Language(unittest.TestCase):
             project.sh("mkdir loc; localedef -i de_DE -f UTF-8 loc/de_DE.UTF-8 2> /dev/null || true")
             outcome = project.run(["--", "make"], env)
         self.assertEqual(1, outcome.status, outcome.text()[-1500:])
-        self.assertIn("language", [one["kind"] for one in (outcome.record or {})["assumptions"]])
         self.assertTrue(outcome.stdout.startswith(b"RACE"), outcome.text()[:300])
-
-
-    def test_environment(self) -> None:
-        for spoken, plain in (({"LANG": "de_DE.UTF-8"}, {}), ({"LANG": "en_US.UTF-8", "LANGUAGE": "de"}, {"LANG": "C.UTF-8"}), ({"LC_MESSAGES": "fr_FR"}, {"LANG": "en_US"})):
-            self.assertEqual([True, False], [speak_english(spoken), speak_english(plain)])
-            self.assertEqual(["C", None], [spoken.get("LC_MESSAGES"), plain.get("LC_MESSAGES")])
-        self.assertFalse(speak_english({"LC_ALL": "C", "LANG": "de_DE.UTF-8"}))
-        environment = {"LC_ALL": "sv_SE.UTF-8"}
-        self.assertTrue(speak_english(environment))
-        self.assertEqual((None, "sv_SE.UTF-8", "C"), tuple(environment.get(name) for name in ("LC_ALL", "LC_COLLATE", "LC_MESSAGES")))
 
     def test_make_that_is_not_understood(self) -> None:
         self.assertIn("nothing that the recorder knows", " ".join(read_words(7, 0, ["ARGS all\n", "Makefiles werden gelesen ...\n", "EXIT 0\n"]).holes))

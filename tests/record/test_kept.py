@@ -13,7 +13,6 @@ from typing import Any, Dict, List, Set
 import forked
 import kept
 import record.main
-import record.make.cover
 import support
 from patched import IS_FUNCTION, Loaded, apply
 
@@ -62,8 +61,6 @@ class Recordings(unittest.TestCase):
         self.assertEqual(0, ran.returncode, ran.stderr)
         self.assertLess({"main.py", "trace/pipe.py", "trace/sifting.py"}, acting)
         self.assertEqual(set(), acting - kept.BUILDING - kept.READING)
-        self.assertEqual(record.make.cover.ROOM, kept.MAKES)
-        self.assertLess({name.replace(".", "/").partition("/")[2] + ".py" for name in record.main.WRAPPER}, kept.BUILDING)
 
     def watched(self) -> int:
         """Builds, and says in a file which modules had a function that ran meanwhile."""
@@ -75,14 +72,13 @@ class Recordings(unittest.TestCase):
                 acting.add(frame.f_code.co_filename[len(top):])
 
         spool = Path(tempfile.mkdtemp(dir=os.path.abspath("..")))
-        cover = record.main.Cover(spool, "/usr/bin/make", None)
-        record.main.prepare_spool(spool, "/usr/bin/make", cover.past)
-        cover.prepare([os.getcwd()])
+        watch = record.main.Watch(None)
+        watch.prepare(record.main.makes_of(os.environ["PATH"]))
         threading.setprofile(see)
         sys.setprofile(see)
-        status, _ = record.main.run_build(["make"], spool, [os.getcwd()], cover)
+        status, _ = record.main.run_build(["make"], spool, [os.getcwd()], watch)
         sys.setprofile(None)
-        cover.remove()
+        watch.remove()
         Path("acting").write_text(json.dumps(sorted(acting)))
         return status
 

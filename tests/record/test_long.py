@@ -1,12 +1,11 @@
 """Names, lines and commands that are longer than what a pipe or strace hands over in one piece: nothing of them is cut without a word."""
 
 import unittest
-from typing import Dict, List
+from typing import Dict
 
 import support
 from record.make.words import read_words
 from test_replay import TOP, played
-from test_wrapper import END, MUST, split
 
 NAME = "x" * 9000
 FOLDERS = "n" * 200
@@ -26,31 +25,7 @@ else:
 
 
 class Lines(unittest.TestCase):
-    """Packets of one line."""
-
-    def pieces(self, line: bytes, size: int = 4096) -> List[bytes]:
-        return [line[at:at + size] for at in range(0, len(line), size)]
-
-    def test_a_line_of_make_in_pieces(self) -> None:
-        name = NAME.encode()
-        for line in (b"Considering target file '%s'.\n", b"  Prerequisite '%s' is older than target 'a'.\n", b"Reading makefile '%s' (search path) (no ~ expansion)...\n",
-                     b"   File '%s' was considered already.\n", b"No need to remake target '%s'.\n"):
-            self.assertEqual((b"x\n", line % name), split(*self.pieces(line % name), b"x\n"), line)
-            self.assertEqual((b"x\n", line % name), split(*self.pieces(line % name, 8192), b"x\n"), line)
-
-    def test_the_lines_of_a_recipe_with_a_long_name(self) -> None:
-        name = NAME.encode()
-        must, begin, live = MUST.replace(b"'a'", b"'%s'" % name), b"Putting child 0x5f (%s) PID 7 on the chain.\n" % name, b"Live child 0x5f (%s) PID 7 \n" % name
-        self.assertEqual((b"echo\nx", must + begin + live + END), split(*self.pieces(must), b"echo\n", *self.pieces(begin), b"x", *self.pieces(live), END))
-
-    def test_long_output_of_a_recipe(self) -> None:
-        begin = b"Putting child 0x5f (a) PID 7 on the chain.\n"
-        for text in (b"\0" * 9000, b"File " + b"y" * 9000, b" Considering target file 'b" + b"y" * 9000):
-            self.assertEqual((text, MUST + begin + END), split(MUST, begin, *self.pieces(text), END), text[:30])
-
-    def test_a_line_without_an_end(self) -> None:
-        text = b"File '" + b"y" * 9000
-        self.assertEqual((text, b""), split(*self.pieces(text)))
+    """Lines of make's words."""
 
     def test_a_line_that_is_not_whole_is_a_hole(self) -> None:
         for line in ("Considering target file 'xxx", " Must remake target 'x' ", "Putting child 0x5f (xxx", "Live child 0x5f (xxx"):

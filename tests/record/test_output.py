@@ -47,12 +47,7 @@ class Output(unittest.TestCase):
         self.both("all: ; echo export PATH=$$PATH > env.sh; command -v gmake >> env.sh || true\n")
 
     def test_path_that_is_in_no_text(self) -> None:
-        with support.Project({"Makefile": "all: ; printf '%s\\000' \"$$(command -v make)\" > b; cp b long; head -c 1048576 /dev/zero >> long\n"}) as project:
-            found = project.record()
-            kept = (project.folder / "b").read_bytes()
-        self.assertRegex(kept, rb"race-record-\w+/bin/make\0$")
-        note = "%s/b may name the make of the recorder, which is gone: make that file again (it is no text)" % os.path.realpath(project.folder)
-        self.assertEqual([note], [one for one in (found.record or {})["notes"] if "may name" in one])
+        self.both("all: ; printf '%s\\000' \"$$(command -v make) $$PATH\" > b; printf %s \"$$PATH\" | gzip -n > p.gz; cp b long; head -c 1048576 /dev/zero >> long\n")
 
     def test_times_of_what_configuring_keeps(self) -> None:
         with support.Project({"Makefile": "all: ; command -v make > config.status; chmod 755 config.status; touch -d @1000000000 config.status\n"}) as project:

@@ -8,6 +8,7 @@ from record.failed import failures
 from record.make.owners import Owners
 from record.make.words import Words, read_words
 from record.trace.lives import Life
+from record.watch.files import Start
 
 RECIPES = [line for name in "ab" for line in ("%s:" % name, "#  recipe to execute (from 'Makefile', line 2):", "\techo %s" % name, "")]
 BASE = ["# Make data base, printed on Monday", "# Files", "", *RECIPES, "# files hash-table stats:", "# Finished Make data base on Monday"]
@@ -15,7 +16,7 @@ BASE = ["# Make data base, printed on Monday", "# Files", "", *RECIPES, "# files
 
 def words_of(*lines: str, status: Optional[str] = "EXIT 0") -> Words:
     """What make 7 said."""
-    return read_words(7, 0, ["ARGS all", "Reading makefiles...", "Updating goal targets....", *lines, *BASE] + ([status] if status else []))
+    return read_words(7, 0, ["Reading makefiles...", "Updating goal targets....", *lines, *BASE] + ([status] if status else []), "", Start("make", ["all"]))
 
 
 def make_of(*children: Tuple[int, int]) -> List[Life]:
@@ -47,7 +48,7 @@ class Holes(unittest.TestCase):
         self.assertIn("a make did not end", self.holes(make_of(), [words_of(status=None)]))
 
     def test_make_that_failed(self) -> None:
-        makes = Owners(make_of(), [words_of(status="EXIT 512")]).makes
+        makes = Owners(make_of(), [words_of(status="EXIT 2")]).makes
         self.assertEqual(["make all failed first"], [str(one) for one in failures(makes, [], "/w")])
 
     def test_recipe_without_a_process(self) -> None:

@@ -68,7 +68,7 @@ PROJECTS: Dict[str, Small] = {
     "tool_that_is_linked_with_a_library": Small("safe", LINKED % ("cp", " -u main")),
     "tool_that_is_linked_and_used": Small("race", LINKED % ("tar", "; tar uf t.tar buffer.o names.o")),
     # a make that has nowhere to print
-    "make_with_its_output_closed": Small("no verdict", "all: sub\nsub: ; $(MAKE) -f in.mk >&-\n", {"in.mk": "a: ; @touch a\n"}, says="in.mk (its standard output is closed)"),
+    "make_with_its_output_closed": Small("safe", "all: sub\nsub: ; $(MAKE) -f in.mk >&-\n", {"in.mk": "a: ; @touch a\n"}),
     "make_with_its_errors_closed": Small("safe", "all: sub\nsub: ; $(MAKE) -f in.mk 2>&-\n", {"in.mk": "a: ; @touch a\n"}),
     # folders that a recipe makes, and uses before that
     "folder_made_before_its_use": Small("safe", PAIR % "mkdir -p out; touch out/y"),

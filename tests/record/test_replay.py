@@ -14,13 +14,14 @@ SPOOL = "/no/such/spool"
 MAKE = "/usr/bin/make"
 
 
-def played(*lines: str, top: str = TOP) -> Calls:
+def played(*lines: str, top: str = TOP, said: str = "") -> Calls:
     """A replay of some lines in an empty project."""
     names = Names()
     folder = names.folder(top)
     folder.walked = True
     names.tops.append(top)
     replay = Calls(names, SPOOL, MAKE, top, [top])
+    replay.said = said
     for event in read_trace(line + "\n" for line in lines):
         replay.play(event)
     return replay
@@ -109,10 +110,6 @@ class Lives(unittest.TestCase):
                         '4 unlink("a") = -1 ENOENT (No such file or directory)', "1 <... vfork resumed>) = 4", "3 <... vfork resumed>) = 5")
         self.assertEqual({("N", "a")}, events_of(lives_of(replay, 4)[0]))
 
-    def test_what_the_wrapper_does_is_nobodys(self) -> None:
-        replay = played(f'1 execve("{SPOOL}/bin/make", ["make"], 0x1 /* 1 var */) = 0', f'1 openat(AT_FDCWD<{TOP}>, "a", O_WRONLY|O_CREAT, 0666) = 3<{TOP}/a>')
-        self.assertEqual(set(), events_of(lives_of(replay, 1)[0]))
-
     def test_birth_and_death_are_in_one_order(self) -> None:
         replay = played("1 vfork() = 2", "1 vfork() = 3", "2 +++ exited with 0 +++", '3 chdir("x") = 0', "3 +++ exited with 0 +++")
         two, three = lives_of(replay, 2)[0], lives_of(replay, 3)[0]
@@ -123,8 +120,15 @@ class Lives(unittest.TestCase):
                         f'1 openat(AT_FDCWD<{TOP}/sub>, "x", O_RDONLY) = -1 ENOENT (No such file or directory)')
         self.assertEqual(TOP + "/sub", lives_of(replay, 1)[0].folder)
 
-    def test_make_without_the_wrapper_is_noted(self) -> None:
-        self.assertEqual(["/usr/bin/make -f x"], played('1 execve("/usr/bin/make", ["/usr/bin/make", "-f", "x"], 0x1 /* 1 var */) = 0').past)
+    def test_make_without_the_library_is_noted(self) -> None:
+        begins = '1 execve("/usr/bin/make", ["/usr/bin/make", "-f", "x"], 0x1 /* 1 var */) = 0'
+        opens = '1 openat(AT_FDCWD<%s>, "/said/%d.3.make", O_WRONLY|O_CREAT|O_EXCL|O_APPEND|O_CLOEXEC, 0600) = 3</said/1.3.make>'
+        self.assertEqual(["/usr/bin/make -f x"], played(begins).past)
+        heard = played(begins, opens % (TOP, 1), said="/said/")
+        self.assertEqual(([], 3, True), (heard.past, heard.all[0].number, heard.all[0].is_make))
+        self.assertEqual(["/usr/bin/make -f x"], played(begins, opens % (TOP, 2), said="/said/").past)
+        script = played('1 execve("rules", ["./rules", "all"], 0x1 /* 1 var */) = 0', opens % (TOP, 1), said="/said/")
+        self.assertTrue(script.all[0].is_make)
 
 
 class Footprints(unittest.TestCase):

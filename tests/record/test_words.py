@@ -1,12 +1,13 @@
-"""What a make said: the lines that the wrapper kept, and what is wrong with them."""
+"""What a make said: the lines that the library kept, and what is wrong with them."""
 
 import unittest
 from typing import List
 
 import support  # noqa: F401
 from record.make.words import Words, read_words
+from record.watch.files import read_start
 
-HEAD = ["ARGS all", "FLAGS ", "BELOW 0", "Reading makefiles...", "Updating goal targets....", "Considering target file 'a'."]
+HEAD = ["ARG all", "ENV MAKEFLAGS=", "SAYS 4.3", "Reading makefiles...", "Updating goal targets....", "Considering target file 'a'."]
 BASE = ["# Make data base, printed on Monday", "# Files", "a:", "", "# files hash-table stats:", "# Finished Make data base on Monday"]
 
 
@@ -15,7 +16,7 @@ class Copies(unittest.TestCase):
 
     def test_one_for_each_time(self) -> None:
         a, b = "Reading makefile 'a.d' (search path)...", "Reading makefile 'b.d' (search path)..."
-        words = read_words(7, 0, [*HEAD[:4], a, "COPY 1", b, *HEAD[4:], *BASE, *HEAD[3:4], a, "COPY 2", b, "COPY 3", *HEAD[4:], *BASE, "EXIT 0"], "/s/7.0.")
+        words = read_words(7, 0, [*HEAD[:4], a, "COPY 1 a.d", b, *HEAD[4:], *BASE, *HEAD[3:4], a, "COPY 2 a.d", b, "COPY 3 d/b.d", *HEAD[4:], *BASE, "EXIT 0"], "/s/7.0.")
         self.assertEqual(([], ["/s/7.0.1.read", "/s/7.0.2.read"], []), (words.holes, words.copies_of("a.d"), words.copies_of("b.d")))
 
 
@@ -24,7 +25,7 @@ class Holes(unittest.TestCase):
 
     @staticmethod
     def words(*lines: str) -> Words:
-        return read_words(7, 0, HEAD + list(lines) + ["EXIT 0"])
+        return read_words(7, 0, HEAD + list(lines) + ["EXIT 0"], "", read_start(HEAD))
 
     def holes(self, lines: List[str]) -> List[str]:
         return self.words(*lines).holes
