@@ -9,7 +9,7 @@ import re
 import shlex
 import shutil
 from pathlib import Path
-from typing import TYPE_CHECKING, Callable, Dict, List, Optional, Set
+from typing import TYPE_CHECKING, Dict, List, Optional, Set
 
 from record.commands.shelltext import first_words
 from record.ninja.log import Kept
@@ -43,14 +43,14 @@ def with_jobs(words: List[str], jobs: int, folder: str = "") -> List[str]:
     return words
 
 
-def by_name(words: List[str], real: str, folder: str = "", is_covered: Callable[[], bool] = bool) -> List[str]:
+def by_name(words: List[str], real: str, folder: str = "") -> List[str]:
     """A command that runs make by its whole path, so that it runs make by name: that path itself, a script of make, such as debian/rules,
-    and `cmake --build` where CMake made makefiles. Any other as it is, and the first two where the recorder's make lies over that."""
-    if "/" in words[0] and os.path.realpath(os.path.join(folder, words[0])) == os.path.realpath(real) and not is_covered():
+    and `cmake --build` where CMake made makefiles. Any other as it is."""
+    if "/" in words[0] and os.path.realpath(os.path.join(folder, words[0])) == os.path.realpath(real):
         return ["make", *words[1:]]
     script = words[0] if "/" in words[0] else shutil.which(words[0]) or words[0]
     first = first_words(os.path.join(folder, script))
-    if first and os.path.realpath(first[0]) == os.path.realpath(real) and not is_covered():
+    if first and os.path.realpath(first[0]) == os.path.realpath(real):
         return ["make", *([" ".join(first[1:])] if first[1:] else []), script, *words[1:]]
     is_cmake = os.path.basename(words[0]) == "cmake" and words[1:2] == ["--build"] and len(words) > 2
     if is_cmake and cached(os.path.join(folder, words[2]), "CMAKE_GENERATOR") == "Unix Makefiles":
