@@ -17,7 +17,7 @@ SPECIAL = set(b".DEFAULT .IGNORE .NOTPARALLEL .PHONY .POSIX .PRECIOUS .SCCS_GET 
 FAULTS = """BadName NoColon StrayRecipe DoubleColon BadAssignment Include TextTooLarge MacroLoop BadReference InternalMacro
     ExpansionTooLarge TwoRecipes MixedSpecial DefaultPrerequisites NoGoal NoRule Cycle GraphTooLarge BadFootprint
     FootprintsTooLarge MissingFootprint WritesTarget TooManyPairs BadLog BadProof UnknownInclude IncludeTooDeep
-    TooManyIncludes BadTask TaskTwice UnknownTask TooManyTasks TasksTooLarge UnusedFootprint""".split()
+    TooManyIncludes BadTask TaskTwice UnknownTask TooManyTasks TasksTooLarge UnusedFootprint NotAwaited""".split()
 
 Assignment = collections.namedtuple("Assignment", "name operator text")
 Entry = collections.namedtuple("Entry", "targets prerequisites has_commands")

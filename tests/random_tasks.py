@@ -11,7 +11,7 @@ LABELS = ["a", "b", "cc -c x.c", "d/e", "/w/a", "ä", "\\", "x\n", ".", "\0", "t
 
 
 def random_tasks(dice):
-    """A text of tasks whose footprints meet; in some a line, a label or a path is odd."""
+    """A text of tasks whose footprints meet; in some a line, a label or a path is odd, or a line says what it needs, which orders nothing here."""
     labels = dice.sample(LABELS, dice.randint(0, 9))
     read, written = dice.sample(FREE + TAKEN, dice.choice([1, 2, 4, 8])), dice.sample(FREE + TAKEN, dice.choice([1, 2, 3]))
     lines = []
@@ -22,6 +22,8 @@ def random_tasks(dice):
         if dice.random() < 0.02:
             dice.choice([after, reads, writes]).append(dice.choice(["", "/", label, labels[-1], "\0"]))
         said = {"task": dice.choice(labels) if dice.random() < 0.02 else label, "after": after, "reads": reads, "writes": writes, "line": number}
+        if dice.random() < 0.1:
+            said |= {"makes": dice.choice(written), "needs": [dice.choice(read + written)]}
         if dice.random() < 0.02:
             del said[dice.choice([*said])]
         lines += [json.dumps(said, ensure_ascii=dice.random() < 0.5)] + dice.choice([[]] * 8 + [["", " \t"]])

@@ -88,6 +88,9 @@ class Jobs:
             if name not in self.tasks:
                 raise Refused("F31 UnknownTask", at, shown(name))
         waits = {self.tasks[name] for name in after}
+        early = [name for name in due[1] if self.is_made(name) and self.names[name] not in self.awaited(waits)] if due else []
+        if early:
+            raise Refused("F35 NotAwaited", at, below(self.root, early[0]))
         number = self.add(Node("\0" + label, shown(label), True, True, False, waits)) if due is None else self.add_due(at, label, due, waits)
         self.nodes[number].reads, self.nodes[number].writes = reads, writes
         self.tasks[label], self.places[number] = number, (at, label)
@@ -101,6 +104,14 @@ class Jobs:
             raise ValueError
         spelled = [plain(self.root, name) for name in names]
         return spelled[0], spelled[1:]
+
+    def is_made(self, name: str) -> bool:
+        """Whether an earlier task makes a file."""
+        return name in self.names and self.nodes[self.names[name]].recipe
+
+    def awaited(self, waits: Set[int]) -> Set[int]:
+        """What is waited for where somebody waits for these."""
+        return waits.union(*(self.awaited(self.nodes[at].needs) for at in waits))
 
     def add(self, node: Node) -> int:
         self.nodes.append(node)
@@ -222,7 +233,7 @@ class Report:
         """The whole report."""
         yield from ("%s %d" % pair for pair in self.counts.items())
         recipes = [node for node in self.nodes if node.recipe]
-        yield from ("nodes %d" % len(self.nodes), "recipes %d" % len(recipes), "idle %d" % sum(1 for it in recipes if not it.is_live), "waits 0")
+        yield from ("nodes %d" % len(self.nodes), "recipes %d" % sum(1 for it in recipes if it.is_live), "idle %d" % sum(1 for it in recipes if not it.is_live), "waits 0")
         for lines in self.lines.values():
             yield from lines
 

@@ -7,7 +7,7 @@ import subprocess
 import tempfile
 import unittest
 from pathlib import Path
-from typing import List
+from typing import Any, Dict, List
 
 from support import STAND_IN, race_program
 
@@ -33,17 +33,18 @@ def random_text(dice: random.Random) -> str:
 
 
 def random_due_text(dice: random.Random) -> str:
-    """A text of tasks, most of which say the file that they make and the files that they need."""
+    """A text of tasks, most of which say the file that they make and the files that they need, and wait for who makes these."""
     lines: List[str] = []
-    made: List[str] = []
+    made: Dict[str, str] = {}
     for at, label in enumerate(dice.sample(LABELS, dice.randint(1, len(LABELS)))):
-        one = {"task": label, "after": [json.loads(dice.choice(lines))["task"]] if lines and dice.random() < 0.5 else []}
+        one: Dict[str, Any] = {"task": label, "after": [json.loads(dice.choice(lines))["task"]] if lines and dice.random() < 0.5 else []}
         writes = dice.sample(FILES, dice.choice([0, 0, 0, 1]))
         if dice.random() < 0.8:
             one["makes"] = dice.choice(FILES) if dice.random() < 0.02 else "m%d" % at
-            one["needs"] = dice.sample(FILES + made, min(dice.randint(0, 3), len(FILES)))
+            one["needs"] = dice.sample([*FILES, *made], min(dice.randint(0, 3), len(FILES)))
+            one["after"] += [made[it] for it in one["needs"] if it in made and dice.random() < 0.8]
             writes += [one["makes"]] if dice.random() < 0.9 else []
-            made.append(one["makes"])
+            made[one["makes"]] = label
         if dice.random() < 0.03:
             one["makes"] = "x"
         one["reads"] = dice.sample([*FILES, *made, "d/"], dice.randint(0, 3))

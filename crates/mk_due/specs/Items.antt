@@ -6,7 +6,7 @@ use Rattle.std.specs.Ordering.{nat_cmp}
 use Rattle.mk_name.specs.Names.{Name, has, same_name}
 use Rattle.mk_name.specs.Reported.{Reported}
 use Rattle.mk_name.specs.declared.fault.Kind.{Kind}
-use Rattle.mk_name.specs.declared.fault.Kind.TheVariants.{BadTask, TaskTwice, UnknownTask}
+use Rattle.mk_name.specs.declared.fault.Kind.TheVariants.{BadTask, NotAwaited, TaskTwice, UnknownTask}
 use Rattle.mk_text.specs.Listing.{lines, next_place}
 use Rattle.mk_path.specs.declared.path.Path.{Path}
 use Rattle.mk_jobs.specs.Jobs.{has_commands}
@@ -17,6 +17,7 @@ use Rattle.mk_foot.specs.Json.{is_blank}
 use Rattle.mk_task.specs.JobsOf.{own_name}
 use Rattle.mk_task.specs.Lines as tasks
 use Rattle.mk_task.specs.Tasks.{and_then, limit_passed, on_number, reported}
+use Rattle.mk_due.specs.Awaited.{first_early}
 use Rattle.mk_due.specs.Lines.{Due, Line, line_of}
 
 -- a node; the line that it comes from, by its label and place; and the paths that are read and written there
@@ -134,14 +135,24 @@ abbrev pub with_needs : List Name → ℕ → tasks.Line → Due → List ℕ �
 with_needs listing place line due waits items =
     with_due listing place line due.makes items (numbers_of (names_of items) due.needs) (others (numbers_of (names_of items) due.needs) waits)
 
+-- items with the leaves and the task of a line
+abbrev pub with_made : List Name → ℕ → List Item → tasks.Line → Due → List ℕ → Result (List Item) Reported
+with_made listing place earlier line due waits =
+    and_then (with_needs listing place line due waits) (with_leaves listing place line.label earlier due.needs)
+
+-- the fault of a line that needs this file, for whose task it does not wait
+abbrev pub unless_early : ℕ → Option Name → Result (List Item) Reported → Result (List Item) Reported
+unless_early place None items = items
+unless_early place (Some x) items = Err (reported NotAwaited place (x ∷ []))
+
 -- earlier items and the task of a line, given the numbers of what it waits for
 abbrev pub with_task : List Name → ℕ → List Item → tasks.Line → Option Due → List ℕ → Result (List Item) Reported
 with_task listing place earlier line None waits = with_item place earlier (task_item place line (always_node line.label waits))
 with_task listing place earlier line (Some due) waits =
-    and_then (with_needs listing place line due waits) (with_leaves listing place line.label earlier due.needs)
+    unless_early place (first_early (nodes_of earlier) waits due.needs) (with_made listing place earlier line due waits)
 
 -- earlier items and those of a line at a place, or the line's fault: an earlier task has its label; it waits for a label that is no
--- task's; or that of the first of its nodes that has one
+-- task's; it needs a file of a task for which it does not wait; or that of the first of its nodes that has one
 abbrev pub with_line : List Name → ℕ → List Item → Line → Result (List Item) Reported
 with_line listing place earlier line =
     if is_some (task_number earlier line.task.label) then Err (reported TaskTwice place (line.task.label ∷ []))

@@ -1,3 +1,4 @@
+pub mod Awaited
 pub mod Good
 pub mod Items
 pub mod JobsOf

@@ -56,6 +56,13 @@ impl Item {
         self.node.prerequisites.len()
     }
 
+    /// What its node stands behind.
+    pub(crate) fn prerequisites(&self) -> &[u32]
+        ensures { result.now ≡ self.now.node.prerequisites }
+    {
+        self.node.prerequisites.as_slice()
+    }
+
     /// Whether it is a task: its node has a recipe.
     pub(crate) fn is_task(&self) -> bool
         ensures { result ≡ has_commands self.now.node.maker }

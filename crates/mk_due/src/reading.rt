@@ -36,7 +36,8 @@ use std::alloc::Global;
 /// The fault of the first line that has one is answered, each in the tasks at its line from 1, and of a line the first of
 /// these: `BadTask` as there, also where `makes` or `needs` has a text that `plain_path` refuses or is of another kind, or one
 /// of them stands alone; `TaskTwice` with its label, where an earlier line has that; `UnknownTask` with the first label in
-/// `after` that no earlier line has; and of its nodes, one after another, `TaskTwice` with the file that its task makes,
+/// `after` that no earlier line has; `NotAwaited` with the first file in `needs` that an earlier task makes, if this one does not
+/// wait for that task: `after` names neither it nor a task that waits for it; and of its nodes, one after another, `TaskTwice` with the file that its task makes,
 /// where an earlier node has that name, `TooManyTasks` where with this node there are more than 20,000 nodes or 200,000
 /// edges, and `TasksTooLarge` where with its paths there are more than 1,000,000. Behind all lines comes `WritesTarget`, at
 /// the line of the first task that writes the name of another node, with its label and the least such name. The only other

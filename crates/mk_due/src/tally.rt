@@ -8,8 +8,10 @@ ghost use Rattle.mk_name.specs.declared.fault.Halt.TheVariants as halts;
 ghost use Rattle.mk_name.specs.Names.{Name};
 ghost use Rattle.mk_task.specs.Tasks.{reported};
 ghost use Rattle.mk_due.specs.Good.{AreBelow, IsNamed, IsNamedLine, IsNew, IsTally};
+ghost use Rattle.mk_due.specs.Awaited as awaited;
 ghost use Rattle.mk_due.specs.Items as spec;
 
+use crate::early::first_early;
 use crate::item::{Item, always_node, due_node, leaf, order_item, task_item};
 use crate::line::{Due, Line};
 use crate::numbers::{numbers_of, others};
@@ -69,7 +71,7 @@ impl Tally {
         }
         let waits = self.waits_of(alloc, task.after.as_slice(), place)?;
         match due {
-            Some(due) => self.add_due(alloc, task, due, waits, place, listing),
+            Some(due) => self.add_awaiting(alloc, task, due, waits, place, listing),
             None => self.add_always(alloc, task, waits, place),
         }
     }
@@ -124,9 +126,9 @@ impl Tally {
         self.push(alloc, task_item(place, line, node), place)
     }
 
-    /// Adds a task that makes a file, with its leaves and its order node, where it waits for these numbers; or answers the
-    /// line's fault, and then nothing is known of the items. The only other error is out of memory.
-    fn add_due(
+    /// Adds a task that makes a file, if it waits for each task that makes what it needs; or answers the line's fault, and then
+    /// nothing is known of the items. The only other error is out of memory.
+    fn add_awaiting(
         &mut self,
         alloc: Global,
         line: tasks::Line,
@@ -143,6 +145,53 @@ impl Tally {
         ensures added { OnOk result (spec.with_task listing.now place self.old.items.items line (Some due) waits.items ≡ Ok self.new.items.items) }
         ensures fault { IfErr result (λ halt.
             Halts halt (spec.with_task listing.now place self.old.items.items line (Some due) waits.items)) }
+    {
+        if let Some(name) = self.first_early(alloc, &due, &waits)? {
+            return Err(not_awaited(alloc, name, place)?);
+        }
+        self.add_due(alloc, line, due, waits, place, listing)
+    }
+
+    /// The first file that a task needs whose task it does not wait for, behind these numbers. The only error is out of memory.
+    fn first_early(
+        &self,
+        alloc: Global,
+        due: &Due,
+        waits: &[u32],
+    ) -> Result<Option<Name>, AllocError>
+        requires tally { IsTally self.now }
+        requires below { AreBelow (length self.now.items.items) waits.now }
+        ensures { IfOk result (λ found. found
+            ≡ awaited.first_early (spec.nodes_of self.now.items.items) waits.now due.now.needs) }
+    {
+        first_early(
+            alloc,
+            self.items.as_slice(),
+            &self.names,
+            due.needs.as_slice(),
+            waits,
+        )
+    }
+
+    /// Adds a task that makes a file, with its leaves and its order node, where it waits for these numbers; or answers the
+    /// line's fault, and then nothing is known of the items. The only other error is out of memory.
+    fn add_due(
+        &mut self,
+        alloc: Global,
+        line: tasks::Line,
+        due: Due,
+        waits: Vec<u32>,
+        place: u64,
+        listing: &Listing,
+    ) -> Result<(), Halt>
+        requires tally { IsTally self.old }
+        requires named { IsNamedLine line }
+        requires new { IsNew self.old.items.items line.label }
+        requires below { AreBelow (length self.old.items.items) waits.items }
+        ensures tally { OnOk result (IsTally self.new) }
+        ensures added { OnOk result (spec.with_made listing.now place self.old.items.items line due waits.items ≡ Ok self.new.items.items) }
+        ensures fault { IfErr result (λ halt.
+            Halts halt (spec.with_made listing.now place self.old.items.items line due waits.items)) }
     {
         let Due { makes, needs } = due;
         self.add_leaves(alloc, &line.label, needs.as_slice(), place, listing)?;
@@ -288,6 +337,14 @@ fn twice(alloc: Global, name: Name, place: u64) -> Result<Halt, AllocError>
         ≡ halts.Fault (reported Kind.TaskTwice place (name ∷ []))) }
 {
     Ok(Halt::Fault(Fault::naming(alloc, Kind::TaskTwice, Source::Tasks, place, name)?))
+}
+
+/// The fault of the line at a place that needs a file for whose task it does not wait.
+fn not_awaited(alloc: Global, name: Name, place: u64) -> Result<Halt, AllocError>
+    ensures { IfOk result (λ halt. halt
+        ≡ halts.Fault (reported Kind.NotAwaited place (name ∷ []))) }
+{
+    Ok(Halt::Fault(Fault::naming(alloc, Kind::NotAwaited, Source::Tasks, place, name)?))
 }
 
 /// The fault of the line at a place, with a label that is no task's.

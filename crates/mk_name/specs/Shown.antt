@@ -63,6 +63,7 @@ number_of kinds.UnknownTask = 31
 number_of kinds.TooManyTasks = 32
 number_of kinds.TasksTooLarge = 33
 number_of kinds.UnusedFootprint = 34
+number_of kinds.NotAwaited = 35
 
 -- the word by which reports show it
 abbrev pub word_of : Kind → List ℕ
@@ -99,6 +100,7 @@ word_of kinds.UnknownTask = codes "UnknownTask"
 word_of kinds.TooManyTasks = codes "TooManyTasks"
 word_of kinds.TasksTooLarge = codes "TasksTooLarge"
 word_of kinds.UnusedFootprint = codes "UnusedFootprint"
+word_of kinds.NotAwaited = codes "NotAwaited"
 
 -- how the text of this name is shown, which an include line names
 abbrev pub include_text : List ℕ → List ℕ

@@ -86,6 +86,7 @@ pub enum Kind {
     TooManyTasks,
     TasksTooLarge,
     UnusedFootprint,
+    NotAwaited,
 }
 
 impl Kind {
@@ -129,6 +130,7 @@ impl Kind {
             Kind::TooManyTasks => 32,
             Kind::TasksTooLarge => 33,
             Kind::UnusedFootprint => 34,
+            Kind::NotAwaited => 35,
         }
     }
 
@@ -170,6 +172,7 @@ impl Kind {
             Kind::TooManyTasks => "TooManyTasks",
             Kind::TasksTooLarge => "TasksTooLarge",
             Kind::UnusedFootprint => "UnusedFootprint",
+            Kind::NotAwaited => "NotAwaited",
         }
     }
 }
