@@ -21,7 +21,7 @@ fn goes_along(jobs: &Jobs, chain: &[u32]) -> bool
 }
 
 /// Whether the numbers of all chains are nodes, and each chain goes along edges.
-pub(crate) fn are_chains(jobs: &Jobs, certificate: &Certificate) -> bool
+pub fn are_chains(jobs: &Jobs, certificate: &Certificate) -> bool
     ensures { IsTrue result
         ↔ (All (All (λ n. n < node_count jobs.now)) certificate.now × All (IsChain jobs.now) certificate.now) }
 {

@@ -6,10 +6,10 @@
 
 pub mod accepting;
 mod clash;
-mod edges;
+pub mod edges;
 pub mod laws;
 mod pairs;
-mod search;
+pub mod search;
 mod stage;
 mod standing;
 mod surely;

@@ -16,7 +16,7 @@ fn compare(chain: &[u32], first: u32, last: u32) -> Ordering
 }
 
 /// Whether one of the chains leads from one number to another. It is searched by halves.
-pub(crate) fn has_chain(certificate: &Certificate, first: u32, last: u32) -> bool
+pub fn has_chain(certificate: &Certificate, first: u32, last: u32) -> bool
     ensures { IsTrue result ↔ IsAtEnds certificate.now first last }
 {
     let mut low = 0;

@@ -12,9 +12,11 @@ use Rattle.mk_jobs.proofs.Reaching.{turned_clash}
 use Rattle.mk_decide.specs.Chosen.{IsChosen}
 use Rattle.mk_proof.specs.Shapes.{ends_of, pair_cmp}
 use Rattle.mk_cert.specs.Certificates.{IsCertificate, IsChain}
-use Rattle.mk_decide.specs.Pairs.{ArePairs}
+use Rattle.mk_decide.specs.Pairs.{ArePairs, IsRising, OnlyClashing}
+use Rattle.mk_decide.specs.Neighbours.{AreNeighbours}
+use Rattle.mk_decide.specs.Short.{IsShortCertificate}
 use Rattle.mk_decide.specs.Verdicts.{AreChainsOf}
-use Rattle.mk_decide.proofs.Chained.{least_edges}
+use Rattle.mk_decide.proofs.Chained.{least_edges, only_clashing}
 
 -- the nodes of a chain are below its last
 nodes_below : (jobs : Jobs) (a : ℕ) (nodes : List ℕ) (end : ℕ) → IsValid jobs → IsEdgeByEdge jobs a nodes → last_of a nodes < end → All (λ n. n < end) (a ∷ nodes)
@@ -34,14 +36,14 @@ chosen_chain : (jobs : Jobs) (a b : ℕ) (chain : List ℕ) → IsChosen jobs a 
 chosen_chain jobs a b chain chosen = subst (IsChain jobs) (sym chosen.is) (least_edges jobs a a (chosen.next ∷ chosen.nodes) chosen.least)
 
 -- the last node of each chain is a node
-last_node : (jobs : Jobs) (pairs : List (ℕ × ℕ)) (chains : List (List ℕ)) (k : ℕ) (d : List ℕ) → ArePairs jobs pairs → AreChainsOf jobs pairs chains → k < length chains
+last_node : (jobs : Jobs) (pairs : List (ℕ × ℕ)) (chains : List (List ℕ)) (k : ℕ) (d : List ℕ) → OnlyClashing jobs pairs → AreChainsOf jobs pairs chains → k < length chains
     → (ends_of (get_or chains k d)).1 < node_count jobs
-last_node jobs pairs chains k d are of inside =
+last_node jobs pairs chains k d only of inside =
     let e = ends_of (get_or chains k d) in
     let long = length-map chains ends_of in
     let at : get_or (map ends_of chains) k e ≡ e = get_or-map ends_of chains k d e inside in
     let there : Contains (map ends_of chains) e = (k, omega (arith, inside, long), at) in
-    let clash = (are.clash e.0 e.1).0 (subst (λ (ps : List (ℕ × ℕ)). Contains ps e) of.ends there) in
+    let clash = only e.0 e.1 (subst (λ (ps : List (ℕ × ℕ)). Contains ps e) of.ends there) in
     (clash_live clash.1.1).second_node
 
 pub chains_certify : (jobs : Jobs) (pairs : List (ℕ × ℕ)) (chains : List (List ℕ)) → IsWellFormed jobs → ArePairs jobs pairs → AreChainsOf jobs pairs chains
@@ -49,11 +51,26 @@ pub chains_certify : (jobs : Jobs) (pairs : List (ℕ × ℕ)) (chains : List (L
 chains_certify jobs pairs chains shape are of = record {
   rise = subst (IsStrictlySortedBy pair_cmp) (sym of.ends) are.rise;
   nodes = λ k d inside. chosen_nodes jobs (ends_of (get_or chains k d)).0 (ends_of (get_or chains k d)).1 (get_or chains k d) (shape_valid shape)
-      (last_node jobs pairs chains k d are of inside) (of.chosen k d inside);
+      (last_node jobs pairs chains k d (only_clashing are) of inside) (of.chosen k d inside);
   edges = λ k d inside. chosen_chain jobs (ends_of (get_or chains k d)).0 (ends_of (get_or chains k d)).1 (get_or chains k d) (of.chosen k d inside);
   all = λ a b clash. elim (cases_order a b) [
     | inl same ↦ absurd (clash.1.different same)
     | inr (inl less) ↦ inl (subst (λ (ps : List (ℕ × ℕ)). Contains ps (a, b)) (sym of.ends) ((are.clash a b).1 (less, clash)))
     | inr (inr more) ↦ inr (subst (λ (ps : List (ℕ × ℕ)). Contains ps (b, a)) (sym of.ends) ((are.clash b a).1 (more, turned_clash clash)))
   ];
+}
+
+-- neighbours clash
+pub near_clashing : {jobs : Jobs} (pairs : List (ℕ × ℕ)) → AreNeighbours jobs pairs → OnlyClashing jobs pairs
+near_clashing pairs near a b there = let one = (near a b).0 there in (one.rises, one.clash)
+
+-- chosen chains of all neighbours are a short certificate
+pub chains_short : (jobs : Jobs) (pairs : List (ℕ × ℕ)) (chains : List (List ℕ)) → IsWellFormed jobs → IsRising pairs → AreNeighbours jobs pairs → AreChainsOf jobs pairs chains
+    → IsShortCertificate jobs chains
+chains_short jobs pairs chains shape rise near of = record {
+  rise = subst (IsStrictlySortedBy pair_cmp) (sym of.ends) rise;
+  nodes = λ k d inside. chosen_nodes jobs (ends_of (get_or chains k d)).0 (ends_of (get_or chains k d)).1 (get_or chains k d) (shape_valid shape)
+      (last_node jobs pairs chains k d (near_clashing pairs near) of inside) (of.chosen k d inside);
+  edges = λ k d inside. chosen_chain jobs (ends_of (get_or chains k d)).0 (ends_of (get_or chains k d)).1 (get_or chains k d) (of.chosen k d inside);
+  all = λ a b one. subst (λ (ps : List (ℕ × ℕ)). Contains ps (a, b)) (sym of.ends) ((near a b).1 one);
 }

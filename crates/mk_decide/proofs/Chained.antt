@@ -15,7 +15,7 @@ use Rattle.mk_jobs.proofs.JobsLemmas.{shape_valid}
 use Rattle.mk_decide.specs.Chosen.{AreLeastFrom, IsChosen}
 use Rattle.mk_proof.specs.Shapes.{IsShapedChain, ends_of, pair_cmp}
 use Rattle.mk_proof.proofs.Risen.{chain_shaped, pair_cmp_total, sorted_front}
-use Rattle.mk_decide.specs.Pairs.{ArePairs, IsRising}
+use Rattle.mk_decide.specs.Pairs.{ArePairs, IsRising, OnlyClashing}
 use Rattle.mk_decide.specs.Races.{IsRace, IsLeastRace}
 
 pub least_edges : (jobs : Jobs) (a p : ℕ) (nodes : List ℕ) → AreLeastFrom jobs a p nodes → IsEdgeByEdge jobs p nodes
@@ -110,6 +110,10 @@ first_is_least jobs pairs i a b are inside is race ordered = record {
 }
 
 -- each pair is one of nodes that clash, the smaller first
-pub pair_clashes : (jobs : Jobs) (pairs : List (ℕ × ℕ)) (i : ℕ) → ArePairs jobs pairs → i < length pairs
+pub pair_clashes : (jobs : Jobs) (pairs : List (ℕ × ℕ)) (i : ℕ) → OnlyClashing jobs pairs → i < length pairs
     → ((get_or pairs i (0, 0)).0 < (get_or pairs i (0, 0)).1) × Clash jobs (get_or pairs i (0, 0)).0 (get_or pairs i (0, 0)).1
-pair_clashes jobs pairs i are inside = (are.clash (get_or pairs i (0, 0)).0 (get_or pairs i (0, 0)).1).0 (Contains-get_or pairs i (0, 0) inside)
+pair_clashes jobs pairs i only inside = only (get_or pairs i (0, 0)).0 (get_or pairs i (0, 0)).1 (Contains-get_or pairs i (0, 0) inside)
+
+-- all pairs that clash clash
+pub only_clashing : {jobs : Jobs} {pairs : List (ℕ × ℕ)} → ArePairs jobs pairs → OnlyClashing jobs pairs
+only_clashing are a b there = (are.clash a b).0 there

@@ -1,10 +1,10 @@
 -- Verdicts, and what they give.
-use Rattle.std.proofs.Common.{ℕ, List, All, inl, inr}
+use Rattle.std.proofs.Common.{ℕ, List, All, get_or, inl, inr, arith}
 use Rattle.std.proofs.lemmas.Bool.{cases_order}
-use Rattle.std.proofs.lemmas.List.Elements.{All-contains}
-use Rattle.mk_jobs.specs.Jobs.{Jobs, Before, IsRaceFree}
+use Rattle.std.proofs.lemmas.List.Elements.{All-contains, Contains-get_or}
+use Rattle.mk_jobs.specs.Jobs.{Jobs, Before, IsRaceFree, IsValid}
 use Rattle.mk_jobs.specs.Shape.{IsWellFormed}
-use Rattle.mk_jobs.proofs.JobsLemmas.{shape_valid}
+use Rattle.mk_jobs.proofs.JobsLemmas.{before_less, shape_valid}
 use Rattle.mk_jobs.proofs.Reaching.{turned_clash}
 use Rattle.mk_sched.specs.Laws.{IsDeterminate}
 use Rattle.mk_sched.specs.Schedules.{IsDeterminateFromOneRun}
@@ -17,7 +17,8 @@ use Rattle.mk_cert.proofs.Sound.{holds}
 use Rattle.mk_decide.specs.declared.decision.Verdict.{Verdict}
 use Rattle.mk_decide.specs.declared.decision.Verdict.TheVariants.{Safe, Race}
 use Rattle.mk_decide.specs.Decisions.{IfRace, IsSafe, IsVerdict}
-use Rattle.mk_decide.specs.Pairs.{ArePairs}
+use Rattle.mk_decide.specs.Pairs.{ArePairs, OnlyClashing}
+use Rattle.mk_decide.specs.ShortVerdicts.{IsShortVerdict}
 
 -- where all clashing pairs are in order, the jobs are race-free
 pub ordered_free : (jobs : Jobs) (pairs : List (ℕ × ℕ)) → ArePairs jobs pairs → All (λ (p : ℕ × ℕ). Before jobs p.0 p.1) pairs → IsRaceFree jobs
@@ -45,3 +46,18 @@ race_sure jobs (Race trace) shape is = of_race jobs trace shape (shape_valid sha
 pub race_holds : (jobs : Jobs) (verdict : Verdict) → IsWellFormed jobs → IsVerdict jobs verdict → IfRace verdict (TraceHolds jobs)
 race_holds jobs (Safe chains) shape is = tt
 race_holds jobs (Race trace) shape is = holds jobs trace (shape_valid shape) (of_race jobs trace shape (shape_valid shape) is.race)
+
+-- in race-free jobs whatever clashes is in order
+pub all_ordered : (jobs : Jobs) (pairs : List (ℕ × ℕ)) → IsValid jobs → IsRaceFree jobs → OnlyClashing jobs pairs → All (λ (p : ℕ × ℕ). Before jobs p.0 p.1) pairs
+all_ordered jobs pairs valid free only = λ k d inside.
+    let p = get_or pairs k d in
+    let one = only p.0 p.1 (Contains-get_or pairs k d inside) in
+    elim (free p.0 p.1 one.1) [
+      | inl before ↦ before
+      | inr back ↦ absurd (let less = before_less valid back in let more = one.0 in omega (arith, less, more))
+    ]
+
+-- so it is with a short certificate
+pub short_determinate : (jobs : Jobs) (verdict : Verdict) → IsWellFormed jobs → IsShortVerdict jobs verdict → IsSafe verdict → IsDeterminate jobs
+short_determinate jobs (Safe chains) shape is safe = headline jobs (shape_valid shape) is.race_free
+short_determinate jobs (Race trace) shape is safe = absurd safe

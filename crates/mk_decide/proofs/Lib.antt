@@ -1,3 +1,4 @@
+pub mod Between
 pub mod Certifying
 pub mod Chained
 pub mod Choosing
@@ -11,4 +12,5 @@ pub mod Merging
 pub mod OneChain
 pub mod Paired
 pub mod RowBits
+pub mod Sweeping
 pub mod Tracing

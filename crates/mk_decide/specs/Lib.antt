@@ -3,8 +3,12 @@ pub mod Chosen
 pub mod Decisions
 pub mod LeastRaces
 pub mod LeastTraces
+pub mod Neighbours
 pub mod Pairs
 pub mod Paths
 pub mod Races
+pub mod Short
+pub mod ShortVerdicts
+pub mod Swept
 pub mod Verdicts
 pub mod Walked

@@ -72,7 +72,7 @@ fn add_pairs(jobs: &Jobs, pairs: &mut Vec<(u32, u32)>, b: u32) -> Result<(), All
 
 /// Drops pairs that stand there twice, and brings the others in order. Where more than `PAIR_LIMIT` are left the fault is
 /// that of too many pairs.
-fn thin(alloc: Global, _jobs: &Jobs, pairs: &mut Vec<(u32, u32)>) -> Result<(), Halt>
+pub(crate) fn thin(alloc: Global, _jobs: &Jobs, pairs: &mut Vec<(u32, u32)>) -> Result<(), Halt>
     requires clash { OnlyClashing _jobs.now pairs.old.items }
     ensures few { OnOk result (length pairs.new.items ≤ pair_limit) }
     ensures rising { OnOk result (IsRising pairs.new.items) }

@@ -51,7 +51,7 @@ fn decided(alloc: Global, jobs: &Jobs) -> Result<Verdict, Halt> {
     decide_with(alloc, jobs, &mut walk)
 }
 
-fn written(alloc: Global, verdict: &Verdict) -> Result<Vec<u8>, AllocError> {
+pub(crate) fn written(alloc: Global, verdict: &Verdict) -> Result<Vec<u8>, AllocError> {
     match verdict {
         Verdict::Safe(certificate) => write_certificate(alloc, certificate),
         Verdict::Race(trace) => write_trace(alloc, trace),

@@ -10,16 +10,16 @@ use Rattle.mk_decide.proofs.Chained.{chosen_ends, front_rises, pair_clashes}
 use Rattle.mk_decide.proofs.certificate.certificate_of.Goals as goal
 
 pub push_chain-requires-clause-first : goal.push_chain-requires-clause-first
-push_chain-requires-clause-first g c = (clash_live (pair_clashes c.args.jobs.now c.args.pairs.now c.loop-i.i c.requires.pairs c.loop-i-test.true).1.1).first_node
+push_chain-requires-clause-first g c = (clash_live (pair_clashes c.args.jobs.now c.args.pairs.now c.loop-i.i c.requires.clash c.loop-i-test.true).1.1).first_node
 
 pub push_chain-requires-clause-second : goal.push_chain-requires-clause-second
-push_chain-requires-clause-second g c = (clash_live (pair_clashes c.args.jobs.now c.args.pairs.now c.loop-i.i c.requires.pairs c.loop-i-test.true).1.1).second_node
+push_chain-requires-clause-second g c = (clash_live (pair_clashes c.args.jobs.now c.args.pairs.now c.loop-i.i c.requires.clash c.loop-i-test.true).1.1).second_node
 
 pub push_chain-requires-clause-rises : goal.push_chain-requires-clause-rises
 push_chain-requires-clause-rises g c =
     let p = get_or c.args.pairs.now c.loop-i.i (0, 0) in
     subst (λ (front : List (ℕ × ℕ)). IsStrictlySortedBy pair_cmp (front ++ p ∷ [])) (sym c.loop-i.invariant.ends)
-    (front_rises c.args.pairs.now c.loop-i.i p.0 p.1 c.loop-i-test.true (get_or_default c.args.pairs.now c.loop-i.i (0, 0) p c.loop-i-test.true) c.requires.pairs.rise)
+    (front_rises c.args.pairs.now c.loop-i.i p.0 p.1 c.loop-i-test.true (get_or_default c.args.pairs.now c.loop-i.i (0, 0) p c.loop-i-test.true) c.requires.rise)
 
 pub loop-i-preserved : goal.loop-i-preserved
 loop-i-preserved g c =

@@ -1,4 +1,5 @@
 use Rattle.mk_decide.proofs.Certifying.{chains_certify}
+use Rattle.mk_decide.proofs.Chained.{only_clashing}
 use Rattle.mk_decide.proofs.Deciding.{ordered_free}
 use Rattle.mk_decide.proofs.decision.verdict_of.Goals as goal
 
@@ -10,3 +11,6 @@ returns-clause-answer g c = record {
   clash = c.requires.pairs;
   chains_are = c.in_ok-chains.ensures.chains;
 }
+
+pub certificate_of-requires-clause-clash : goal.certificate_of-requires-clause-clash
+certificate_of-requires-clause-clash g c = only_clashing c.requires.pairs

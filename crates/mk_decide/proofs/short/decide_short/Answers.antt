@@ -1,0 +1,55 @@
+use Rattle.std.proofs.Common.{ℕ, List, All, refl, sym, subst}
+use Rattle.mk_jobs.specs.Jobs.{Before}
+use Rattle.mk_cert.proofs.Overlapping.{of_race}
+use Rattle.mk_cert.proofs.Sound.{holds}
+use Rattle.mk_decide.specs.Neighbours.{AreNeighbours}
+use Rattle.mk_decide.specs.Pairs.{OnlyClashing}
+use Rattle.mk_decide.specs.Verdicts.{AreChainsOf}
+use Rattle.mk_decide.specs.declared.decision.Verdict.TheVariants.{Safe}
+use Rattle.mk_decide.proofs.Certifying.{chains_short, near_clashing}
+use Rattle.mk_decide.proofs.Deciding.{all_ordered, short_determinate}
+use Rattle.mk_decide.proofs.short.decide_short.Goals as goal
+
+pub returns-in-Some-clause-holds : goal.returns-in-Some-clause-holds
+returns-in-Some-clause-holds c =
+    holds c.args.jobs.now c.in_ok-trace.trace c.count-count.ensures.valid
+    (of_race c.args.jobs.now c.in_ok-trace.trace c.count-count.ensures.shape c.count-count.ensures.valid c.in_ok-trace.ensures.race)
+
+pub returns-in-Some-clause-sure : goal.returns-in-Some-clause-sure
+returns-in-Some-clause-sure c = of_race c.args.jobs.now c.in_ok-trace.trace c.count-count.ensures.shape c.count-count.ensures.valid c.in_ok-trace.ensures.race
+
+pub thin-requires : goal.thin-requires
+thin-requires c = record { clash = near_clashing c.in_ok-pairs.pairs.items c.in_ok-pairs.ensures }
+
+pub certificate_of-requires-clause-clash : goal.certificate_of-requires-clause-clash
+certificate_of-requires-clause-clash c =
+    subst (OnlyClashing c.args.jobs.now) (sym c.deref.ensures.value) (λ a b there. near_clashing c.in_ok-pairs.pairs.items c.in_ok-pairs.ensures a b ((c.in_ok-thin.ensures.same a b).0 there))
+
+pub certificate_of-requires-clause-ordered : goal.certificate_of-requires-clause-ordered
+certificate_of-requires-clause-ordered c =
+    let free = c.in_default.ensures.free.0 refl in
+    let all = all_ordered c.args.jobs.now c.thin.new.pairs.items c.count-count.ensures.valid free
+    (λ a b there. near_clashing c.in_ok-pairs.pairs.items c.in_ok-pairs.ensures a b ((c.in_ok-thin.ensures.same a b).0 there)) in
+    let here : All (λ (p : ℕ × ℕ). Before c.args.jobs.now p.0 p.1) c.deref.result.now = subst (All (λ (p : ℕ × ℕ). Before c.args.jobs.now p.0 p.1)) (sym c.deref.ensures.value) all in
+    λ k d inside. here k d inside
+
+pub returns-clause-answer : goal.returns-clause-answer
+returns-clause-answer c =
+    let free = c.in_default.ensures.free.0 refl in
+    let near : AreNeighbours c.args.jobs.now c.thin.new.pairs.items = λ a b. (
+      λ there. (c.in_ok-pairs.ensures a b).0 ((c.in_ok-thin.ensures.same a b).0 there),
+      λ one. (c.in_ok-thin.ensures.same a b).1 ((c.in_ok-pairs.ensures a b).1 one),
+    ) in
+    let of : AreChainsOf c.args.jobs.now c.thin.new.pairs.items c.in_ok-chains.chains =
+    subst (λ (ps : List (ℕ × ℕ)). AreChainsOf c.args.jobs.now ps c.in_ok-chains.chains) c.deref.ensures.value c.in_ok-chains.ensures.chains in
+    record {
+      race_free = free;
+      certificate = chains_short c.args.jobs.now c.thin.new.pairs.items c.in_ok-chains.chains c.count-count.ensures.shape c.in_ok-thin.ensures.rising near of;
+      pairs = c.thin.new.pairs.items;
+      rise = c.in_ok-thin.ensures.rising;
+      near = near;
+      chains_are = of;
+    }
+
+pub returns-clause-determinate : goal.returns-clause-determinate
+returns-clause-determinate c = short_determinate c.args.jobs.now (Safe c.in_ok-chains.chains) c.count-count.ensures.shape (returns-clause-answer c)
