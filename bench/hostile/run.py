@@ -5,13 +5,14 @@
 
 PROGRAM is the built program (crates/race/out/race). Each input is as large as a limit allows, or as its line in docs/SAFETY.md
 says, and is made at half of that size first. Printed are the size of the texts, the seconds of a processor and the peak
-memory of one run of each, as GNU time reports them (Debian's package `time`), the status, and whether the whole is over its
-bound: five seconds and a twentieth for each megabyte of the texts, and 64 MiB with 24 times the texts; and besides, for
+memory of one run of each, as GNU time reports them (Debian's package `time`), the power of the size that the time grows with, the
+status, and whether the whole is over its bound: five seconds and a twentieth for each megabyte of the texts, and 64 MiB with 24 times the texts; and besides, for
 inputs that are named in LINES, what a line of the makefile is allowed there. A run that takes more than N seconds (100) is
 stopped, and one that wants more than N gigabytes (6) is refused memory. Nothing here is a test.
 """
 import argparse
 import json
+import math
 import os
 import pathlib
 import random
@@ -296,6 +297,19 @@ def ordered_pairs(part):
     return {"makefile": "".join(rules), "listing": "", "footprints": "".join(json.dumps(it) + "\n" for it in lines), "words": names[-1:]}
 
 
+def shared_log(part):
+    """1,414 recipes that write one log, in no order."""
+    names = [short(i) for i in range(int(1_414 * part))]
+    rules = "".join(f"{name}:\n\tc\n" for name in names)
+    lines = ({"target": name, "reads": [], "writes": [name, "log"]} for name in names)
+    return {"makefile": entries("all", names) + rules, "listing": "", "footprints": "".join(json.dumps(it) + "\n" for it in lines)}
+
+
+def asked(command, make_input):
+    """The same input, with another command."""
+    return lambda part: {"command": command, **make_input(part)}
+
+
 def included(lines, texts, before=""):
     """A makefile with these lines, and texts that its include lines may name."""
     return {"makefile": before + lines + "all:\n", "listing": "", "includes": "".join(f"{name}\n" for name in texts), "aside": texts}
@@ -345,6 +359,12 @@ INPUTS = {
     "JSON with a long number": lambda part: json_line(part, "number"),
     "200,000 edges": dense,
     "a million pairs in order": ordered_pairs,
+    "a million pairs in order, list": asked("list", ordered_pairs),
+    "a million pairs in order, missing": asked("missing", ordered_pairs),
+    "a log of 1,414 recipes": shared_log,
+    "a log of 1,414 recipes, list": asked("list", shared_log),
+    "a log of 1,414 recipes, missing": asked("missing", shared_log),
+    "a log of 1,414 recipes, fix": asked("fix", shared_log),
     "a million puts, 100,000 files": puts,
     "a file of 50 megabytes": large_file,
     "include lines of large values": lambda part: included(many("include a\n", 1_000 * part), {"a": ADD}, VALUES),
@@ -366,6 +386,8 @@ LINES = {
     "references through a long value": (1, 2, 72 * 1_000),
     "include lines of large texts": (5_000_000, 0.000002, 0.3),
     "a million pairs in order": (1_000_000, 0.000002, 0.07),
+    "a log of 1,414 recipes, list": (998_991, 0.000002, 0.07),
+    "a log of 1,414 recipes, fix": (998_991, 0.000007, 2),
 }
 
 
@@ -373,13 +395,13 @@ def run(args, make_input, part):
     """One run: the size of its texts in bytes, the seconds, the peak memory in MiB, and how it ended."""
     with tempfile.TemporaryDirectory(prefix="race-bench-") as folder:
         texts = make_input(part)
-        operands_of = texts.pop("words", [])
+        operands_of, command = texts.pop("words", []), texts.pop("command", "")
         for name, text in texts.pop("aside", {}).items():
             pathlib.Path(folder, name).write_text(text)
         for name, text in texts.items():
             pathlib.Path(folder, name).write_text(text)
         size = sum(path.stat().st_size for path in pathlib.Path(folder).iterdir()) + sum(len(it) + 1 for it in operands_of)
-        command = "replay" if "log" in texts else "check" if "footprints" in texts else "order"
+        command = command or ("replay" if "log" in texts else "check" if "footprints" in texts else "order")
         words = [command, "--root", "/w"]
         words += [word for name in texts for word in ("--" + name, name)] + operands_of
         del texts
@@ -407,13 +429,13 @@ def main():
     parser.add_argument("--gigabytes", type=float, default=6)
     args = parser.parse_args()
     args.program = os.path.abspath(args.program)
-    print("| input | size | half: time, memory | whole: time, memory | status | |\n|---|---|---|---|---|---|")
+    print("| input | size | half: time, memory | whole: time, memory | growth | status | |\n|---|---|---|---|---|---|---|")
     for name, make_input in INPUTS.items():
         if args.only and not any(name.startswith(it) for it in args.only):
             continue
         half, whole = run(args, make_input, 1 / 2), run(args, make_input, 1)
         times = " | ".join(f"{seconds:.2f} s, {memory:.0f} MiB" for _, seconds, memory, _ in (half, whole))
-        print(f"| {name} | {whole[0] / MEGABYTE:.1f} MB | {times} | {whole[3]} | {'over' if is_over(name, *whole) else ''} |", flush=True)
+        print(f"| {name} | {whole[0] / MEGABYTE:.1f} MB | {times} | {math.log2(max(whole[1], 0.01) / max(half[1], 0.01)):.1f} | {whole[3]} | {'over' if is_over(name, *whole) else ''} |", flush=True)
 
 
 if __name__ == "__main__":
