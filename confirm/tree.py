@@ -123,7 +123,7 @@ def differing(one: dict[str, str], other: dict[str, str]) -> set[str]:
 
 
 def passing(ones: Iterable[str], others: Iterable[str]) -> list[re.Pattern[str]]:
-    """Names that differ from run to run: of what two builds have alone those that are alike but for some signs of one part, such as
+    """Names that differ from run to run: of what two builds have alone those that are alike except for some signs of one part, such as
     `out/tmp.Xy12`."""
     found = set()
     for one, other in ((one, other) for one in ones for other in others if len(one) == len(other)):
