@@ -110,10 +110,14 @@ first_is_least jobs pairs i a b are inside is race ordered = record {
 }
 
 -- each pair is one of nodes that clash, the smaller first
-pub pair_clashes : (jobs : Jobs) (pairs : List (ℕ × ℕ)) (i : ℕ) → OnlyClashing jobs pairs → i < length pairs
+pub only_clashes : (jobs : Jobs) (pairs : List (ℕ × ℕ)) (i : ℕ) → OnlyClashing jobs pairs → i < length pairs
     → ((get_or pairs i (0, 0)).0 < (get_or pairs i (0, 0)).1) × Clash jobs (get_or pairs i (0, 0)).0 (get_or pairs i (0, 0)).1
-pair_clashes jobs pairs i only inside = only (get_or pairs i (0, 0)).0 (get_or pairs i (0, 0)).1 (Contains-get_or pairs i (0, 0) inside)
+only_clashes jobs pairs i only inside = only (get_or pairs i (0, 0)).0 (get_or pairs i (0, 0)).1 (Contains-get_or pairs i (0, 0) inside)
 
 -- all pairs that clash clash
 pub only_clashing : {jobs : Jobs} {pairs : List (ℕ × ℕ)} → ArePairs jobs pairs → OnlyClashing jobs pairs
 only_clashing are a b there = (are.clash a b).0 there
+
+pub pair_clashes : (jobs : Jobs) (pairs : List (ℕ × ℕ)) (i : ℕ) → ArePairs jobs pairs → i < length pairs
+    → ((get_or pairs i (0, 0)).0 < (get_or pairs i (0, 0)).1) × Clash jobs (get_or pairs i (0, 0)).0 (get_or pairs i (0, 0)).1
+pair_clashes jobs pairs i are = only_clashes jobs pairs i (only_clashing are)

@@ -6,14 +6,14 @@ use Rattle.mk_jobs.proofs.JobsLemmas.{clash_live}
 use Rattle.mk_decide.specs.Chosen.{IsChosen}
 use Rattle.mk_proof.specs.Shapes.{ends_of, pair_cmp}
 use Rattle.mk_decide.specs.Verdicts.{IsChosenChain}
-use Rattle.mk_decide.proofs.Chained.{chosen_ends, front_rises, pair_clashes}
+use Rattle.mk_decide.proofs.Chained.{chosen_ends, front_rises, only_clashes}
 use Rattle.mk_decide.proofs.certificate.certificate_of.Goals as goal
 
 pub push_chain-requires-clause-first : goal.push_chain-requires-clause-first
-push_chain-requires-clause-first g c = (clash_live (pair_clashes c.args.jobs.now c.args.pairs.now c.loop-i.i c.requires.clash c.loop-i-test.true).1.1).first_node
+push_chain-requires-clause-first g c = (clash_live (only_clashes c.args.jobs.now c.args.pairs.now c.loop-i.i c.requires.clash c.loop-i-test.true).1.1).first_node
 
 pub push_chain-requires-clause-second : goal.push_chain-requires-clause-second
-push_chain-requires-clause-second g c = (clash_live (pair_clashes c.args.jobs.now c.args.pairs.now c.loop-i.i c.requires.clash c.loop-i-test.true).1.1).second_node
+push_chain-requires-clause-second g c = (clash_live (only_clashes c.args.jobs.now c.args.pairs.now c.loop-i.i c.requires.clash c.loop-i-test.true).1.1).second_node
 
 pub push_chain-requires-clause-rises : goal.push_chain-requires-clause-rises
 push_chain-requires-clause-rises g c =
