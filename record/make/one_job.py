@@ -17,7 +17,7 @@ HANDS = re.compile(r"\$\$?[({]?M(?:AKE)?FLAGS\b")  # what hands the flags of the
 
 
 def has_one_job(words: Words, life: Life, callers: Sequence[str]) -> bool:
-    """Whether a make runs one job at a time whatever the make above is told. `callers`: the lines of the recipe that called it, as they stand in
+    """Whether a make runs one job at a time whatever the make above is asked for. `callers`: the lines of the recipe that called it, as they stand in
     the makefile. A number that a macro or a program gave may be another one next time, and so may the flags of the make above."""
     texts = [*callers, *texts_between(life)]
     if any(map(hands_on, texts)):

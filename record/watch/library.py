@@ -9,7 +9,7 @@ from pathlib import Path
 
 SOURCE = Path(__file__).resolve().parent / "watch.c"
 INSTALLED = SOURCE.parents[4] / "lib" / "race" / "watch.so"  # beside share/race/record/watch
-OPTIONS = ("-std=gnu11", "-shared", "-fPIC", "-O1", "-fno-builtin", "-U_FORTIFY_SOURCE")
+OPTIONS = ("-std=gnu11", "-shared", "-fPIC", "-O1", "-fno-builtin", "-U_FORTIFY_SOURCE", "-s")
 NO_COMPILER = ("cc is missing, which builds the library that make has while it is recorded (Debian: apt-get install gcc libc6-dev); it is built once, "
                "and an installed race-record has it")
 

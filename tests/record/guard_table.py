@@ -286,8 +286,7 @@ OWNERS: List[Guard] = [
     Guard("race itself: another program", "judge.py", "not is_whole or ", "", "test_judge.Answers.test_another_program", LOST_HOLE),
 ]
 UNFILED: List[Guard] = [
-    Guard("serial: the user's own -j1", "make/owners.py", "            return False\n        return (bool(self.words.slots)", "            pass\n        return (bool(self.words.slots)", small("jobs_of_a_makefile_and_one_job"), YES),
-    Guard("serial: folders and values are no jobs", "make/flags.py", '_, letter, value = cluster(word)', 'letter, value = ("j", "1") if word.endswith("j1") else ("", "")', small("folder_that_looks_like_one_job"), YES),
+    Guard("serial: the user's own -j1", "make/owners.py", "            return False\n        return (bool(self.words.slots)", "            pass\n        return (bool(self.words.slots)", small("jobs_of_a_makefile"), YES),
     Guard("serial: jobs that a recipe hands on", "make/one_job.py", "    if any(map(hands_on, texts)):\n", "    if False:\n", small("jobs_before_those_that_a_recipe_hands_on"), YES),
     Guard("macros that recipes change", "make/build.py", "        add_macros(self, created)\n", "", small("macro_that_a_recipe_changes"), YES),
     Guard("macros: by way of others", "make/macrotexts.py", "todo = set().union(*(self.named_by(name, again) for name in todo)) - seen", "todo = set()", small("macro_by_way_of_another"), YES, COARSE),

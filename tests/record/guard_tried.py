@@ -58,7 +58,6 @@ TRIED_GUARDS: List[Guard] = [
     Guard("tried: the same in a script with ages", "trace/started.py", "            life.events.pop((AGE_SEEN, life.sought), None)\n", "            pass\n",
           tried("programs_that_bash_searches_for_in_a_script_with_ages"), FALSE_RACE),
     Guard("tried: ages of the folder before that", "trace/calls.py", 'found.path if path == "." and (AGE_SEEN, found.path) not in life.events else ""', "found.path", tried("age_of_a_folder_between_searches"), YES),
-    Guard("tried: programs that bash knows", "trace/started.py", "life.sought and not ok and", "life.sought and", tried("age_of_a_folder_before_a_program_that_is_known"), YES),
     Guard("tried: searches of another shell", "trace/started.py", " and is_bash(life.argv):", ":", tried("age_of_a_folder_before_a_search_of_dash"), YES),
     Guard("tried: looks of the program before", "trace/started.py", '        life.last_look = ""\n', "", tried("age_of_a_folder_for_a_shell_behind_a_look_at_it"), YES),
     Guard("tried: dots that take in a script", TEXT, 'words.replace(text, DOT.sub(r"\\1", text)) if text else words', "words", tried("script_that_a_shell_takes_in"), FALSE_RACE),

@@ -8,6 +8,7 @@ from pathlib import Path
 LIBRARY = "share/race"
 DOCS = "share/doc/race"
 UNPROVED = "lib/race/unproved/race"
+WATCH = "lib/race/watch.so"
 PAGES = ("README.md", "CONTRIBUTING.md", "CHANGELOG.md", "LICENSE", "THIRD-PARTY")
 PAGE_FOLDERS = ("docs", "examples")
 
@@ -98,6 +99,7 @@ def page_items(top: Path) -> Iterator[Item]:
     yield from (Item(f"{DOCS}/{it.relative_to(top)}", it) for folder in PAGE_FOLDERS for it in files_below(top / folder))
 
 
-def items(top: Path, program: Path, is_proved: bool) -> list[Item]:
-    """All files of an installation."""
-    return [*program_items(program, is_proved), *companion_items(top), *share_items(top), *page_items(top)]
+def items(top: Path, program: Path, is_proved: bool, watch: Path | None) -> list[Item]:
+    """All files of an installation. `watch`: the library that make has while a build is recorded, where it could be built."""
+    library = [Item(WATCH, watch)] if watch is not None else []
+    return [*program_items(program, is_proved), *library, *companion_items(top), *share_items(top), *page_items(top)]
