@@ -21,7 +21,7 @@ def at_once_in(work: Work, target: str, assumed: Assumptions) -> None:
     written = {path for life in work.lives for kind, path in life.events if kind in CHANGES}
     table: Dict[str, List[Life]] = {}
     for life in sorted(work.lives, key=lambda life: life.born):
-        for path in {path for kind, path in life.events if kind in TOUCHES and path in written}:
+        for path in dict.fromkeys(path for kind, path in life.events if kind in TOUCHES and path in written):
             table.setdefault(path, []).append(life)
     beside_others, left = branches(work), beside_left(work, table)
     for path, who in table.items():
