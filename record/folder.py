@@ -40,7 +40,7 @@ class NotWhole(Exception):
 
 def top_of(folder: str) -> str:
     """The project's top: the work tree of git that a folder lies in, or the folder itself."""
-    return next((str(one) for one in (Path(folder), *Path(folder).parents) if (one / ".git").exists()), folder)
+    return next((str(one) for one in (Path(folder), *Path(folder).parents) if machine.exists(str(one / ".git"))), folder)
 
 
 def name_from(top: str, path: str) -> str:

@@ -43,7 +43,7 @@ class Places:
     def generator(self) -> Optional["CMake"]:
         """What CMake left of the folder that this build is in."""
         for top in (Path(self.folder), *Path(self.folder).parents):
-            if (top / "CMakeCache.txt").is_file():
+            if machine.isfile(str(top / "CMakeCache.txt")):
                 return self.cmake.setdefault(str(top), CMake(top))
         return None
 

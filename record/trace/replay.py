@@ -32,7 +32,7 @@ class Replay:
         self.said = ""  # the one in which each make has a file for what it says
         self.silent: Set[str] = set()  # names of the files of makes that only answer
         self.covered: Set[str] = set()  # the makes over which copies lie that have the library
-        self.first_place = os.environ.get("PATH", os.defpath).split(":")[0]  # where a shell begins to look for a program
+        self.first_place = (machine.variable("PATH") or os.defpath).split(":")[0]  # where a shell begins to look for a program
         self.unheard: Dict[int, str] = {}  # by id of a life: the words of a make that has not opened its file
         self.below_tops = tuple(top.rstrip("/") + "/" for top in tops)
         self.first_folder = folder

@@ -18,9 +18,10 @@ from record.folder import rewrite
 ASKS = {"os.path.%s" % name for name in ("isfile", "isdir", "islink", "exists", "lexists", "realpath", "getsize", "samefile")} | {
     "os.%s" % name for name in ("stat", "lstat", "readlink", "listdir", "scandir", "walk", "environ", "getenv", "geteuid", "getcwd", "umask")} | {
     "open", "tokenize.open", "glob.glob", "subprocess.run", "time.time"}
+OF_PATHS = {"read_text", "read_bytes", "is_file", "is_dir", "is_symlink", "exists", "iterdir", "rglob", "resolve", "samefile"}  # methods of paths that ask too
 # Modules that run builds, read what was kept of one, or write a record or judge it; and, where builds are asked once more, those of --missing.
 OTHERS = ("machine.py", "facts.py", "folder.py", "entry.py", "pages.py", "judge.py", "importing.py", "import_again.py", "footprints.py", "missing", "make/words.py", "make/cover.py", "missing/called.py",
-          "make/options.py", "trace/sifting.py")
+          "make/options.py", "trace/sifting.py", "watch/files.py")
 
 
 class Answers(unittest.TestCase):
@@ -107,7 +108,7 @@ def asked_in(tree: ast.AST) -> "Iterator[tuple[int, str]]":
         node = todo.pop()
         if isinstance(node, ast.FunctionDef) and any(ast.unparse(one) == "machine.asked" for one in node.decorator_list):
             continue
-        if isinstance(node, (ast.Attribute, ast.Name)) and ast.unparse(node) in ASKS or isinstance(node, ast.Attribute) and node.attr in ("read_text", "read_bytes"):
+        if isinstance(node, (ast.Attribute, ast.Name)) and ast.unparse(node) in ASKS or isinstance(node, ast.Attribute) and node.attr in OF_PATHS and ast.unparse(node.value) != "machine":
             yield node.lineno, ast.unparse(node)
         todo.extend(ast.iter_child_nodes(node))
 
