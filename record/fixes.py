@@ -70,7 +70,8 @@ def better(about: Dict[str, Any], race: Race, kind: Kind) -> str:
         return "give each recipe a name of its own for this file, such as %s.$@" % os.path.basename(race.path)
     if kind not in (FORGOTTEN, OUTPUT):
         return kind.fix.replace("`", "")
-    if race.second_does != "writes" or race.first_does != "reads" or about.get("tool") == "ninja":
+    first = about["labels"].get(race.first, {})
+    if race.second_does != "writes" or race.first_does != "reads" or about.get("tool") == "ninja" or first.get("kind") != "recipe" or race.path in first.get("lists", ()):
         return ""
     early, late = target(about, race.first), target(about, race.second)
     return "with one job %s comes first, and sees none of %s; if it is to see it, write %s: %s instead" % (early, late, in_makefile(early), in_makefile(late))
