@@ -17,7 +17,7 @@ MISSING = "what a build after an edit may leave old, though nothing races"
 WHOLE = {
     "race": (("race", "races"), RACE),
     "races": (("race", "races"), RACE),
-    "missing inputs": (("missing", "late", "shared", "present", "tree", "unlisted"), MISSING),
+    "missing inputs": (("missing", "late", "shared", "present", "tree"), MISSING),
 }
 
 
