@@ -9,9 +9,10 @@ import json
 import shutil
 from dataclasses import dataclass
 from pathlib import Path
-from typing import Dict, List, Sequence
+from typing import Dict, List, Optional, Sequence
 
 from record import machine
+from record.first_tree import FirstTree
 from record.folder import Record
 from record.ninja.log import Kept
 from record.trace.names import Names
@@ -41,7 +42,8 @@ class Facts:
         before.write(folder / "before")
         after.write(folder / "after")
         about = {"words": record.words, "folder": record.folder, "status": record.status, "seconds": record.seconds, "tools": record.tools,
-                 "place": self.place, "said": self.said_place, "covered": list(self.covered), "real": self.real, "tops": self.names.tops, "linked": options.linked, "warm": options.warm}
+                 "place": self.place, "said": self.said_place, "covered": list(self.covered), "real": self.real, "tops": self.names.tops, "linked": options.linked, "warm": options.warm,
+                 "first": {**vars(record.first), "tracked": sorted(record.first.tracked)} if record.first else None}
         (folder / "facts.json").write_text(json.dumps(about, indent=1) + "\n", encoding="utf-8")
 
 
@@ -55,9 +57,9 @@ def first_tree(tops: Sequence[str], linked: Sequence[str]) -> "tuple[Names, Kept
     return names, Kept.of(names)
 
 
-def begun(words: List[str], folder: str, status: int, seconds: float, tools: Dict[str, str]) -> Record:
+def begun(words: List[str], folder: str, status: int, seconds: float, tools: Dict[str, str], first: Optional[FirstTree] = None) -> Record:
     """The record of a build that has ended, before anything is known of it."""
-    record = Record(words, folder, status, seconds, tools)
+    record = Record(words, folder, status, seconds, tools, first=first)
     if status != 0:
         record.holes.append("the build ended with status %d" % status + (": signal %d stopped it" % -status if status < 0 else ""))
     return record

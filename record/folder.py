@@ -7,11 +7,12 @@ import shutil
 import socket
 import tempfile
 from contextlib import contextmanager
-from dataclasses import asdict, dataclass, field
+from dataclasses import dataclass, field
 from pathlib import Path
 from typing import TYPE_CHECKING, Any, Dict, Iterator, List, Optional
 
 from record import VERSION, machine
+from record.first_tree import FirstTree
 from record.messages import reason
 from record.places import Places
 from record.build.text import labels_of, lines_of, relative, shown
@@ -23,6 +24,7 @@ if TYPE_CHECKING:
 ROOMS = "/tmp" if os.path.isdir("/tmp") else None  # where temporary folders are made
 NO_ROOM = "no folder for temporary files lets programs run (%s: they are mounted with noexec, or not for you): name one by TMPDIR that is not in the project"
 NAMES = 12  # so many of the targets that were there before are named
+INSIDE = ("configured", "first", "up_to_date")  # what the record does not hold as it is
 FOUND = 3  # so many names of a folder that is no record
 
 
@@ -74,14 +76,16 @@ class Record:
     stands_alone: bool = False  # their recipes did not run, and can run beside no other
     notes: List[str] = field(default_factory=list)
     hints: List[str] = field(default_factory=list)  # what to try: of a build that failed, who looks for what others make
+    first: Optional[FirstTree] = None  # the tree that it started from
+    up_to_date: List[str] = field(default_factory=list)  # files that the build makes, and that are part of that tree
     missingdeps: int = 0  # what `ninja -t missingdeps` finds
     missing: Optional[Dict[str, Any]] = None  # with --missing: what its answer takes for granted, and why there may be none
 
     def text(self) -> str:
         """As it is written."""
-        found: Dict[str, Any] = {"version": VERSION, **asdict(self)}
+        found: Dict[str, Any] = {"version": VERSION, **{name: value for name, value in vars(self).items() if name not in INSIDE}}
         alone = found.pop("stands_alone")
-        del found["configured"]
+        found["tree"] = self.first.text() if self.first else ""
         found["top"] = shown(top_of(self.folder))
         if self.missing is None:
             del found["missing"]

@@ -7,6 +7,7 @@ from typing import Any, Dict, Optional, Tuple
 
 from record import machine
 from record.facts import SAID, Facts, begun, first_tree
+from record.first_tree import FirstTree
 from record.folder import Record
 from record.importing import Imported, complete, imported
 
@@ -17,7 +18,9 @@ def import_again(folder: Path, out: Optional[Path] = None) -> Tuple[Record, Impo
     about: Dict[str, Any] = json.loads((folder / "facts.json").read_text(encoding="utf-8"))
     with machine.answering(machine.Answers.written(folder / "before")):
         names, kept = first_tree(about["tops"], about["linked"])
-    record = begun(about["words"], about["folder"], about["status"], about["seconds"], about["tools"])
+    first: Dict[str, Any] = about.get("first") or {"folder": about["folder"], "new": [], "tracked": []}
+    first.update(new=tuple(first["new"]), tracked=frozenset(first["tracked"]))
+    record = begun(about["words"], about["folder"], about["status"], about["seconds"], about["tools"], FirstTree(**first))
     facts = Facts(folder, about["place"], about["real"], names, kept, folder / SAID, about["said"], about["covered"])
     options = argparse.Namespace(warm=about["warm"], footprints=False, missing=False)
     with machine.answering(machine.Answers.written(folder / "after")):

@@ -10,23 +10,24 @@ import sys
 from dataclasses import dataclass
 from itertools import chain
 from pathlib import Path
-from typing import List, Optional, Set
+from typing import Dict, List, Optional, Set
 
 from record import machine
 from record.build.assumptions import Assumptions
 from record.build.tasks import Build
 from record.cleaned import Cleaned
 from record.clock import named_by_time
-from record.configured import find_configured
+from record.configured import STATUS, find_configured, last_changes
 from record.facts import Facts
 from record.failed import answers, explained, lacked, tried
+from record.first_tree import Release, left_behind
 from record.folder import Record, write_record
 from record.footprints import write_footprints
 from record.make.build import MakeBuilder as Builder
 from record.make.elsewhere import Elsewhere
 from record.make.owners import Owners, beginning
 from record.make.spellings import twice
-from record.make.words import read_logs
+from record.make.words import makefiles, read_logs
 from record.missing.inputs import write_missing
 from record.ninja.builds import versions as ninja_versions
 from record.ninja.builds import beside, find_ninjas, import_ninjas
@@ -51,7 +52,7 @@ from record.watch.files import PRINTS, files_in, open_file, read_start
 from record.warm import did_nothing, made_unseen, stand_alone, warm_names
 
 
-IDLE = "nothing was to be done, so nothing was seen: record a clean tree (make clean, or --fresh for ninja)"
+IDLE = "nothing was to be done, so nothing was seen: record a clean tree (--fresh)"
 
 
 def replay_trace(facts: Facts, folder: str) -> Calls:
@@ -91,6 +92,7 @@ class Imported:
     cleaned: Cleaned
     idle: List[str]  # targets of makes that had nothing to do
     configured: Set[str]  # what configuring made
+    texts: Dict[str, str]  # what makefiles said when make read them
 
 
 def settle_all(replay: Calls, facts: Facts, assumed: Assumptions) -> Owners:
@@ -192,13 +194,31 @@ def import_record(facts: Facts, record: Record) -> Imported:
         record.holes.append(IDLE)
     tools = [*(make.life for make in owners.makes), *(ninja.life for ninja in ninjas)]
     cleaned = Cleaned(names, replay.changes, tools, replay.all)
-    return Imported(builds, assumed, replay.all, ninjas, cleaned, idle_targets(owners, names, cleaned), find_configured(owners.makes, replay.all, names))
+    return Imported(builds, assumed, replay.all, ninjas, cleaned, idle_targets(owners, names, cleaned), find_configured(owners.makes, replay.all, names), texts_of(owners, names))
 
 
-def finish(record: Record, found: Imported, names: Names, warm: bool) -> None:
+def texts_of(owners: Owners, names: Names) -> Dict[str, str]:
+    """By path: what each makefile said when make read it."""
+    found = {names.find(make.folder, name, True).path: make.known_text(name) for make in owners.makes for name in makefiles(make.words)}
+    return {path: text for path, text in found.items() if text is not None}
+
+
+def finish(record: Record, found: Imported, names: Names, out: str, warm: bool) -> None:
     """What is known when all builds are: whether they were cold, and what ninja itself finds."""
     there = {*warm_names(found.builds, found.ninjas, names, found.cleaned), *found.idle}
-    record.warm, record.configured = sorted(there - found.configured), sorted(there & found.configured)
+    record.configured = sorted(there & found.configured)
+    there -= found.configured
+    if record.first is not None:
+        written = {path for build in found.builds for task in build.tasks for path in task.writes}
+        changed = last_changes(found.lives)
+        release = Release.of(record.first, (path for path in names.before if os.path.basename(path) == STATUS and path not in changed), written)
+        part = {path for path in there if release.has(path)}
+        record.up_to_date = sorted(part - written)
+        before = {path: kind for path, kind in names.before.items() if path not in found.cleaned.since}
+        there = there - part | left_behind(record.first, before, found.lives, found.builds, out, found.texts) - found.configured
+    record.warm = sorted(there)
+    for name in record.up_to_date:
+        found.assumed.add("up-to-date", name)
     for name in record.configured:
         found.assumed.add("configured", name)
     record.stands_alone = bool(record.warm) and stand_alone(record.warm, found.builds, found.ninjas)
@@ -212,19 +232,19 @@ def finish(record: Record, found: Imported, names: Names, warm: bool) -> None:
         record.notes += ["ninja -t missingdeps, of earlier builds: %s reads %s, and waits for nobody who makes it" % (m.user, m.path) for m in beyond if record.warm]
 
 
-def imported(record: Record, facts: Facts, warm: bool) -> Imported:
+def imported(record: Record, facts: Facts, warm: bool, out: str = "") -> Imported:
     """What a build that has ended comes to."""
     gc.disable()  # what is read is needed to the end: a search for garbage takes time and finds none
     found = import_record(facts, record)
     gc.enable()
-    finish(record, found, facts.names, warm)
+    finish(record, found, facts.names, out, warm)
     record.holes = list(dict.fromkeys(record.holes))
     return found
 
 
 def complete(record: Record, facts: Facts, out: Path, options: argparse.Namespace) -> Imported:
     """Writes the record of a build that has ended."""
-    found = imported(record, facts, options.warm)
+    found = imported(record, facts, options.warm, os.path.realpath(out))
     write_record(out, record, found.builds, found.assumed)
     for number, build in zip(record.builds, found.builds if options.footprints else ()):
         if build.tool == "make":

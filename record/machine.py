@@ -144,6 +144,12 @@ def variables() -> List[str]:
 
 
 @asked
+def mtime(path: str) -> float:
+    """When a file was written last."""
+    return os.path.getmtime(path)
+
+
+@asked
 def geteuid() -> int:
     """Whose rights it has."""
     return os.geteuid()

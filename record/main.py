@@ -2,7 +2,9 @@
 
 import argparse
 import os
+import pickle
 import re
+import shlex
 import shutil
 import signal
 import subprocess
@@ -21,10 +23,12 @@ from record import RELEASE, VERSION, machine
 from record.entry import STOPPING, UNHEARD, Stopped, end_traced, forget_coerced
 from record.messages import printable
 from record.facts import Facts, begun, first_tree
+from record.first_tree import tree_of
 from record.folder import NO_ROOM, Idle, NotWhole, Record, Taken, accept_warm, alone, aside, is_record, reading, rewrite, room_of_programs, rooms_of_programs, seconds_of, what_stands
+from record.fresh import clean, fresh_tree, in_place
 from record.judge import find_race, judge, no_race
 from record.ninja.retry import JOBS, TRIES, by_hand, hints, tops_of, undo, with_jobs
-from record.ninja.cold_copy import CannotClean, cold_copy, fresh_folder, saved_name
+from record.ninja.cold_copy import CannotClean, cold_copy, fresh_folder, has_ninja, saved_name
 from record.ninja.log import Kept
 from record.progress import Elapsed
 from record.report import Judged, colours, read_json, report
@@ -38,8 +42,10 @@ from record.watch.library import NotBuilt
 
 STRACE = ["strace", "-f", "-q", "-y", "--seccomp-bpf", "-s", str(32 * os.sysconf("SC_PAGE_SIZE")), "-e", "signal=hup,int,quit,abrt,kill,segv,pipe,term,xfsz", "-e", "trace=" + traced()]
 EXAMPLE = """examples:
-  race-record -- make                     after make clean: one serial build, then the verdict
-  race-record --fresh -- ninja -C build   where ninja builds, also for CMake and Meson: of a clean copy
+  race-record --fresh -- make             a serial build of what git tracks, then the verdict
+  race-record --fresh --setup ./configure -- make
+                                          what comes between the tree and the build
+  race-record --fresh -- ninja -C build   where ninja builds, also for CMake and Meson
   race-record --missing -- make           also: which files recipes read and make does not know of
   race-record --warm                      after WARM, where what it names is part of each clean tree: judge again, without a build
 statuses: 0 safe, with --missing also nothing missing, 1 races or missing inputs,
@@ -49,14 +55,13 @@ NOT_TRACED = ("strace may not follow processes here, so nothing was built (see i
 PACKAGES = {"make": "make", "ninja": "ninja-build", "cmake": "cmake", "meson": "meson"}  # of Debian, by what builds
 MAKES = ("make", "gmake", "bmake")
 SILENT = "%s cannot be recorded: %s. Nothing was built. Let a GNU make build, of version 4.2 or later (Debian: apt-get install make), and record again"
+SETUP = " || exit\nexec \"$@\""  # behind what comes before the build
 SERIAL_FAILED = "the serial build failed"
 ASKED = min(4, os.cpu_count() or 1)  # how many builds `race` is asked about at once
-WARM = ("WARM: what was up to date did not run; record a clean tree (make clean, or --fresh for ninja), or, if builds start from this one, "
+WARM = ("WARM: the build used what was there before: record a clean tree (race-record --fresh%s -- %s), or, if builds start from this one, "
         "say race-record --warm: it judges this record again, and builds nothing")
-
-
-WARM_COPY = ("WARM: what was up to date did not run: --fresh cleans what the ninja of the folder makes, and what another ninja or make builds in it stays: "
-             "configure an empty folder anew, and record without --fresh")
+WARM_FRESH = ("WARM: the build used what was there before, and --fresh leaves it: remove it, or configure an empty folder by --setup, such as "
+              "--setup 'cmake -B build'; if builds start from this tree, say race-record --warm")
 
 
 class Missing(Exception):
@@ -181,12 +186,15 @@ def parser_of_words() -> argparse.ArgumentParser:
     parser.add_argument("--top", action="append", default=[], metavar="DIR", help="another folder that the build works in, such as its sources; may be repeated")
     parser.add_argument("--warm", action="store_true", help="builds start from this tree, though some of what they make is there already; "
                         "without a command: the same of the record that is there")
-    parser.add_argument("--fresh", action="store_true", help="record a clean copy in the place of the folder that ninja builds in")
+    parser.add_argument("--fresh", action="store_true", help="record a clean tree in the place of the project: what git tracks, or what make clean leaves")
+    parser.add_argument("--from", dest="archive", metavar="FILE", help="with --fresh: the tree that this archive holds")
+    parser.add_argument("--setup", default="", metavar="COMMAND", help="with --fresh: what comes between the tree and the build, such as ./configure; it is recorded too")
     parser.add_argument("--keep-trace", action="store_true", help="keep the trace in the record")
     parser.add_argument("--footprints", action="store_true", help="keep a listing and footprints of each build, for race check --makefile")
     parser.add_argument("--missing", action="store_true", help="report missing inputs too: files whose edit does not make a target again")
     parser.add_argument("-V", "--version", action="version", version="%(prog)s " + RELEASE, help="print the version")
     parser.add_argument("words", nargs=argparse.REMAINDER, metavar="-- COMMAND ..", help="what builds the project")
+    parser.set_defaults(tree=None)  # the first tree, where --fresh made it
     parser.set_defaults(linked=[], expected=0.0)  # files of a copy that have names outside of it, in the folder itself; seconds of the former record
     return parser
 
@@ -199,6 +207,8 @@ def parse(args: List[str]) -> argparse.Namespace:
         parser.error("no option of race-record: %s; what belongs to the build stands behind --, such as race-record -- make -j4" % " ".join(unknown))
     if found.words[:1] == ["--"]:
         found.words = found.words[1:]
+    if (found.setup or found.archive) and not found.fresh:
+        parser.error("--setup and --from say what a clean tree is: they stand with --fresh")
     if not found.words and not found.warm:
         parser.error("which command builds the project? It stands behind --, such as make: race-record -- make")
     return found
@@ -249,8 +259,10 @@ def attempt(options: argparse.Namespace, words: List[str], tools: Dict[str, str]
     spool, watch = Path(os.path.realpath(room)), Watch(rooms)
     try:
         watch.prepare(makes_of(os.environ.get("PATH", os.defpath)))
-        status, seconds = run_build(words, spool, names.tops, watch, options.expected)
-        record, facts = begun(options.words, folder, status, round(seconds, 2), dict(tools)), Facts(spool, str(spool), real, names, kept, watch.said, str(watch.said), list(watch.covered))
+        tree = options.tree or tree_of(folder)
+        ran = ["sh", "-c", options.setup + SETUP, "sh", *words] if options.setup else words
+        status, seconds = run_build(ran, spool, names.tops, watch, options.expected)
+        record, facts = begun(options.words, folder, status, round(seconds, 2), dict(tools), tree), Facts(spool, str(spool), real, names, kept, watch.said, str(watch.said), list(watch.covered))
         from record.importing import complete  # it was loaded while the build ran
         with machine.answering(after):
             found = complete(record, facts, out, options)
@@ -283,13 +295,23 @@ def record_all(options: argparse.Namespace, tools: Dict[str, str], out: Path) ->
 
 
 def record_fresh(options: argparse.Namespace, tools: Dict[str, str], out: Path) -> Record:
-    """The record of a cold copy; the copy and what it built are gone afterwards."""
-    folder = fresh_folder(options.words)
-    with tempfile.TemporaryDirectory(prefix="race-record-") as room:
-        with cold_copy(folder, saved_name(folder, tops_of(options.words, options.top))) as options.linked:
-            record = record_all(options, tools, Path(room) / "record")
-        shutil.copytree(Path(room) / "record", out)
-    return record
+    """The record of a clean tree; the tree and what was built in it are gone afterwards."""
+    with tempfile.TemporaryDirectory(prefix="race-record-", dir=room_of_programs([os.path.realpath(".")])) as room:
+        fresh, said = Path(room) / "record", Path(room) / "said"
+        if has_ninja(options.words) and not (options.setup or options.archive):
+            folder = fresh_folder(options.words)
+            with cold_copy(folder, saved_name(folder, tops_of(options.words, options.top))) as options.linked:
+                said.write_bytes(pickle.dumps(record_all(options, tools, fresh)))
+        else:
+            tree = fresh_tree(options.words, options.archive, options.setup, room, os.path.realpath(out))
+
+            def work() -> None:
+                options.tree = clean(tree, options.words).tree
+                said.write_bytes(pickle.dumps(record_all(options, tools, fresh)))
+
+            in_place(tree, Path(room) / "fault", work)
+        shutil.copytree(fresh, out, dirs_exist_ok=True)
+        return cast(Record, pickle.loads(said.read_bytes()))
 
 
 def run(options: argparse.Namespace) -> int:
@@ -333,7 +355,7 @@ def record_and_judge(options: argparse.Namespace, tools: Dict[str, str], out: Pa
     ended, judged = judge_record(out, race)
     if ended == 0 and record.warm and not (options.warm or record.stands_alone):
         ended = 2
-        record.holes.append(WARM_COPY if options.fresh else WARM)
+        record.holes.append(WARM_FRESH if options.fresh else WARM % (" --setup ./configure" if record.configured else "", shlex.join(options.words)))
         rewrite(out, record)
     return answer(out, race, ended, judged, options.missing)
 

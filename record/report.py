@@ -257,6 +257,7 @@ def report(record: Dict[str, Any], judged: List[Judged], out: Path) -> List[str]
     if is_safe:
         recipes, pairs = sum(one.about["counts"]["recipes"] for one in judged), sum(one.verdict.pairs for one in judged)
         lines.append("%sSAFE%s  %s in %s; %s" % (colour.good, colour.end, plural(recipes, "recipe"), plural(len(judged), "build"), in_order(pairs, "pair")))
+        lines += ["      for %s" % record["tree"]] if record.get("tree") else []
     elif racing:
         lines.append(summary(judged))
     return lines + assumptions_text(record, is_safe)

@@ -1,4 +1,4 @@
-"""Cold and warm: whether something that a build makes was there before it."""
+"""Cold and warm: whether something that a build makes was there before it (first_tree.py says what an earlier build left besides)."""
 
 import os
 import re

@@ -40,6 +40,11 @@ def fresh_folder(words: List[str]) -> str:
                       "and record it without --fresh" % " or ".join(dict.fromkeys(names)))
 
 
+def has_ninja(words: List[str]) -> bool:
+    """Whether a command works in a folder that ninja builds in."""
+    return any(os.path.isfile(os.path.join(name, "build.ninja")) for name in (*named_folders(words), "."))
+
+
 def saved_names(folder: str) -> Iterator[str]:
     """The names that a folder may have meanwhile: beside itself, or beside a folder that it is in."""
     yield folder + SAVED

@@ -94,7 +94,7 @@ class Configured(unittest.TestCase):
         self.status(0, self.STAMPED, "rm stamp-h1; ", says="date (1, such", lacks="WARM")
 
     def test_stamp_that_a_recipe_makes_again(self) -> None:
-        self.status(2, self.STAMPED.replace("stamp-h", "stamp-h1"), "touch config.in; ", says="WARM  2 files")
+        self.status(2, self.STAMPED.replace("stamp-h", "stamp-h1"), "touch config.in; ", says="WARM  1 file")
 
 
 class Configuring(unittest.TestCase):

@@ -1,0 +1,153 @@
+"""The first tree: which tree a yes is about, and what an earlier build left in it.
+
+In a git work tree the tree is a commit, its changed files, and what `./configure` makes of it. Elsewhere it is the folder as it stands.
+
+What an earlier build left may order recipes, or stand for what they wait for, and a new checkout does not have it. So a record is warm where the build
+used such a name:
+
+- in a git work tree: a name that was there, and that git does not track;
+- elsewhere, and in a folder that CMake or Meson configured: a file that was there, and that a recipe of this build writes;
+- neither a makefile without rules, as automake leaves them, nor what `./configure` made, except what a recipe writes again.
+"""
+
+import os
+import re
+import subprocess
+from dataclasses import dataclass, field
+from typing import TYPE_CHECKING, Dict, FrozenSet, Iterable, Iterator, List, Set, Tuple
+
+from record import machine
+from record.trace.events import CREATED, MADE, MADE_BEFORE, MADE_QUIETLY, READ, SEEN
+
+if TYPE_CHECKING:
+    from record.build.tasks import Build
+    from record.trace.lives import Life
+
+GIT = ["git", "--no-optional-locks", "-c", "safe.directory=*"]
+CONFIGURED_BY = ("CMakeCache.txt", "meson-info")  # what stands at the top of a folder that CMake or Meson configured
+USES, FOLDER_MADE = READ + SEEN, MADE + MADE_QUIETLY + MADE_BEFORE
+NAMED = 3  # so many new files are named
+NO_RULES = re.compile(r"(?:[ \t]*(?:#.*)?\n)*[ \t]*(?:#.*)?")  # a makefile of comments alone
+
+
+@dataclass(frozen=True)
+class FirstTree:
+    """The tree that a build starts from, as it was before it."""
+
+    folder: str
+    top: str = ""  # of a git work tree
+    commit: str = ""  # none where nothing was committed
+    changed: int = 0  # tracked files that are not as in the commit
+    new: Tuple[str, ...] = ()  # files that git does not track and does not ignore, where --fresh took them along; below the top
+    tracked: FrozenSet[str] = field(default=frozenset(), repr=False)  # by whole path
+    said: str = ""  # how --fresh got it
+    setup: str = ""  # what ran between the tree and the build
+
+    def text(self) -> str:
+        """What it is, behind `for`."""
+        changes = [plural(count, kind) for count, kind in ((self.changed, "changed file"), (len(self.new), "new file")) if count]
+        names = " (%s%s)" % (", ".join(self.new[:NAMED]), ", .." if len(self.new) > NAMED else "") if self.new else ""
+        tree = self.said or ("a checkout of %s" % self.commit + (" with %s%s" % (" and ".join(changes), names) if changes else "") if self.commit else "this folder as it stood")
+        return tree + (", after %s" % self.setup if self.setup else "")
+
+    def has(self, path: str) -> bool:
+        """Whether git tracks a name, or a name below it."""
+        return path in self.tracked
+
+    def is_own(self, path: str) -> bool:
+        """Whether a path is in the work tree, and not in git's own folder."""
+        return bool(self.top) and path.startswith(self.top + "/") and not path.startswith(self.top + "/.git/") and path != self.top + "/.git"
+
+
+def plural(count: int, word: str) -> str:
+    """`1 new file`, `2 new files`."""
+    return "%d %s%s" % (count, word, "" if count == 1 else "s")
+
+
+def git(folder: str, *words: str) -> str:
+    """What git answers in a folder; nothing where there is no git, or it has no answer."""
+    try:
+        ran = subprocess.run([*GIT, "-C", folder, *words], capture_output=True, check=False, stdin=subprocess.DEVNULL)
+    except OSError:
+        return ""
+    return ran.stdout.decode("utf-8", "surrogateescape") if ran.returncode == 0 else ""
+
+
+def tree_of(folder: str) -> FirstTree:
+    """The tree in a folder, as it is now."""
+    top = git(folder, "rev-parse", "--show-toplevel").rstrip("\n")
+    if not top:
+        return FirstTree(folder)
+    top = os.path.realpath(top)
+    files = [os.path.join(top, name) for name in git(top, "ls-files", "-z", "--recurse-submodules").split("\0") if name]
+    changed = [line for line in git(top, "status", "--porcelain", "-z", "-uno").split("\0") if line]
+    return FirstTree(folder, top, git(top, "rev-parse", "--short", "HEAD").strip(), len(changed), tracked=frozenset(with_folders(files, top)))
+
+
+def with_folders(files: Iterable[str], top: str) -> Iterator[str]:
+    """Files, and the folders that they are in, below a top."""
+    found: Set[str] = set()
+    for path in files:
+        yield path
+        path = os.path.dirname(path)
+        while len(path) > len(top) and path not in found:
+            found.add(path)
+            yield path
+            path = os.path.dirname(path)
+
+
+def configured_tops(paths: Iterable[str]) -> List[str]:
+    """The folders that CMake or Meson configured, of names that were there."""
+    return sorted({os.path.dirname(path) + "/" for path in paths if os.path.basename(path) in CONFIGURED_BY})
+
+
+def has_rules(text: str) -> bool:
+    """Whether a makefile says more than comments."""
+    return not NO_RULES.fullmatch(text)
+
+
+def left_behind(tree: FirstTree, before: Dict[str, str], lives: "Iterable[Life]", builds: "Iterable[Build]", kept: str, texts: Dict[str, str]) -> Set[str]:
+    """What an earlier build left, and this one used. `before`: the kinds of the names that were there; `kept`: the folder of the record; `texts`: what
+    makefiles said when make read them."""
+    tops = tuple(configured_tops(before))
+    written = {path for build in builds for task in build.tasks if task.kind == "recipe" for path in task.writes}
+    found = {path for path in written if before.get(path) == "f" and not tree.is_own(path)}
+    if tree.top:
+        found |= {path for path in used(before, lives) if tree.is_own(path) and not tree.has(path) and (path in written or not path.startswith(tops))}
+        found = {path for path in found if not tree.has(path)}
+    return {path for path in found if not (path + "/").startswith(kept + "/") and (path not in texts or has_rules(texts[path]))}
+
+
+def used(before: Dict[str, str], lives: "Iterable[Life]") -> Set[str]:
+    """The files that were there and that somebody read or saw, and the folders in which somebody made a name, though nobody made them."""
+    seen: Set[str] = set()
+    filled: Set[str] = set()
+    made: Set[str] = set()
+    for life in lives:
+        for kind, path in life.events:
+            if kind in USES and before.get(path) in ("f", "l"):
+                seen.add(path)
+            elif kind == CREATED:
+                filled.add(os.path.dirname(path.rstrip("/")))
+            elif kind in FOLDER_MADE:
+                made.add(path.rstrip("/"))
+        seen.update(act.path for act in life.acts if act.kind in USES and before.get(act.path) in ("f", "l"))
+    return seen | {path for path in filled - made if before.get(path) == "d"}
+
+
+@dataclass
+class Release:
+    """What came with the tree, though the build has a recipe for it: a manual, a parser, a stamp of translations."""
+
+    tree: FirstTree
+    written: Set[str]  # what recipes of this build wrote
+    since: float  # when the project was configured
+
+    @classmethod
+    def of(cls, tree: FirstTree, statuses: Iterable[str], written: Set[str]) -> "Release":
+        """By each `config.status` that was there, and that this build did not change; where `--setup` configures, all that was there is older."""
+        return cls(tree, written, float("inf") if tree.setup else max((machine.mtime(path) for path in statuses if machine.exists(path)), default=float("-inf")))
+
+    def has(self, path: str) -> bool:
+        """Whether git tracks it, or it is older than the configuration and no recipe of this build wrote it."""
+        return self.tree.has(path) or path not in self.written and machine.exists(path) and machine.mtime(path) <= self.since

@@ -1,0 +1,166 @@
+"""Which tree a yes is about: what an earlier build left in the folder, and the clean tree that `--fresh` builds."""
+
+import os
+import shutil
+import signal
+import subprocess
+import time
+import unittest
+from pathlib import Path
+from typing import Dict, Sequence
+from unittest import mock
+
+import support
+from record import fresh
+
+GIT = "git init -q . && git add -A && git -c user.name=x -c user.email=x@y commit -qm x"
+DEPFILES = {
+    "main.c": '#include "gen.h"\nint main(void) { return V; }\n', "gen.in": "#define V 0\n",
+    "Makefile": "all: gen.h prog\nprog: main.o ; cc -o $@ main.o\nmain.o: main.c ; cc -MMD -c main.c\ngen.h: gen.in ; cp gen.in gen.h\n"
+                "clean: ; rm -f main.o prog gen.h\n-include main.d\n",
+}
+MOVED = {"Makefile": "all: s u\ns: src ; cp src h.t; cmp -s h.t h && rm h.t || mv h.t h; touch s\nu: ; cat h > u\nclean: ; rm -f s u\n", "src": "1\n"}
+SAFE = {"Makefile": "all: b\nb: a ; cat a > b\na: src ; cat src > a\nclean: ; rm -f a b\n", "src": "1\n"}
+
+
+def tree(folder: Path) -> Dict[str, bytes]:
+    """The files of a folder, without the record."""
+    return {str(path.relative_to(folder)): path.read_bytes() for path in folder.rglob("*") if path.is_file() and not {".race", ".git"} & set(path.parts)}
+
+
+class Left(unittest.TestCase):
+    """What an earlier build left counts where the build used it."""
+
+    def recorded(self, files: Dict[str, str], setup: str, options: Sequence[str] = ()) -> support.Outcome:
+        """A recording in a tree that some commands have prepared."""
+        with support.Project(files) as project:
+            project.sh(setup)
+            return project.record(options=options)
+
+    def warm(self, files: Dict[str, str], setup: str, name: str) -> None:
+        """It is warm by one file."""
+        outcome = self.recorded(files, setup)
+        self.assertEqual(2, outcome.status, outcome.text())
+        self.assertIn("WARM  1 file", outcome.text())
+        self.assertIn("\n  %s\n" % name, outcome.text())
+
+    def test_dependency_file(self) -> None:
+        self.warm(DEPFILES, "make -s; make -s clean", "main.d")
+
+    def test_dependency_file_without_rules(self) -> None:
+        self.assertEqual(1, self.recorded(DEPFILES, "echo '# dummy' > main.d").status)
+
+    def test_output_that_git_does_not_track(self) -> None:
+        self.warm(MOVED, GIT + "; make -s; make -s clean", "h")
+
+    def test_output_that_git_tracks(self) -> None:
+        outcome = self.recorded(MOVED, "echo 1 > h; " + GIT)
+        self.assertEqual(0, outcome.status, outcome.text())
+        self.assertRegex(outcome.text(), r"\n      for a checkout of [0-9a-f]{7,}\n")
+
+    def test_folder(self) -> None:
+        files = {"Makefile": "all: obj/a\nobj/a: ; echo > obj/a\n"}
+        self.warm(files, GIT + "; mkdir obj", "obj")
+        self.assertEqual(0, self.recorded({"Makefile": "all: obj/a\nobj/a: ; mkdir -p obj; echo > obj/a\n"}, GIT + "; mkdir obj").status)
+
+    def test_changed_files_are_counted(self) -> None:
+        self.assertIn(" with 1 changed file\n", self.recorded(SAFE, GIT + "; echo 2 > src").text())
+
+    def test_what_came_with_a_release(self) -> None:
+        files = {**SAFE, "Makefile": "all: b man\nb: src ; cp src b\nman: src ; false\n", "man": "1\n", "config.status": "#!/bin/sh\n"}
+        old = "touch -d 2001-01-01 src; touch -d 2002-01-01 man config.status"
+        outcome = self.recorded(files, old)
+        self.assertEqual(0, outcome.status, outcome.text())
+        self.assertIn("builds start from this tree", outcome.text())
+        self.assertEqual(2, self.recorded(files, old + "; touch man").status)
+
+
+class Fresh(unittest.TestCase):
+    """A clean tree in the place of the project, which stays as it is."""
+
+    def fresh(self, files: Dict[str, str], setup: str, options: Sequence[str] = (), words: Sequence[str] = ("make",)) -> support.Outcome:
+        """A recording that leaves the project as it was."""
+        with support.Project(files) as project:
+            project.sh(setup)
+            before = tree(project.folder)
+            outcome = project.record(words, ["--fresh", *options])
+            self.assertEqual(before, tree(project.folder))
+        return outcome
+
+    def test_checkout(self) -> None:
+        outcome = self.fresh({**MOVED, ".gitignore": "h\ns\nu\n"}, GIT + "; make -s; make -s clean")
+        self.assertEqual((1, ["h"]), (outcome.status, support.races_of(outcome.text())), outcome.text())
+
+    def test_new_files_are_named(self) -> None:
+        outcome = self.fresh({**SAFE, ".gitignore": "a\nb\n"}, GIT + "; make -s; echo > new; echo 2 > src")
+        self.assertEqual(0, outcome.status, outcome.text())
+        self.assertIn(" with 1 changed file and 1 new file (new)\n", outcome.text())
+
+    def test_copy_that_make_cleans(self) -> None:
+        outcome = self.fresh(SAFE, "make -s")
+        self.assertEqual(0, outcome.status, outcome.text())
+        self.assertIn("for this folder as make clean leaves it\n", outcome.text())
+        self.assertEqual(2, self.fresh(DEPFILES, "make -s").status)  # its rule leaves a dependency file
+
+    def test_no_rule_cleans(self) -> None:
+        outcome = self.fresh({"Makefile": "a: ; touch a\n"}, ":")
+        self.assertEqual(3, outcome.status)
+        self.assertIn("--from", outcome.stderr.decode())
+
+    def test_archive(self) -> None:
+        outcome = self.fresh(DEPFILES, "mkdir x-1; cp Makefile main.c gen.in x-1; tar -czf ../x-1.tar.gz x-1; rm -r x-1; make -s", ["--from", "../x-1.tar.gz"])
+        self.assertEqual((1, ["gen.h"]), (outcome.status, support.races_of(outcome.text())), outcome.text())
+        self.assertEqual(3, self.fresh(SAFE, ":", ["--from", "none.tar"]).status)
+
+    def test_setup(self) -> None:
+        files = {"Makefile.in": SAFE["Makefile"], "src": "1\n", "configure": "#!/bin/sh\ncp Makefile.in Makefile\n", ".gitignore": "Makefile\na\nb\n"}
+        outcome = self.fresh(files, "chmod +x configure; %s; ./configure; make -s" % GIT, ["--setup", "./configure"])
+        self.assertEqual(0, outcome.status, outcome.text())
+        self.assertIn(", after ./configure\n", outcome.text())
+        self.assertEqual(2, self.fresh(files, "chmod +x configure; " + GIT, ["--setup", "false"]).status)
+
+    def test_folder_below_the_work_tree(self) -> None:
+        with support.Project({"sub/Makefile": "all: ; cat ../src > a\n", "src": "1\n", "sub/a": "2\n"}) as project:
+            project.sh("git init -q . && git add src sub/Makefile && git -c user.name=x -c user.email=x@y commit -qm x; echo sub/a > .gitignore")
+            with mock.patch.object(project, "folder", project.folder / "sub"):
+                self.assertEqual(0, project.record(options=["--fresh"]).status)
+            self.assertEqual("2\n", (project.folder / "sub/a").read_text())
+
+    def test_git_in_the_tree(self) -> None:
+        outcome = self.fresh({"Makefile": "all: ; git describe --always --dirty > v && ! grep dirty v\n", ".gitignore": "v\n.race\n"}, GIT)
+        self.assertEqual(0, outcome.status, outcome.text() + outcome.stderr.decode())
+
+    def test_without_mounts(self) -> None:
+        with mock.patch.object(fresh, "can_lay", return_value=False):
+            self.test_checkout()
+            self.test_archive()
+            self.test_setup()
+
+    def test_words_that_need_it(self) -> None:
+        with support.Project(SAFE) as project:
+            self.assertEqual(3, project.record(options=["--setup", "true"]).status)
+
+    def test_signal(self) -> None:
+        """It ends the build, and leaves no tree in the place of the project."""
+        with support.Project({"Makefile": "all: ; touch began; sleep 60\nclean: ;\n"}) as project:
+            room = project.folder / "room"
+            room.mkdir()
+            words = [str(support.RECORDER), "--race", support.race_program(), "--fresh", "--", "make"]
+            process = subprocess.Popen(words, cwd=project.folder, stdout=subprocess.DEVNULL, stderr=subprocess.DEVNULL)
+            time.sleep(3)
+            process.send_signal(signal.SIGTERM)
+            self.assertEqual(3, process.wait(support.SECONDS))
+            self.assertEqual(["Makefile"], sorted(tree(project.folder)))
+
+
+@unittest.skipUnless(os.geteuid() == 0 and shutil.which("setpriv"), "needs root and setpriv")
+class OtherUsers(unittest.TestCase):
+    """Who may not mount gets the tree in the place of the project, which is moved aside."""
+
+    def test_nobody(self) -> None:
+        with support.Project({**SAFE, ".gitignore": "a\nb\n"}) as project:
+            project.sh("%s; make -s; chown -R 65534:65534 .. " % GIT)
+            words = ["setpriv", "--reuid=65534", "--regid=65534", "--clear-groups", str(support.RECORDER), "--race", support.race_program(), "--fresh", "--", "make"]
+            ran = subprocess.run(words, cwd=project.folder, capture_output=True, timeout=support.SECONDS, check=False, env={**os.environ, "HOME": "/nonexistent"})
+            self.assertEqual(0, ran.returncode, ran.stdout + ran.stderr)
+            self.assertIn("b", tree(project.folder))
