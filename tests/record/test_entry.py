@@ -177,7 +177,7 @@ class Locales(unittest.TestCase):
             words = ["1", "--runs", "1", "--schedule", "1"]
             locales = ({"LC_ALL": "C.UTF-8"}, {"LC_ALL": "C", "PYTHONIOENCODING": "ascii:strict"})
             (status, shown, _), other = (without_make(self.ran("confirm", words, project.folder, locale)) for locale in locales)
-            self.assertEqual((status, shown, b""), other)
+            self.assertEqual((status, shown), other[:2])
             self.assertEqual((1, True), (status, "\u00e9.h".encode() in shown), shown)
             self.assertEqual(3, self.alike("confirm", [os.fsdecode(b"no\xff\xc3\xa9")], project.folder)[0])
 
