@@ -44,7 +44,6 @@ OWN = (".ninja_log", ".ninja_deps", ".ninja_lock")
 SHOWN = "nohup.out"  # what make prints where `nohup` calls it from a terminal: its commands show who delays them
 USUAL = Place(outputs="joined")
 AHEAD = re.compile(rb"[0-9.e+]+ s in the future")  # what passes meanwhile
-KNOWN = ("asks for several jobs", "prints the recorder's words")
 VERDICT = re.compile(rb"(\x1b\[[0-9;]*m)?(WARM|SAFE|RACE|NO VERDICT|make )")
 Tree = Dict[str, str]
 
@@ -243,8 +242,9 @@ def judge(project: Project, room: Path, runs: int, recorder: Path = RECORDER, sh
     result = Result(project.seed, "", VERDICTS[recorded.status], assumed=assumptions(recorded.output))
     holds = list(schedules(builder.folder / ".race")) if result.verdict == "race" else []
     left = Outcome(serial[0].status, recorded.tree)
-    changed = differences(serial[0], left) or plain and said_otherwise(plain, recorded)
-    if changed and not is_known(project, recorded.output) and not is_spoken(result):
+    several = has_jobs(project)
+    changed = differences(serial[0], left) or plain and not several and said_otherwise(plain, recorded)
+    if changed and not (several and result.verdict != "safe"):
         is_timed = differences(serial[0], left) and not differences(builder.slow(), left)
         result.kind, result.about = "unstable" if is_timed else "changed", changed
     elif serial[0].status:
@@ -257,14 +257,9 @@ def judge(project: Project, room: Path, runs: int, recorder: Path = RECORDER, sh
     return result
 
 
-def is_known(project: Project, output: str) -> bool:
-    """Whether no serial build was recorded, or a make ran past the recorder, and it says so."""
-    return any(one in output for one in KNOWN) or "nowhere to print them" in output and "-j" in project.head
-
-
-def is_spoken(result: Result) -> bool:
-    """Whether the messages of make are in another language where it is recorded, and the recorder says so."""
-    return any(one.startswith(TEXTS["language"]) for one in result.assumed)
+def has_jobs(project: Project) -> bool:
+    """Whether several jobs run in the recorded build: then a race may show in what it leaves."""
+    return "-j" in project.head or project.place is not None and project.place.has_jobs()
 
 
 def said_otherwise(plain: List[Outcome], recorded: Outcome) -> str:
