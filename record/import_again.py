@@ -18,9 +18,9 @@ def import_again(folder: Path, out: Optional[Path] = None) -> Tuple[Record, Impo
     about: Dict[str, Any] = json.loads((folder / "facts.json").read_text(encoding="utf-8"))
     with machine.answering(machine.Answers.written(folder / "before")):
         names, kept = first_tree(about["tops"], about["linked"])
-    first: Dict[str, Any] = about.get("first") or {"folder": about["folder"], "new": [], "tracked": []}
-    first.update(new=tuple(first["new"]), tracked=frozenset(first["tracked"]))
-    record = begun(about["words"], about["folder"], about["status"], about["seconds"], about["tools"], FirstTree(**first))
+    first: Dict[str, Any] = about.get("first") or {}
+    first.update(new=tuple(first.get("new", ())), tracked=frozenset(first.get("tracked", ())))
+    record = begun(about["words"], about["folder"], about["status"], about["seconds"], about["tools"], FirstTree(**first) if about.get("first") else None)
     facts = Facts(folder, about["place"], about["real"], names, kept, folder / SAID, about["said"], about["covered"])
     options = argparse.Namespace(warm=about["warm"], footprints=False, missing=False)
     with machine.answering(machine.Answers.written(folder / "after")):
