@@ -5,8 +5,8 @@ In a git work tree the tree is a commit, its changed files, and what `./configur
 What an earlier build left may order recipes, or stand for what they wait for, and a new checkout does not have it. So a record is warm where the build
 used such a name:
 
-- in a git work tree: a name that was there, and that git does not track;
-- elsewhere, and in a folder that CMake or Meson configured: a file that was there, and that a recipe of this build writes;
+- in a git work tree: a name that was there, that somebody looked at before anybody wrote it, and that git does not track;
+- elsewhere, and in a folder that CMake or Meson configured: such a file that a recipe of this build writes;
 - neither a makefile without rules, as automake leaves them, nor what `./configure` made, except what a recipe writes again.
 """
 
@@ -17,7 +17,7 @@ from dataclasses import dataclass, field
 from typing import TYPE_CHECKING, Dict, FrozenSet, Iterable, Iterator, List, Set, Tuple
 
 from record import machine
-from record.trace.events import CREATED, MADE, MADE_BEFORE, MADE_QUIETLY, READ, SEEN
+from record.trace.events import CHANGES, CREATED, MADE, MADE_BEFORE, MADE_QUIETLY, READ, SEEN
 
 if TYPE_CHECKING:
     from record.build.tasks import Build
@@ -25,7 +25,7 @@ if TYPE_CHECKING:
 
 GIT = ["git", "--no-optional-locks", "-c", "safe.directory=*"]
 CONFIGURED_BY = ("CMakeCache.txt", "meson-info")  # what stands at the top of a folder that CMake or Meson configured
-USES, FOLDER_MADE = READ + SEEN, MADE + MADE_QUIETLY + MADE_BEFORE
+FOLDER_MADE = MADE + MADE_QUIETLY + MADE_BEFORE
 NAMED = 3  # so many new files are named
 NO_RULES = re.compile(r"(?:[ \t]*(?:#.*)?\n)*[ \t]*(?:#.*)?")  # a makefile of comments alone
 
@@ -111,27 +111,28 @@ def left_behind(tree: FirstTree, before: Dict[str, str], lives: "Iterable[Life]"
     makefiles said when make read them."""
     tops = tuple(configured_tops(before))
     written = {path for build in builds for task in build.tasks if task.kind == "recipe" for path in task.writes}
-    found = {path for path in written if before.get(path) == "f" and not tree.is_own(path)}
-    if tree.top:
-        found |= {path for path in used(before, lives) if tree.is_own(path) and not tree.has(path) and (path in written or not path.startswith(tops))}
-        found = {path for path in found if not tree.has(path)}
+    found = {path for path in used(before, lives) if not tree.has(path) and (path in written or tree.is_own(path) and not path.startswith(tops))}
     return {path for path in found if not (path + "/").startswith(kept + "/") and (path not in texts or has_rules(texts[path]))}
 
 
 def used(before: Dict[str, str], lives: "Iterable[Life]") -> Set[str]:
-    """The files that were there and that somebody read or saw, and the folders in which somebody made a name, though nobody made them."""
-    seen: Set[str] = set()
+    """The files that were there and that somebody read, or saw who does not write them, before anybody wrote them; and the folders in which somebody made a
+    name, though nobody made them."""
+    looks: Dict[str, int] = {}
+    changes: Dict[str, int] = {}
     filled: Set[str] = set()
     made: Set[str] = set()
     for life in lives:
-        for kind, path in life.events:
-            if kind in USES and before.get(path) in ("f", "l"):
-                seen.add(path)
-            elif kind == CREATED:
-                filled.add(os.path.dirname(path.rstrip("/")))
+        for (kind, path), place in [*life.events.items(), *(((act.kind, act.path), act.place) for act in life.acts)]:
+            if kind == READ or kind == SEEN and path not in life.changed:
+                looks[path] = min(place, looks.get(path, place))
+            elif kind in CHANGES:
+                changes[path] = min(place, changes.get(path, place))
             elif kind in FOLDER_MADE:
                 made.add(path.rstrip("/"))
-        seen.update(act.path for act in life.acts if act.kind in USES and before.get(act.path) in ("f", "l"))
+            if kind == CREATED:
+                filled.add(os.path.dirname(path.rstrip("/")))
+    seen = {path for path, place in looks.items() if before.get(path) in ("f", "l") and place <= changes.get(path, place)}
     return seen | {path for path in filled - made if before.get(path) == "d"}
 
 

@@ -45,7 +45,7 @@ class Copies(unittest.TestCase):
         setup = "echo 0 > b/x; ln b/x b/y"
         outcome = self.recorded(sh("a", "", "echo 1 >> x; touch a") + sh("z", "", "cat y > z"), setup)
         self.assertEqual(1, outcome.status, outcome.text() + outcome.stderr.decode())
-        self.assertIn("WARM  1 file", self.recorded(sh("a", "", "echo 1 >> x; touch a") + sh("z", "a", "cat y > z"), setup).text())
+        self.assertEqual(0, self.recorded(sh("a", "", "echo 1 >> x; touch a") + sh("z", "a", "cat y > z"), setup).status)
 
     def test_name_outside_of_the_folder(self) -> None:
         setup = "echo 0 > b/x; ln b/x y"

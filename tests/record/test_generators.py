@@ -119,7 +119,7 @@ class CMake(unittest.TestCase):
             again = project.record(["cmake", "--build", "b", "--clean-first"])
         self.assertEqual((0, 0), (outcome.status, (outcome.record or {})["missingdeps"]), outcome.text())
         self.assertNotIn("WARM", outcome.text())
-        self.assertIn("WARM  1 file", again.text())  # ninja cleans what the manifest names: another file stays
+        self.assertEqual(0, again.status, again.text())  # what an earlier build made is removed before ninja builds, or written before it is read
 
 
 @unittest.skipUnless(shutil.which("ninja") and shutil.which("meson"), "meson or ninja is missing (Debian: apt-get install meson ninja-build)")
