@@ -23,9 +23,9 @@ class Failed:
 def failed(output: str) -> Iterator[Failed]:
     """The failures in the output of a build."""
     for line in map(str.strip, output.splitlines()):
-        if found := RECIPE.match(line):
+        if found := RECIPE.match(line):  # guard: make
             yield Failed((found["target"],), found["file"] or "")
-        elif found := NO_RULE.match(line):
+        elif found := NO_RULE.match(line):  # guard: no-rule
             yield Failed(tuple(it for it in (found["target"], found["user"]) if it))
-        elif found := OF_NINJA.match(line):
+        elif found := OF_NINJA.match(line):  # guard: ninja
             yield Failed(tuple(found["outputs"].split()))

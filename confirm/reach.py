@@ -36,7 +36,7 @@ class Tasks:
         for number in read_json(record / "record.json").get("builds", []):
             tasks.add_build(number, record)
         tasks.add_targets(lambda kind: kind == "recipe")
-        tasks.add_targets(lambda kind: kind != "recipe")
+        tasks.add_targets(lambda kind: kind != "recipe")  # guard: targets-that-no-recipe-made
         return tasks
 
     def name(self, build: str, path: str) -> str:
@@ -83,7 +83,7 @@ class Tasks:
         own = self.span(build)
         for number in self.builds_in[self.within(build)]:
             span = self.span(number)
-            if span[0] > own[1] or span == own and number > build:
+            if span[0] > own[1] or span == own and number > build:  # guard: later-round-of-same-make
                 yield from self.of_build[number]
 
     def span(self, build: str) -> tuple[int, int]:
@@ -110,7 +110,7 @@ class Blame:
     @property
     def harm(self) -> set[str]:
         """What confirms the race. What nobody wrote before does so only where nothing shows that is the matter of others."""
-        return self.own | (set() if self.others else self.unknown)
+        return self.own | (set() if self.others else self.unknown)  # guard: what-nobody-wrote-counts-alone
 
 
 class Reach:
@@ -122,13 +122,13 @@ class Reach:
         self.take(sides)
         build: str | None = race.build
         while build:
-            self.take(tasks.later(build))
+            self.take(tasks.later(build))  # guard: what-began-later-inside-same-recipe
             above = tasks.within(build)
             if above:
-                self.around.add(above)
-                self.take(tasks.users.get(above, ()))
+                self.around.add(above)  # guard: recipe-around-others-says-nothing
+                self.take(tasks.users.get(above, ()))  # guard: who-uses-recipe-around
             build = above and above[0]
-        self.doubtful = {it for it in sides if not all(map(self.is_recipe, sides)) and self.has_other(it, races)}
+        self.doubtful = {it for it in sides if not all(map(self.is_recipe, sides)) and self.has_other(it, races)}  # guard: who-races-with-others-beside-make
 
     def take(self, tasks: Iterable[Task]) -> None:
         """Some tasks with all that need them, and what runs inside of those."""
@@ -137,7 +137,7 @@ class Reach:
             task = todo.pop()
             if task not in self.own:
                 self.own.add(task)
-                todo += [*self.tasks.users.get(task, ()), *self.tasks.inside(task)]
+                todo += [*self.tasks.users.get(task, ()), *self.tasks.inside(task)]  # guard: who-needs-one-of-two
 
     def is_recipe(self, task: Task) -> bool:
         """Whether a recipe of a task ran."""
@@ -151,17 +151,17 @@ class Reach:
     def blame(self, found: set[str], there: Container[str], output: str) -> Blame:
         """Who can have left `found` otherwise, of which `there` are the files that are there. Where the build fails, that is who failed:
         files may lack since others did not run."""
-        if STATUS not in found:
+        if STATUS not in found:  # guard: who-failed-not-what-lacks
             return self.blame_files(found)[0]
-        return self.blame_failed(output, self.blame_files({it for it in found if it in there})[1])
+        return self.blame_failed(output, self.blame_files({it for it in found if it in there})[1])  # guard: files-that-lack-spoil-nothing
 
     def blame_files(self, found: set[str]) -> tuple[Blame, set[Task]]:
         """A file is the matter of others also where who needs the two made it of a file that is. With those who did."""
         others: set[str] = set()
         while True:
-            spoilt = {it for it in self.own if self.tasks.reads.get(it, set()) & others} | self.doubtful
+            spoilt = {it for it in self.own if self.tasks.reads.get(it, set()) & others} | self.doubtful  # guard: what-others-spoilt
             more = {it for it in found if self.is_of_others(it, spoilt)}
-            if more <= others:
+            if more <= others:  # guard: what-is-made-of-what-others-spoilt
                 break
             others |= more
         own = {it for it in found if self.tasks.writers.get(it, set()) & self.own - spoilt}
@@ -176,8 +176,8 @@ class Reach:
         """Whose recipes failed. One inside which another failed says nothing by itself. A name that several have may be of any."""
         found = [self.tasks.named(name, it.file) for it in failed(output) for name in it.names]
         above = {self.tasks.within(build) for tasks in found for build, _ in tasks}
-        blame, clean = Blame(), self.own - spoilt
-        for tasks in filter(None, (it - above for it in found)):
+        blame, clean = Blame(), self.own - spoilt  # guard: recipe-that-others-spoilt
+        for tasks in filter(None, (it - above for it in found)):  # guard: not-recipe-around
             are = {it in clean for it in tasks - self.around}
-            (blame.unknown if len(are) != 1 else blame.own if True in are else blame.others).add(STATUS)
+            (blame.unknown if len(are) != 1 else blame.own if True in are else blame.others).add(STATUS)  # guard: name-that-two
         return blame if any((blame.own, blame.others, blame.unknown)) else Blame(unknown={STATUS})

@@ -86,9 +86,9 @@ def inner(points: Sequence[Point]) -> list[Point]:
     uses = [at for at, it in enumerate(points) if it.is_use]
     if not uses:
         return [*points[1:]]
-    between = points[uses[0] + 1: uses[-1] + 1]
+    between = points[uses[0] + 1: uses[-1] + 1]  # guard: from-first-use-to-last
     between = between if uses[1:] and points[uses[-1]].when == "before" else between[:-1] or between
-    return sorted(between, key=lambda it: ("before", "start", "after").index(it.when))
+    return sorted(between, key=lambda it: ("before", "start", "after").index(it.when))  # guard: before-uses-first
 
 
 def middles(points: Points, race: Chosen, side: str) -> list[Point]:

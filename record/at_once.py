@@ -12,7 +12,7 @@ from record.commands import shelltext
 from record.tools.background import ALL, AT_ONCE, Background, background
 from record.trace.lives import Life, Program, program_at
 
-CHANGES, TOUCHES = "WCDFMTX", "WCDFMTXRSNEx"  # kinds of events of a file or a folder
+CHANGES, TOUCHES = "WCDFMTX", "WCDFMTXRSNEx"  # kinds of events of a file or a folder  # guard: looks
 NEVER = 1 << 60
 
 
@@ -25,7 +25,7 @@ def at_once_in(work: Work, target: str, assumed: Assumptions) -> None:
             table.setdefault(path, []).append(life)
     beside_others, left = branches(work), beside_left(work, table)
     for path, who in table.items():
-        if path in left or overlap(path, who) or beside_others and overlap_above(path, who, beside_others):
+        if path in left or overlap(path, who) or beside_others and overlap_above(path, who, beside_others):  # guard: below-others-that-run-at-once
             assumed.add("at-once", "%s in %s" % (path, target))
 
 
@@ -51,7 +51,7 @@ def overlap_above(path: str, who: List[Life], beside_others: Dict[int, List[Life
             children = table.setdefault(id(up.parent), {})
             children[id(up)] = (up, writes(life, path) or id(up) in children and children[id(up)][1])
     pairs = (pair for children in table.values() for pair in combinations(children.values(), 2))
-    return any((wrote or wrote_too) and one.born < other.died and other.born < one.died for (one, wrote), (other, wrote_too) in pairs)
+    return any((wrote or wrote_too) and one.born < other.died and other.born < one.died for (one, wrote), (other, wrote_too) in pairs)  # guard: not-one-after-other
 
 
 def overlap(path: str, who: List[Life]) -> bool:
@@ -72,9 +72,9 @@ def writes(life: Life, path: str) -> bool:
 
 def touches_beside(older: Life, life: Life, path: str) -> bool:
     """Whether one of two processes may touch a file while the other one does: of one that started the other, whether it does so while that lives."""
-    if older not in life.up():
+    if older not in life.up():  # guard: who-waited-for-other
         return True
-    places = [older.events.get((kind, path), -1) for kind in TOUCHES] + [older.changed.get(path, -1)]
+    places = [older.events.get((kind, path), -1) for kind in TOUCHES] + [older.changed.get(path, -1)]  # guard: who-started-other
     return any(life.born < place < life.died for place in places)
 
 
@@ -89,18 +89,18 @@ def in_background(child: Life) -> Optional[Background]:
     program = program_at(child.parent, child.born)
     name = shelltext.base_name(program.argv) if program is not None else ""
     if program is None or name not in shelltext.SHELLS:
-        return AT_ONCE if program is not None and shelltext.runs_at_once(program.argv) else None
-    text = shelltext.shell_text(program.argv) or (shelltext.contents(program.script) if program.script else "")
+        return AT_ONCE if program is not None and shelltext.runs_at_once(program.argv) else None  # guard: xargs
+    text = shelltext.shell_text(program.argv) or (shelltext.contents(program.script) if program.script else "")  # guard: scripts
     found = background(text) if text else ALL
     is_inner = child.parent is not None and not any(one.place < child.born for one in child.parent.programs)
-    return found if found is not None and found.has(name_of(child), is_inner) else None
+    return found if found is not None and found.has(name_of(child), is_inner) else None  # guard: what-brackets-do-in-row
 
 
 def is_left(life: Life, last: Life) -> bool:
     """Whether a process below another one, or one between the two, is in the background, and nothing waits for it."""
     while life is not last and life.parent is not None:
         found = in_background(life)
-        if found is not None and not found.is_waited:
+        if found is not None and not found.is_waited:  # guard: that-its-shell-waits
             return True
         life = life.parent
     return False
@@ -132,10 +132,10 @@ def beside_left(work: Work, table: Dict[str, List[Life]]) -> Set[str]:
 
 def is_beside(child: Life, shell: Background, other: Life, path: str) -> bool:
     """Whether another process of a recipe may touch a file while one in the background of a shell runs."""
-    end = child.parent.died if shell.is_waited and child.parent is not None else NEVER
+    end = child.parent.died if shell.is_waited and child.parent is not None else NEVER  # guard: another-line
     if other in child.up():
-        places = () if shell.is_quiet and other is child.parent else [other.events.get((kind, path), -1) for kind in TOUCHES] + [other.changed.get(path, -1)]
-        return any(child.born < place < end and not comes_after(program_at(other, place), shell) for place in places)
+        places = () if shell.is_quiet and other is child.parent else [other.events.get((kind, path), -1) for kind in TOUCHES] + [other.changed.get(path, -1)]  # guard: its-own-shell-behind
+        return any(child.born < place < end and not comes_after(program_at(other, place), shell) for place in places)  # guard: its-own-shell
     branch = next((up for up in other.up() if up.parent is child.parent), None)
     return other.born < end and other.died > child.born and not (branch is not None and branch.programs and comes_after(branch.programs[0], shell))
 

@@ -18,13 +18,13 @@ class Cleaned:
             found = left - past.until(start).keys()
             self.since.update(dict.fromkeys(found, start))
             left -= found
-        own = (life for life in lives if not any(up.is_make or up.is_ninja for up in life.up()))
+        own = (life for life in lives if not any(up.is_make or up.is_ninja for up in life.up()))  # guard: what-makes-have-made-since
         for path in {path for life in own for kind, path in life.events if kind == "C"}:
-            self.since.pop(path, None)  # what a script makes again may be of the earlier build
+            self.since.pop(path, None)  # what a script makes again may be of the earlier build  # guard: what-is-put-back
 
     def is_gone(self, path: str, life: Life) -> bool:
         """Whether a make or a ninja found it absent, or as recipes have made it since."""
-        return self.since.get(path, sys.maxsize) <= start_of(life)
+        return self.since.get(path, sys.maxsize) <= start_of(life)  # guard: what-is-removed-first
 
 
 def start_of(life: Life) -> int:

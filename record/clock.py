@@ -18,7 +18,7 @@ def clock(now: float) -> Pattern[str]:
     days = [now - DAY * n for n in range(-1, DAYS)]  # (another zone may have the next day)
     seconds = "|".join(sorted({str(int(day) // 10 ** 5) for day in days}))
     dates = "|".join(r"%04d[-._]?%02d[-._]?%02d" % (day.year, day.month, day.day) for day in (datetime.fromtimestamp(one, timezone.utc) for one in days))
-    return re.compile(r"(?<!\d)(?:(?:%s)\d{5,8}|(?:%s)[-._T]?\d\d[-._:]?\d\d[-._:]?\d\d)(?!\d)" % (seconds, dates))
+    return re.compile(r"(?<!\d)(?:(?:%s)\d{5,8}|(?:%s)[-._T]?\d\d[-._:]?\d\d[-._:]?\d\d)(?!\d)" % (seconds, dates))  # guard: names-with-time-that-is-long-ago
 
 
 def named_by_time(builds: List[Build]) -> Iterator[str]:
@@ -34,5 +34,5 @@ def named_by_time(builds: List[Build]) -> Iterator[str]:
             if bare != path:
                 alike.setdefault(bare, []).append((path, writers))
         for rows in alike.values():
-            if any(one != other and build.unordered(one, other) for (_, some), (_, more) in combinations(rows, 2) for one in some for other in more):
+            if any(one != other and build.unordered(one, other) for (_, some), (_, more) in combinations(rows, 2) for one in some for other in more):  # guard: names-with-time
                 yield rows[0][0]

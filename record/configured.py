@@ -34,8 +34,8 @@ class Status:
 
     def drop_stamps(self, names: Names, lives: List[Life], began: int) -> None:
         """Takes out the stamps that were absent when make began: those are of a recipe of make alone."""
-        first = first_changes(lives, self.stamps - names.before.keys())
-        self.made -= {path for path, place in first.items() if place > began}
+        first = first_changes(lives, self.stamps - names.before.keys())  # guard: stamps
+        self.made -= {path for path, place in first.items() if place > began}  # guard: stamps-of-command
 
 
 def find_configured(makes: List[Make], lives: List[Life], names: Names) -> Set[str]:
@@ -46,11 +46,11 @@ def find_configured(makes: List[Make], lives: List[Life], names: Names) -> Set[s
     found = [status_of(path) for path in sorted(there) if os.path.basename(path) == STATUS]
     statuses = []
     for status in filter(None, found):
-        readers = [born for born, paths in read if not paths.isdisjoint(status.made)]
-        status.drop_stamps(names, lives, min(readers, default=0))
+        readers = [born for born, paths in read if not paths.isdisjoint(status.made)]  # guard: makefile-that-is-read
+        status.drop_stamps(names, lives, min(readers, default=0))  # guard: stamps-that-recipes-make
         statuses += [status] if is_configured(status, changed, readers) else []
     ran = made_by_makes(makes, names)
-    return {path for status in statuses for path in status.made if path not in changed or ran.get(path, changed[path]) >= changed[path]}
+    return {path for status in statuses for path in status.made if path not in changed or ran.get(path, changed[path]) >= changed[path]}  # guard: what-it-made
 
 
 def made_by_makes(makes: List[Make], names: Names) -> Dict[str, int]:
@@ -68,7 +68,7 @@ def last_changes(lives: List[Life]) -> Dict[str, int]:
     for life in lives:
         for (kind, path), place in life.events.items():
             if kind in CHANGES:
-                found[path] = max(found.get(path, 0), place, life.changed.get(path, 0))
+                found[path] = max(found.get(path, 0), place, life.changed.get(path, 0))  # guard: later-changes-of-one-file
     return found
 
 
@@ -86,7 +86,7 @@ def is_configured(status: Status, changed: Dict[str, int], readers: List[int]) -
     """Whether what a `config.status` says is there when the first make begins that reads a makefile of it: nobody changes any of it, or the command makes
     the `config.status` itself, and nobody changes any of it later."""
     places = [changed[path] for path in status.made if path in changed]
-    return bool(readers) and (not places or status.path in changed and max(places) < min(readers))
+    return bool(readers) and (not places or status.path in changed and max(places) < min(readers))  # guard: what-build-changes
 
 
 def status_of(path: str) -> Optional[Status]:
@@ -96,7 +96,7 @@ def status_of(path: str) -> Optional[Status]:
     except OSError:
         return None
     found = SOURCES.search(text)
-    if text.split("\n", 2)[1:2] != [WRITTEN] or not found:
+    if text.split("\n", 2)[1:2] != [WRITTEN] or not found:  # guard: texts-of-autoconf
         return None
     folder = os.path.dirname(path)
     sources = os.path.join(folder, found.group(1))
@@ -104,8 +104,8 @@ def status_of(path: str) -> Optional[Status]:
     for kind, words in LISTS.findall(text):
         for name, *templates in (word.split(":") for word in words.split()):
             made = machine.realpath(os.path.join(folder, name))
-            if kind != "commands" or name == "libtool":  # others are names of commands, and need not be files
-                status.made.add(made)
+            if kind != "commands" or name == "libtool":  # others are names of commands, and need not be files  # guard: names-of-commands
+                status.made.add(made)  # guard: names-that-it-says
             if kind in ("files", "headers"):
                 status.made.update(machine.realpath(os.path.join(sources, one)) for one in templates or [name + ".in"])
             if kind == "headers":

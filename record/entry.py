@@ -15,7 +15,7 @@ from typing import Callable, Dict, Iterable, Iterator, List
 
 from record.messages import reason
 
-STOPPING = (signal.SIGINT, signal.SIGTERM, signal.SIGHUP, signal.SIGQUIT, signal.SIGALRM, signal.SIGUSR1, signal.SIGUSR2, signal.SIGXCPU)  # the last ones by batch systems
+STOPPING = (signal.SIGINT, signal.SIGTERM, signal.SIGHUP, signal.SIGQUIT, signal.SIGALRM, signal.SIGUSR1, signal.SIGUSR2, signal.SIGXCPU)  # the last ones by batch systems  # guard: key-that-quits
 UNHEARD: List[signal.Signals] = []  # what this program hears, and its caller ignores, as a build would
 FAILED = 3
 COERCED = ("C.UTF-8", "C.utf8", "UTF-8")  # locales that Python sets as it begins
@@ -40,8 +40,8 @@ def stop(number: int, _: object) -> None:
 def hear() -> None:
     """Lets signals end the program in order, except those that are ignored for it (`nohup`). Where the end of a child is ignored, its status is
     lost."""
-    if signal.signal(signal.SIGCHLD, signal.SIG_DFL) is signal.SIG_IGN:
-        UNHEARD.append(signal.SIGCHLD)
+    if signal.signal(signal.SIGCHLD, signal.SIG_DFL) is signal.SIG_IGN:  # guard: end-of-child
+        UNHEARD.append(signal.SIGCHLD)  # guard: end-of-child-as-caller
     for one in STOPPING:
         if signal.getsignal(one) is not signal.SIG_IGN:
             signal.signal(one, stop)
@@ -66,7 +66,7 @@ def to_end(strace: "subprocess.Popen[bytes]", left: Left) -> List[int]:
     until = time.monotonic() + PATIENCE
     while True:
         is_over = strace.poll() is not None
-        found = list(left() if is_over else traced(strace.pid))
+        found = list(left() if is_over else traced(strace.pid))  # guard: what-strace-followed-and-has-left
         if found or is_over or time.monotonic() > until:
             return found
         time.sleep(0.02)
@@ -76,8 +76,8 @@ def have_ended(strace: "subprocess.Popen[bytes]", left: Left) -> bool:
     """Whether strace, and all processes of the build that it does not follow any more, end in time. Two looks have to show none: one that
     becomes another program has no environment for a moment."""
     until, looks = time.monotonic() + PATIENCE, 0
-    while looks < 2 and time.monotonic() < until:
-        looks = looks + 1 if strace.poll() is not None and not any(left()) else 0
+    while looks < 2 and time.monotonic() < until:  # guard: what-becomes-another-program
+        looks = looks + 1 if strace.poll() is not None and not any(left()) else 0  # guard: what-strace-has-left-and-lives
         time.sleep(0.02)
     return looks == 2
 
@@ -98,7 +98,7 @@ def end_traced(strace: "subprocess.Popen[bytes]", left: Left) -> None:
 
 def paths_of_python() -> List[str]:
     """The program that runs this, and its real path; it does not know the first where it was started without a `PATH`."""
-    return [path for path in (sys.executable, os.path.realpath("/proc/self/exe")) if path]
+    return [path for path in (sys.executable, os.path.realpath("/proc/self/exe")) if path]  # guard: no-variables
 
 
 def forget_coerced(environment: Dict[str, str]) -> None:
@@ -110,7 +110,7 @@ def forget_coerced(environment: Dict[str, str]) -> None:
         except OSError:  # there is no /proc, or it is of other processes
             return
         del environment["LC_CTYPE"]
-        environment.update({"LC_CTYPE": os.fsdecode(value) for value in given[:1]})
+        environment.update({"LC_CTYPE": os.fsdecode(value) for value in given[:1]})  # guard: what-locale
 
 
 def speak_utf8() -> None:
@@ -133,9 +133,9 @@ def close_output() -> None:
 def ended(name: str, module: str, without: str) -> int:
     """Runs `main` of a module; the status of the program. `without` says what there is not where it breaks."""
     speak_utf8()
-    if sys.stderr is None:  # what is said there is lost, as that of the build, which gets no other file in its place
+    if sys.stderr is None:  # what is said there is lost, as that of the build, which gets no other file in its place  # guard: closed-errors
         sys.stderr = open(os.devnull, "w", encoding="utf-8")
-    if sys.stdout is None:  # another file may then have its number, and nobody would see the answer
+    if sys.stdout is None:  # another file may then have its number, and nobody would see the answer  # guard: closed-output
         print("%s: its standard output is closed, so %s: leave it open, such as by > /dev/null" % (name, without), file=sys.stderr)
         return FAILED
     try:

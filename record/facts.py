@@ -61,5 +61,5 @@ def begun(words: List[str], folder: str, status: int, seconds: float, tools: Dic
     """The record of a build that has ended, before anything is known of it."""
     record = Record(words, folder, status, seconds, tools, first=first)
     if status != 0:
-        record.holes.append("the build ended with status %d" % status + (": signal %d stopped it" % -status if status < 0 else ""))
+        record.holes.append("the build ended with status %d" % status + (": signal %d stopped it" % -status if status < 0 else ""))  # guard: build-that-failed
     return record

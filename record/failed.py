@@ -30,13 +30,13 @@ class Failure:
     ended: int  # the place in the trace
 
     def __str__(self) -> str:
-        words = self.words if len(self.words) <= WIDTH else self.words[:WIDTH] + ".."
+        words = self.words if len(self.words) <= WIDTH else self.words[:WIDTH] + ".."  # guard: long-words-of-make
         return "%s (%s)" % (self.what, ", ".join(filter(None, (self.place, words)))) if self.what else "%s failed first" % words
 
 
 def failed_job(make: Make) -> Optional[Tuple[Round, Job]]:
     """The first job of a make whose target could not be made."""
-    return next(((one, job) for one in make.words.rounds for job in one.jobs if one.base and job.target in one.base.failed), None)
+    return next(((one, job) for one in make.words.rounds for job in one.jobs if one.base and job.target in one.base.failed), None)  # guard: which-recipe
 
 
 def of_makes(makes: Sequence[Make], failed: Set[int], folder: str) -> Iterator[Failure]:
@@ -45,7 +45,7 @@ def of_makes(makes: Sequence[Make], failed: Set[int], folder: str) -> Iterator[F
         words, found = ("make " + make.words.args).strip(), failed_job(make)
         if found is None:
             yield Failure(words, no_rule(make), "", make.life.died)
-        elif not failed.intersection(inner(make.work.get(id(found[1]), Work()))):
+        elif not failed.intersection(inner(make.work.get(id(found[1]), Work()))):  # guard: innermost-make-alone
             file, line = (found[0].base or Base()).places.get(found[1].target, [("", 0)])[0]
             yield Failure(words, "the recipe of %s failed first" % found[1].target, place(make.folder, file, line, folder), make.life.died)
 
@@ -55,7 +55,7 @@ def no_rule(make: Make) -> str:
     signal ended has not said which have one."""
     for one in make.words.rounds[-1:]:
         for target in list(one.must)[-1:]:
-            if one.base is not None and target not in one.base.recipes:
+            if one.base is not None and target not in one.base.recipes:  # guard: make-that-was-killed
                 return "no rule makes " + target
     return ""
 
@@ -73,7 +73,7 @@ def lost_jobs(ninja: Ninja) -> List[Tuple[NinjaJob, Edge]]:
     if ninja.logged is None:
         return []
     jobs = [(job, job.edge) for stage in ninja.stages for job in stage.jobs if job.edge is not None]
-    return sorted((one for one in jobs if not set(one[1].makes()) & set(ninja.logged)), key=lambda one: one[0].life.died)
+    return sorted((one for one in jobs if not set(one[1].makes()) & set(ninja.logged)), key=lambda one: one[0].life.died)  # guard: what-log-of-ninja-lacks
 
 
 def inner(work: Work) -> Set[int]:
@@ -88,7 +88,7 @@ def tried(makes: Sequence[Make]) -> List[Make]:
 
 def ignored(makes: Sequence[Make]) -> Set[int]:
     """What ran inside of other recipes than the one by which a make failed, and what CMake only tries: whether it failed did not matter."""
-    found = {id(make) for make in tried(makes)}
+    found = {id(make) for make in tried(makes)}  # guard: what-cmake-tries
     for make in makes:
         failing = failed_job(make) if make.words.has_failed else None
         if failing is not None:
@@ -111,7 +111,7 @@ def unmade(makes: Sequence[Make], names: Names, folder: str) -> Dict[str, str]:
             for target in base.recipes.keys() - base.phony:
                 file, line = base.places.get(target, [("", 0)])[0]
                 found[names.find(make.folder, target, True).path] = place(make.folder, file, line, folder) or "another rule"
-    return {path: where for path, where in found.items() if path not in ran}
+    return {path: where for path, where in found.items() if path not in ran}  # guard: it-lacks-no-file-whose-recipe-ran
 
 
 def lacked(makes: Sequence[Make], names: Names, folder: str) -> List[str]:
@@ -119,16 +119,16 @@ def lacked(makes: Sequence[Make], names: Names, folder: str) -> List[str]:
     would have been there. The recipes around it look for what makes inside of them look for; there this file alone counts."""
     failed = {id(make) for make in makes if make.words.has_failed} - ignored(makes)
     jobs = [(make, found[1]) for make in makes if id(make) in failed for found in [failed_job(make)] if found is not None]
-    missed = [(make, job, {path for kind, path in make.work.get(id(job), Work()).events if kind == "N"}) for make, job in jobs]
+    missed = [(make, job, {path for kind, path in make.work.get(id(job), Work()).events if kind == "N"}) for make, job in jobs]  # guard: it-lacks-no-file
     own = [(make.life.died, paths) for make, job, paths in missed if not failed.intersection(inner(make.work.get(id(job), Work())))]
     first = min(own, key=lambda one: one[0])[1] if own else set()
     made = unmade(makes, names, folder) if first else {}
     lines: Dict[str, None] = {}
     settled: Set[str] = set()  # for these a line is known, so the recipes around do not matter
     for make, job, paths in sorted(missed, key=lambda one: one[0].life.died):
-        for path in sorted(paths & first & made.keys() - settled):
+        for path in sorted(paths & first & made.keys() - settled):  # guard: what-makes-inside-of-recipe-look
             name = name_in_rules(make, names, path)
-            settled.update({path} if name else ())
+            settled.update({path} if name else ())  # guard: rule-of-innermost-make
             lines["%s looks for %s, which %s makes, and does not wait for it" % (job.target, os.path.relpath(path, make.folder), made[path])
                   + (". Write the rule %s: %s" % (job.target, name) if name else "")] = None
     return list(lines)[:HINTS]
@@ -142,8 +142,8 @@ def name_in_rules(make: Make, names: Names, path: str) -> str:
 
 def failures(makes: Sequence[Make], ninjas: Sequence[Ninja], folder: str) -> List[Failure]:
     """All that failed by itself, the first one first."""
-    failed = ({id(make) for make in makes if make.words.has_failed} | {id(ninja) for ninja in ninjas if lost_jobs(ninja)}) - ignored(makes)
-    return sorted([*of_makes(makes, failed, folder), *of_ninjas(ninjas, folder)], key=lambda one: one.ended)
+    failed = ({id(make) for make in makes if make.words.has_failed} | {id(ninja) for ninja in ninjas if lost_jobs(ninja)}) - ignored(makes)  # guard: not-what-was-ignored
+    return sorted([*of_makes(makes, failed, folder), *of_ninjas(ninjas, folder)], key=lambda one: one.ended)  # guard: first-one-first
 
 
 def passed_over(make: Make) -> str:
@@ -161,7 +161,7 @@ def answers(makes: Sequence[Make], folder: str) -> List[str]:
     """What is not known where makes failed and the build did not: that a make fails may be what it is asked for (`if $(MAKE) compare; then ..`), and then
     it matters what else it might have run."""
     found = [(make, passed_over(make)) for make in makes if make.words.has_failed and make not in tried(makes)]
-    return ["a make failed, and had not come to %s: %s" % (name, one) for make, name in found if name for one in of_makes([make], {id(make)}, folder)]
+    return ["a make failed, and had not come to %s: %s" % (name, one) for make, name in found if name for one in of_makes([make], {id(make)}, folder)]  # guard: what-make-had-not-come
 
 
 def explained(holes: List[str], makes: Sequence[Make], ninjas: Sequence[Ninja], folder: str) -> List[str]:

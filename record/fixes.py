@@ -48,7 +48,7 @@ class Remedy:
 def remedy(about: Dict[str, Any], race: Race) -> Remedy:
     """What ends a race of a build."""
     kind = kind_of(about, race)
-    if kind is TWO:
+    if kind is TWO:  # guard: one-rule-with-two-outputs
         return as_one(about, race)
     instead = without_line(about, race)
     if instead:
@@ -57,9 +57,9 @@ def remedy(about: Dict[str, Any], race: Race) -> Remedy:
     if about.get("tool") == "ninja":
         return in_ninja(about, race, advice)
     early, late = (cmake_target(labels.get(it, {})) for it in (race.first, race.second))
-    if early and late and early != late:
+    if early and late and early != late:  # guard: cmakes-makefiles-in-words-of-cmake
         return Remedy(words=("add_dependencies(%s %s)" % (late, early),), advice=advice)
-    is_loose = about.get("tool") == "make" and (is_of_folder(race.path) or bool(labels.get(race.first, {}).get("order_only")))
+    is_loose = about.get("tool") == "make" and (is_of_folder(race.path) or bool(labels.get(race.first, {}).get("order_only")))  # guard: who-waits-for-what-makes-folder
     needed = ("| " if is_loose else "") + in_makefile(target(about, race.first))
     return in_colons(about, race, needed) or Remedy((in_makefile(target(about, race.second)), needed), advice=advice)
 
@@ -84,7 +84,7 @@ def in_makefile(name: str) -> str:
 
 def cmake_target(found: Dict[str, Any]) -> str:
     """The target of CMakeLists.txt that a recipe builds, or nothing."""
-    match = CMAKE_TARGET.search(found.get("target", "")) if CMAKE_FILE.search(found.get("file", "")) else None
+    match = CMAKE_TARGET.search(found.get("target", "")) if CMAKE_FILE.search(found.get("file", "")) else None  # guard: not-other-makefiles
     return match.group(1) if match else ""
 
 
@@ -117,7 +117,7 @@ def version_of(text: str) -> Tuple[int, ...]:
 def in_colons(about: Dict[str, Any], race: Race, needed: str) -> Optional[Remedy]:
     """The line of a rule with two colons that waits: a line with one colon would be an error of the makefile, and one more rule with two would be
     another rule. Nothing where the second is no such rule."""
-    if not about["labels"].get(race.second, {}).get("colons"):
+    if not about["labels"].get(race.second, {}).get("colons"):  # guard: line-of-rule-with-two-colons
         return None
     rule = rule_of(about, race.second)
     line = edited(rule, more=needed) if rule else "%s:: %s" % (in_makefile(target(about, race.second)), needed)
@@ -145,7 +145,7 @@ def in_ninja(about: Dict[str, Any], race: Race, advice: str) -> Remedy:
 def without_line(about: Dict[str, Any], race: Race) -> str:
     """What to do where no line orders two tasks: make itself looks for a name when it first considers a target, or one is a later rule with two
     colons. Nothing where a line does."""
-    if any(own_look(about, race.path, one) for one in (race.first, race.second)):
+    if any(own_look(about, race.path, one) for one in (race.first, race.second)):  # guard: no-line-orders-look-of-targets-own-rule
         return ONE_WRITER
     lookers = [target(about, one) for one in (race.first, race.second) if about["labels"].get(one, {}).get("kind") == "first"]
     if lookers and race.path not in lookers:
@@ -158,14 +158,14 @@ def without_line(about: Dict[str, Any], race: Race) -> str:
 def later_rule(labels: Dict[str, Any], first: str) -> str:
     """What to do where one recipe has to wait for a rule with two colons that is not the first of its target; nothing where none has."""
     early = labels.get(first, {})
-    return "write the rules of %s as one: what needs it is only sure to wait for the first of them" % early["target"] if early.get("colons", 0) > 1 else ""
+    return "write the rules of %s as one: what needs it is only sure to wait for the first of them" % early["target"] if early.get("colons", 0) > 1 else ""  # guard: later-rule-with-two
 
 
 def own_look(about: Dict[str, Any], path: str, label: str) -> bool:
     """Whether make asks here if a target with a recipe is there, and then runs none. It asks before it waits for what the target needs."""
     found = about["labels"].get(label, {})
     runs = found.get("recipe", "").strip().lstrip("@+-").strip() not in ("", ":", "true")
-    return about.get("tool", "make") == "make" and found.get("kind") == "decision" and runs and path == found.get("target")
+    return about.get("tool", "make") == "make" and found.get("kind") == "decision" and runs and path == found.get("target")  # guard: empty-recipe-may-wait
 
 
 def is_needed(verdict: Verdict, race: Race) -> bool:

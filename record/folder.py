@@ -116,7 +116,7 @@ def write_build(folder: Path, build: "Build", within: Optional[Dict[str, str]], 
         edited = places.of(task.node.name, own)
         place = {key: shown(value) if isinstance(value, str) else value for key, value in own.items()}
         lists = sorted(relative(root, path) for path in task.listed & task.reads)
-        is_loose = task.kind == "recipe" and not machine.isfile(os.path.join(root, task.node.name))
+        is_loose = task.kind == "recipe" and not machine.isfile(os.path.join(root, task.node.name))  # guard: who-waits-for-what-leaves-no-file
         about[label] = {"target": shown(task.node.name), "kind": task.kind, **place, **({"lists": lists} if lists else {}),
                         **({"order_only": True} if is_loose else {}), **({"place": [shown(edited[0]), edited[1]]} if edited else {})}
     edges = 0
@@ -125,8 +125,8 @@ def write_build(folder: Path, build: "Build", within: Optional[Dict[str, str]], 
             file.write(line + "\n")
             about.setdefault(label, {"target": "", "kind": "group", "file": "", "line": 0, "recipe": ""})
             edges += len(json.loads(line)["after"])
-    meanings = {relative(root, p): shown(m.replace(" %s/" % root.rstrip("/"), " ")) for p, m in sorted(build.meanings.items())}  # with names as the paths have them
-    askers = {relative(root, path): labels[at] if at >= 0 else "" for path, at in sorted(build.askers.items())}
+    meanings = {relative(root, p): shown(m.replace(" %s/" % root.rstrip("/"), " ")) for p, m in sorted(build.meanings.items())}  # with names as the paths have them  # guard: names-as-paths
+    askers = {relative(root, path): labels[at] if at >= 0 else "" for path, at in sorted(build.askers.items())}  # guard: ages-for-which-no-task-asks
     counts = {
         "considered": build.considered, "tasks": len(about), "edges": edges,
         "recipes": sum(1 for t in build.tasks if t.kind == "recipe"), "paths": sum(len(t.reads) + len(t.writes) for t in build.tasks),
@@ -185,7 +185,7 @@ def move(here: Path, there: Path) -> None:
         gone = here.with_name(here.name + ".gone")
         try:
             shutil.copytree(here, there, symlinks=True)
-            here.rename(gone)  # in one step: a folder in which nothing can be written keeps it whole
+            here.rename(gone)  # in one step: a folder in which nothing can be written keeps it whole  # guard: where-nothing-can-be-removed
         except BaseException:
             shutil.rmtree(there, ignore_errors=True)
             raise
@@ -199,7 +199,7 @@ def come_back(older: Path, folder: Path) -> None:
         return
     try:
         move(older, folder)
-    except OSError as fault:
+    except OSError as fault:  # guard: older-record
         raise OSError("the older record cannot come back to %s (%s); it is in %s" % (folder, reason(fault), older)) from fault
 
 
@@ -209,7 +209,7 @@ def alone(folder: Path) -> Iterator[None]:
     place = os.fsencode(os.path.join(os.path.realpath(folder.parent), folder.name))
     with socket.socket(socket.AF_UNIX) as held:
         try:
-            held.bind(b"\0race-record " + hashlib.sha256(place).digest())
+            held.bind(b"\0race-record " + hashlib.sha256(place).digest())  # guard: one-at-time
         except OSError as fault:
             raise Taken("another race-record makes the record %s now: wait until it has ended, or let one of the two build in a copy of the project" % folder) from fault
         yield
@@ -232,7 +232,7 @@ def rooms_of_programs() -> List[str]:
 def room_of_programs(tops: List[str]) -> Optional[str]:
     """The first one in which programs run, and which is no part of the project."""
     inside = [os.path.realpath(top).rstrip("/") + "/" for top in tops]
-    return next((path for path in rooms_of_programs() if runs_programs(path) and (path == ROOMS or not (os.path.realpath(path) + "/").startswith(tuple(inside)))), None)
+    return next((path for path in rooms_of_programs() if runs_programs(path) and (path == ROOMS or not (os.path.realpath(path) + "/").startswith(tuple(inside)))), None)  # guard: temporary-folders
 
 
 @contextmanager

@@ -38,7 +38,7 @@ def footprints(build: Build, names: Names) -> Iterator[Dict[str, object]]:
     root = build.make.folder
     for task in build.tasks:
         if task.kind == "recipe":
-            writes = task.writes | touched(task, WRITTEN + CREATED + REMOVED, names.tops)
+            writes = task.writes | touched(task, WRITTEN + CREATED + REMOVED, names.tops)  # guard: footprints
             reads = task.reads | touched(task, "RSNPK", names.tops)
             folders = {path for path in reads if names.before.get(path) == "d"} - writes
             yield {"target": shown(task.node.name), "reads": sorted(relative(root, p) for p in reads - folders - {root}),

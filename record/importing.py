@@ -59,14 +59,14 @@ def replay_trace(facts: Facts, folder: str) -> Calls:
     """The trace, played in the name space."""
     spool, names = facts.spool, facts.names
     replay = Calls(names, facts.place, machine.realpath(facts.real), folder, names.tops, machine.mask())
-    trace = spool / ("sifted" if (spool / "sifted").exists() and not names.leads_to(SYSTEM) else "trace")
+    trace = spool / ("sifted" if (spool / "sifted").exists() and not names.leads_to(SYSTEM) else "trace")  # guard: links-that-lead
     if facts.said_place:
         replay.own, replay.said, replay.covered = (facts.place, os.path.dirname(facts.said_place)), facts.said_place + "/", {*facts.covered}
         note_silent(replay, facts.said)
     with open(trace, encoding="latin-1", newline="\n") as lines:
         for event in read_trace(watched(lines, trace.stat().st_size)):
             replay.play(event)
-    replay.holes += unseen_changes(replay.outside) if trace.name == "sifted" else []
+    replay.holes += unseen_changes(replay.outside) if trace.name == "sifted" else []  # guard: changes-that-no-line-shows
     return replay
 
 
@@ -77,7 +77,7 @@ def note_silent(replay: Calls, said: Path) -> None:
             start = read_start(lines)
         if not start.says:
             replay.silent.add(path.name)
-        if start.asks in PRINTS:
+        if start.asks in PRINTS:  # guard: make-with-words-of-its-own
             replay.holes.append("a make that prints its own words (-d, -p, --debug) cannot be seen: make " + " ".join(start.args)[:200])
 
 
@@ -98,8 +98,8 @@ class Imported:
 def settle_all(replay: Calls, facts: Facts, assumed: Assumptions) -> Owners:
     """Puts what is meant in the place of what known programs did; who did what."""
     logs = read_logs(facts.said, facts.said_place)
-    settle_scripts(replay.lists, replay.all, logs)
-    for kind, example in chain(settle(replay.all, replay.tops), settle_modules(replay.all)):
+    settle_scripts(replay.lists, replay.all, logs)  # guard: read-at-all
+    for kind, example in chain(settle(replay.all, replay.tops), settle_modules(replay.all)):  # guard: byte-code-and-modules
         assumed.add(kind, example)
     settle_machines(replay.all)
     settle_tex(replay.all)
@@ -109,7 +109,7 @@ def settle_all(replay: Calls, facts: Facts, assumed: Assumptions) -> Owners:
     for name in sorted(markers.paths):
         assumed.add("makers", name)
     owners = Owners(replay.all, logs, replay.names.links)
-    credit_makes(owners, markers)
+    credit_makes(owners, markers)  # guard: makes-that-would-make-folder
     return owners
 
 
@@ -122,16 +122,16 @@ def cut_words(said: Path, lives: List[Life]) -> List[str]:
 def note_holes(said: Path, replay: Calls, owners: Owners, names: Names, record: Record) -> None:
     """The holes of the trace itself, and of makes that ran past the recorder."""
     record.holes += ["a limit on the size of files (ulimit -f) cuts what a make says: " + one for one in cut_words(said, replay.all)]
-    record.holes += replay.holes + owners.holes + names.mounted({*mounts_below(*names.tops)}) + names.too_long() + twice(names, replay.all, owners.makes)
-    record.holes += ["--fresh copied %s, which has a name outside of the folder too, and the build writes it" % path for path in replay.hard_links if path in names.shared]
+    record.holes += replay.holes + owners.holes + names.mounted({*mounts_below(*names.tops)}) + names.too_long() + twice(names, replay.all, owners.makes)  # guard: paths-that-are-too-long
+    record.holes += ["--fresh copied %s, which has a name outside of the folder too, and the build writes it" % path for path in replay.hard_links if path in names.shared]  # guard: name-outside
     record.holes += ["nobody knows who started a process: " + one for one in replay.strays()]
     record.holes += ["a make ran past the recorder: " + words for words in replay.past]
 
 
 def add_seen(replay: Calls, assumed: Assumptions) -> None:
     """What is taken for granted of what the trace shows, whoever did it."""
-    for kind, found in (("sockets", replay.sockets), ("processes", replay.watchers), ("read-times", replay.askers), ("locks", replay.locks),
-                        ("hard-links", replay.hard_links), ("ages", replay.rewritten())):
+    for kind, found in (("sockets", replay.sockets), ("processes", replay.watchers), ("read-times", replay.askers), ("locks", replay.locks),  # guard: sockets
+                        ("hard-links", replay.hard_links), ("ages", replay.rewritten())):  # guard: hard-links
         for example in found:
             assumed.add(kind, example)
     for name in replay.outside:
@@ -139,7 +139,7 @@ def add_seen(replay: Calls, assumed: Assumptions) -> None:
     for argv in replay.makers:
         assumed.add("makers", argv)
     for path in sorted(set(replay.progress)):
-        assumed.add("progress", path)
+        assumed.add("progress", path)  # guard: what-cmake-counts
 
 
 def builds_of_makes(owners: Owners, elsewhere: Elsewhere, past: Past, names: Names, assumed: Assumptions, record: Record) -> List[Build]:
@@ -147,7 +147,7 @@ def builds_of_makes(owners: Owners, elsewhere: Elsewhere, past: Past, names: Nam
     builds = []
     for place, make, number in sorted(((beginning(m, n), m, n) for m in owners.makes for n in range(len(m.words.rounds))), key=lambda found: found[0]):
         if make.words.rounds[number].jobs or any(n == number for n, _ in make.acts):
-            builder = Builder(make, number, names, assumed, past.until(place))
+            builder = Builder(make, number, names, assumed, past.until(place))  # guard: what-earlier-makes-made
             builder.elsewhere = elsewhere
             builds.append(builder.run())
             record.holes += builder.holes
@@ -170,19 +170,19 @@ def import_record(facts: Facts, record: Record) -> Imported:
     record.holes += holes + more
     if record.status != 0:
         record.holes = explained(record.holes, owners.makes, ninjas, folder)
-        record.hints = lacked(owners.makes, names, folder)
+        record.hints = lacked(owners.makes, names, folder)  # guard: what-recipe-lacked
     else:
-        record.holes += answers(owners.makes, folder)
+        record.holes += answers(owners.makes, folder)  # guard: make-that-failed
     for make in tried(owners.makes):
-        assumed.add("tried", make.folder)
+        assumed.add("tried", make.folder)  # guard: what-cmake-tries-said
     if not owners.makes and not ninjas:
-        record.holes.append("no make and no ninja ran")
+        record.holes.append("no make and no ninja ran")  # guard: no-make-at-all
     for name in unasked(owners.makes, ninjas):
-        assumed.add("unasked", name)
+        assumed.add("unasked", name)  # guard: recipes-that-nothing-asked
     add_seen(replay, assumed)
     add_granted(owners, assumed)
     if owners.makes and not facts.covered:
-        assumed.add("preload", "")
+        assumed.add("preload", "")  # guard: where-library-is-in-environment
     past = Past(names.before, replay.changes)
     builds = builds_of_makes(owners, elsewhere, past, names, assumed, record)
     for path in made_unseen(owners.makes, ninjas, names, past.until(sys.maxsize)):
@@ -191,7 +191,7 @@ def import_record(facts: Facts, record: Record) -> Imported:
     for name in named_by_time(builds):
         assumed.add("clock", name)
     if (owners.makes or ninjas) and record.status == 0 and did_nothing(builds):
-        record.holes.append(IDLE)
+        record.holes.append(IDLE)  # guard: nothing
     tools = [*(make.life for make in owners.makes), *(ninja.life for ninja in ninjas)]
     cleaned = Cleaned(names, replay.changes, tools, replay.all)
     return Imported(builds, assumed, replay.all, ninjas, cleaned, idle_targets(owners, names, cleaned), find_configured(owners.makes, replay.all, names), texts_of(owners, names))
@@ -205,7 +205,7 @@ def texts_of(owners: Owners, names: Names) -> Dict[str, str]:
 
 def finish(record: Record, found: Imported, names: Names, out: str, warm: bool) -> None:
     """What is known when all builds are: whether they were cold, and what ninja itself finds."""
-    there = {*warm_names(found.builds, found.ninjas, names, found.cleaned), *found.idle}
+    there = {*warm_names(found.builds, found.ninjas, names, found.cleaned), *found.idle}  # guard: targets-of-make-that-has-nothing
     record.configured = sorted(there & found.configured)
     there -= found.configured
     if record.first is not None:
@@ -220,16 +220,16 @@ def finish(record: Record, found: Imported, names: Names, out: str, warm: bool) 
     for name in record.up_to_date:
         found.assumed.add("up-to-date", name)
     for name in record.configured:
-        found.assumed.add("configured", name)
+        found.assumed.add("configured", name)  # guard: configured-said
     record.stands_alone = bool(record.warm) and stand_alone(record.warm, found.builds, found.ninjas)
-    for name in record.warm if warm or record.stands_alone else ():
+    for name in record.warm if warm or record.stands_alone else ():  # guard: said
         found.assumed.add("up-to-date", name)
     if found.ninjas:
         record.tools["ninja"] = ninja_versions(found.ninjas)
         record.missingdeps, beyond = beside(found.ninjas, found.builds, names)
-        for one in beyond if not record.warm and record.status == 0 else []:
+        for one in beyond if not record.warm and record.status == 0 else []:  # guard: what-missingdeps-finds
             record.holes.append("ninja -t missingdeps finds that %s reads %s, and the record has no such race" % (one.user, one.path))
-        record.notes += ["ninja -t missingdeps, of earlier builds: %s reads %s, and waits for nobody who makes it" % (m.user, m.path) for m in beyond if record.warm]
+        record.notes += ["ninja -t missingdeps, of earlier builds: %s reads %s, and waits for nobody who makes it" % (m.user, m.path) for m in beyond if record.warm]  # guard: earlier-build
 
 
 def imported(record: Record, facts: Facts, warm: bool, out: str = "") -> Imported:

@@ -14,7 +14,7 @@ from record.pages import TOP, page
 
 PLACES = (TOP / "record" / "race", TOP / "race", TOP / "crates" / "race" / "out" / "race", TOP / "out" / "race")  # beside the script, in the checkout
 FAULT = re.compile(r"refused (F\d+)\b")
-RACE_LINE = re.compile(r"^race ([^ ]+) : ([^ ]+) (reads|writes) ([^ ]+) (reads|writes)$")  # a name may have other blanks than the one of ASCII
+RACE_LINE = re.compile(r"^race ([^ ]+) : ([^ ]+) (reads|writes) ([^ ]+) (reads|writes)$")  # a name may have other blanks than the one of ASCII  # guard: blanks-in-lines-of-race
 SHOWN = re.compile(r"\\x([0-9a-fA-F]{2})|\\\\")
 
 
@@ -93,7 +93,7 @@ def ended(status: int) -> str:
 
 def ask(race: str, command: str, tasks: Path, root: str) -> "subprocess.CompletedProcess[str]":
     """Runs one command of `race` over a text of tasks, in its folder: `race` takes no word that is not UTF-8, and that folder may have any name."""
-    words = [race, command, "--tasks", tasks.name, "--root", shown(root)]
+    words = [race, command, "--tasks", tasks.name, "--root", shown(root)]  # guard: folder-that-is-not-utf-8
     return subprocess.run(words, cwd=tasks.parent, capture_output=True, text=True, errors="replace", stdin=subprocess.DEVNULL)
 
 
@@ -127,7 +127,7 @@ def judge(race: str, tasks: Path, root: str) -> Verdict:
     """All races of a build, and the lines that fix it."""
     listed = ask(race, "list", tasks, root)
     verdict = Verdict(listed.returncode)
-    for text in listed.stdout.split("\n"):
+    for text in listed.stdout.split("\n"):  # guard: lines-of-race
         match = RACE_LINE.match(text)
         if match:
             path, first, does, second, also = match.groups()
@@ -135,12 +135,12 @@ def judge(race: str, tasks: Path, root: str) -> Verdict:
         elif text.startswith("pairs "):
             verdict.pairs = int(text[6:])
     is_whole = "races %d" % len(verdict.races) in listed.stdout.split("\n")
-    if not is_whole or listed.returncode not in (0, 1) or (listed.returncode == 1) != bool(verdict.races):
+    if not is_whole or listed.returncode not in (0, 1) or (listed.returncode == 1) != bool(verdict.races):  # guard: status-against-its-words
         verdict.status = 2
         said = " ".join((listed.stdout + listed.stderr).split()) or "race list " + ended(listed.returncode)
         verdict.refused = said if listed.returncode not in (0, 1) else "%s does not answer as race does: %s" % (race, said[:300])
     elif listed.returncode == 1:
-        verdict.races = on_files(verdict.races, tasks)
+        verdict.races = on_files(verdict.races, tasks)  # guard: files-before-folders
         fixed = ask(race, "fix", tasks, root)
         verdict.is_fixed = fixed.returncode == 0
         verdict.fix = [t.partition(" #")[0].rstrip() for t in fixed.stdout.split("\n") if ": " in t and not t.startswith("#")]

@@ -40,7 +40,7 @@ from record.trace.sifting import sift
 from record.watch.lay import Watch, makes_of, why_silent
 from record.watch.library import NotBuilt
 
-STRACE = ["strace", "-f", "-q", "-y", "--seccomp-bpf", "-s", str(32 * os.sysconf("SC_PAGE_SIZE")), "-e", "signal=hup,int,quit,abrt,kill,segv,pipe,term,xfsz", "-e", "trace=" + traced()]
+STRACE = ["strace", "-f", "-q", "-y", "--seccomp-bpf", "-s", str(32 * os.sysconf("SC_PAGE_SIZE")), "-e", "signal=hup,int,quit,abrt,kill,segv,pipe,term,xfsz", "-e", "trace=" + traced()]  # guard: long-commands
 EXAMPLE = """examples:
   race-record --fresh -- make             a serial build of what git tracks, then the verdict
   race-record --fresh --setup ./configure -- make
@@ -127,7 +127,7 @@ def enter(watch: Watch, older: Older, heard: object, held: Set[signal.Signals]) 
 def environment(watch: Watch) -> Dict[str, str]:
     """The build's: that of the recorder, as it was given."""
     env = dict(os.environ)
-    forget_coerced(env)
+    forget_coerced(env)  # guard: what-python-sets-of-locale
     env.setdefault("PATH", os.defpath)  # by which strace finds the command
     return watch.environment(env)
 
@@ -143,8 +143,8 @@ def run_build(words: List[str], spool: Path, tops: List[str], watch: Watch, expe
     older, pipe = Older(), Pipe(spool)
     with ThreadPoolExecutor(3) as pool:
         words = STRACE + ["-o", str(pipe.path), "--"] + words
-        held = cast(Set[signal.Signals], signal.pthread_sigmask(signal.SIG_BLOCK, STOPPING))  # until what has begun would be ended
-        process = subprocess.Popen(words, env=env, close_fds=False, preexec_fn=lambda: enter(watch, older, heard, held))  # what the caller has opened for the build stays open
+        held = cast(Set[signal.Signals], signal.pthread_sigmask(signal.SIG_BLOCK, STOPPING))  # until what has begun would be ended  # guard: signal-when-build-has-just-begun
+        process = subprocess.Popen(words, env=env, close_fds=False, preexec_fn=lambda: enter(watch, older, heard, held))  # what the caller has opened for the build stays open  # guard: descriptors-of-caller
         watch.note(process.pid)
         ended, filled = threading.Event(), threading.Event()
         standstill, elapsed = Standstill(process.pid), Elapsed(expected)
@@ -169,9 +169,9 @@ def run_build(words: List[str], spool: Path, tops: List[str], watch: Watch, expe
         filling.result()
         elapsed.end()
         sifting.result(), loading.result()
-    if interrupts and status != 0:
+    if interrupts and status != 0:  # guard: interrupt
         raise Stopped("SIGINT")
-    if status != 0 and not has_calls(pipe.file):
+    if status != 0 and not has_calls(pipe.file):  # guard: nobody-may-trace
         raise Missing(NOT_TRACED)
     return status, seconds
 
@@ -241,7 +241,7 @@ def judge_record(out: Path, race: str) -> Tuple[int, List[Judged]]:
     record = read_json(out / "record.json")
     with ThreadPoolExecutor(ASKED) as pool:
         judged = list(pool.map(lambda number: judge_build(out / "builds" / number, race), record["builds"]))
-    if record["holes"] or any(j.verdict.status not in (0, 1) for j in judged):
+    if record["holes"] or any(j.verdict.status not in (0, 1) for j in judged):  # guard: no-yes
         return 2, judged
     return (1 if any(j.verdict.races for j in judged) else 0), judged
 
@@ -284,12 +284,12 @@ def record_all(options: argparse.Namespace, tools: Dict[str, str], out: Path) ->
     """The record: of the serial build, or, where ninja failed in it, of one with several commands at once."""
     record, is_again = attempt(options, with_jobs(options.words, 1), tools, out)
     found, number = record.hints, 0
-    while is_again and number < TRIES:
+    while is_again and number < TRIES:  # guard: at-most-three-recordings
         number += 1
         print("race-record: the serial build failed; recording again with -j%d (%d of %d)" % (JOBS, number, TRIES), file=sys.stderr, flush=True)
-        record, is_again = attempt(options, with_jobs(options.words, JOBS), tools, out, number == TRIES)
+        record, is_again = attempt(options, with_jobs(options.words, JOBS), tools, out, number == TRIES)  # guard: last-build-stays
         record.notes.append(SERIAL_FAILED + "; this is build %d with -j%d" % (number, JOBS))
-    record.hints = found or record.hints or ([by_hand(options.words)] if record.status != 0 else [])
+    record.hints = found or record.hints or ([by_hand(options.words)] if record.status != 0 else [])  # guard: hint-where-no-better-one-is-known
     rewrite(out, record)
     return record
 
@@ -333,7 +333,7 @@ def run(options: argparse.Namespace) -> int:
     if shutil.which(options.words[0]) is None:
         return stop(no_command(options.words[0]))
     why = silent_make(options.words[0])
-    if why:
+    if why:  # guard: make-that-shows-no-names
         return stop(why)
     try:
         with alone(out):
@@ -353,7 +353,7 @@ def record_and_judge(options: argparse.Namespace, tools: Dict[str, str], out: Pa
         if has_older and import_module("record.importing").IDLE in record.holes:
             raise Idle(*record.holes)
     ended, judged = judge_record(out, race)
-    if ended == 0 and record.warm and not (options.warm or record.stands_alone):
+    if ended == 0 and record.warm and not (options.warm or record.stands_alone):  # guard: ninja-warm-no-yes
         ended = 2
         record.holes.append(WARM_FRESH if options.fresh else WARM % (" --setup ./configure" if record.configured else "", shlex.join(options.words)))
         rewrite(out, record)

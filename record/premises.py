@@ -27,10 +27,10 @@ def add_granted(owners: Owners, assumed: Assumptions) -> None:
             interpreters(work, assumed)
         runs_guile(make, assumed)
         for name in make.words.loaded:
-            assumed.add("loaded", name)
-    at_once(owners, assumed)
+            assumed.add("loaded", name)  # guard: loaded-objects-said
+    at_once(owners, assumed)  # guard: two-processes-at-once
     outlived(owners, assumed)
-    beside(owners, assumed)
+    beside(owners, assumed)  # guard: said
     asked(owners, assumed)
     for make in owners.makes:
         if says_jobs(make):
@@ -44,8 +44,8 @@ def idle_targets(owners: Owners, names: Names, cleaned: Cleaned) -> List[str]:
         for one in make.words.rounds:
             recipes = one.base.recipes if one.base is not None and one.stage == "goals" and not one.jobs else {}
             paths = (names.find(make.folder, one.vpath.get(n, n), True).path for n in one.nodes if recipes.get(n) and n not in one.must)
-            found += [path for path in paths if not cleaned.is_gone(path, make.life)]
-    return [path for path in found if names.before.get(path) in ("f", "l") or is_beyond(path, names)]
+            found += [path for path in paths if not cleaned.is_gone(path, make.life)]  # guard: what-make-with-nothing-to-do-finds
+    return [path for path in found if names.before.get(path) in ("f", "l") or is_beyond(path, names)]  # guard: makes-outside-of-project
 
 
 def interpreters(work: Work, assumed: Assumptions) -> None:
@@ -53,13 +53,13 @@ def interpreters(work: Work, assumed: Assumptions) -> None:
     for life in work.lives:
         for argv in life.ran:
             if shelltext.is_interpreter(argv):
-                assumed.add("interpreters", " ".join(argv)[:60])
+                assumed.add("interpreters", " ".join(argv)[:60])  # guard: interpreters
 
 
 def runs_guile(make: Make, assumed: Assumptions) -> None:
     """Makefiles that run programs inside of make."""
     for name in sorted(makefiles(make.words)):
-        if GUILE.search(make.known_text(name) or ""):
+        if GUILE.search(make.known_text(name) or ""):  # guard: another-language
             assumed.add("loaded", "$(guile ..) in %s" % name)
 
 
@@ -75,11 +75,11 @@ def add_granted_by_ninjas(ninjas: List[Ninja], ties: List[str], owners: Owners, 
     """What ninjas take for granted, whatever their tasks are."""
     for ninja in ninjas:
         if ninja.is_tried:
-            assumed.add("tried", ninja.folder)
+            assumed.add("tried", ninja.folder)  # guard: tried-by-cmake
     for text in ties:
         assumed.add("ties", text[:60])
     for argv in side_by_side(ninjas, owners):
-        assumed.add("tops", " ".join(argv)[:60])
+        assumed.add("tops", " ".join(argv)[:60])  # guard: two-beside-each-other
     add_granted_by_ninja(ninjas, owners, assumed)
     if ninjas:
         assumed.add("ninja", "")
@@ -97,7 +97,7 @@ def side_by_side(ninjas: List[Ninja], owners: Owners) -> List[List[str]]:
 def asked(owners: Owners, assumed: Assumptions) -> None:
     """Makes that only ask (`make -n`), and yet run several lines, which have a `+` or name $(MAKE): these may run at once."""
     for life in owners.lives:
-        if life.is_query and sum(1 for child in life.children if does_more(owners, child)) > 1:
+        if life.is_query and sum(1 for child in life.children if does_more(owners, child)) > 1:  # guard: lines-that-run-said
             assumed.add("queries", " ".join(life.argv)[:60])
 
 
@@ -105,11 +105,11 @@ def says_jobs(make: Make) -> bool:
     """Whether a make whose errors are kept says there, with several jobs, that it is not handed the jobs of the make above, or does not take them;
     one that groups what recipes print names its folder around each of them."""
     words = make.words
-    if GROUPS.search(words.args + " " + words.flags) and words.output:
+    if GROUPS.search(words.args + " " + words.flags) and words.output:  # guard: makes-that-group-what-they-print
         return True
-    if not words.kept_errors or not (words.below or make.is_called):
+    if not words.kept_errors or not (words.below or make.is_called):  # guard: makes-whose-errors-nobody-keeps
         return False
-    return bool(words.slots) or not any(HANDS_JOBS.search(line) for line in make.callers)
+    return bool(words.slots) or not any(HANDS_JOBS.search(line) for line in make.callers)  # guard: makes-that-are-not-handed-jobs
 
 
 def does_more(owners: Owners, life: Life) -> bool:
@@ -129,13 +129,13 @@ def at_once(owners: Owners, assumed: Assumptions) -> None:
 def outlived(owners: Owners, assumed: Assumptions) -> None:
     """Processes that act on files when their recipe has ended, and makes that run beside each other without a make above."""
     for make in owners.makes:
-        for life in make.life.children:
+        for life in make.life.children:  # guard: processes-that-function-leaves
             outlived_of(life, owners, assumed)
     tops = [m.life for m in owners.makes if not any(l.is_make for l in m.life.up() if l is not m.life)]
     tops.sort(key=lambda l: l.born)
     for first, second in zip(tops, tops[1:]):
         if second.born < first.died:
-            assumed.add("tops", " ".join(second.argv)[:60])
+            assumed.add("tops", " ".join(second.argv)[:60])  # guard: two-makes-at-once
 
 
 def beside(owners: Owners, assumed: Assumptions) -> None:
@@ -150,7 +150,7 @@ def changes_beside(life: Life, top: Life) -> bool:
     """Whether a process changes files while a make runs; one that is above the make may wait for it."""
     places = [place for (kind, _), place in life.events.items() if kind in CHANGES]
     if life in top.up():
-        return any(top.born < place < top.died for place in places)
+        return any(top.born < place < top.died for place in places)  # guard: what-is-above
     return bool(places) and life.born < top.died and life.died > top.born
 
 
@@ -158,8 +158,8 @@ def outlived_of(life: Life, owners: Owners, assumed: Assumptions) -> None:
     """What a recipe, or a call of `$(shell ..)`, left running, or did not wait for, and what may then change files: those that it opens, and
     those that it or who started it had opened."""
     for one in owners.below(life):
-        if (one.died > life.died or is_left(one, life)) and any(k in CHANGES for up in until(one, life) for k, _ in up.events):
-            assumed.add("outlives", " ".join(one.argv)[:60])
+        if (one.died > life.died or is_left(one, life)) and any(k in CHANGES for up in until(one, life) for k, _ in up.events):  # guard: open-file
+            assumed.add("outlives", " ".join(one.argv)[:60])  # guard: processes-that-outlive-their-recipe
 
 
 def until(life: Life, last: Life) -> Iterator[Life]:

@@ -74,7 +74,7 @@ def verb(about: Dict[str, Any], label: str, does: str, path: str) -> str:
     if does == "writes":
         return "writes it"
     if lists(about, label, path):
-        return "lists its folder"
+        return "lists its folder"  # guard: lists-of-folders-are-said
     return "make looks at it" if found.get("kind", "") in ("decision", "look", "first") else "reads it"
 
 
@@ -131,7 +131,7 @@ def race_text(about: Dict[str, Any], races: List[Race], verdict: Verdict) -> Lis
 
 def short(words: str) -> str:
     """The first words of a call: a make may hand on a hundred macros. record.json has them all."""
-    return words if len(words) <= WORDS else words[:WORDS].rpartition(" ")[0] + " .."
+    return words if len(words) <= WORDS else words[:WORDS].rpartition(" ")[0] + " .."  # guard: calls-with-many-words
 
 
 def plural(count: int, word: str) -> str:
@@ -147,9 +147,9 @@ def in_order(count: int, word: str) -> str:
 def group_of(about: Dict[str, Any], race: Race) -> Tuple[str, str]:
     """What stands together: races of one kind by one writer, all that one task meets as it lists folders, and all ages for which one asks."""
     lister = [one for one, does in ((race.first, race.first_does), (race.second, race.second_does)) if does != "writes" and lists(about, one, race.path)]
-    if lister:
-        return LISTS, lister[0]
-    if race.path in about.get("askers", {}):
+    if lister:  # guard: lists-of-folders-stand-together
+        return LISTS, lister[0]  # guard: lists-of-folders-stand-together-by-who-lists
+    if race.path in about.get("askers", {}):  # guard: ages-for-which-one-asks-stand-together
         return AGES, about["askers"][race.path]
     return kind_of(about, race).name, race.first if race.first_does == "writes" else race.second
 
@@ -200,7 +200,7 @@ def summary(judged: List[Judged]) -> str:
     recipes = sum(one.about["counts"]["recipes"] for one in judged)
     pairs = sum(one.verdict.pairs for one in judged) - len(races)
     remedies = [remedy(one.about, race) for one, race in races]
-    is_whole = all(one.verdict.is_fixed and not one.verdict.refused for one in judged) and all(one.lines and one.is_edge for one in remedies)
+    is_whole = all(one.verdict.is_fixed and not one.verdict.refused for one in judged) and all(one.lines and one.is_edge for one in remedies)  # guard: build-is-not-safe-beside-look
     return "%s on %s. %s, %s %s" % (plural(len(races), "race"), plural(files, "file"), plural(recipes, "recipe"), in_order(pairs, "other pair"), checked(remedies, is_whole))
 
 

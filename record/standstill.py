@@ -13,8 +13,8 @@ from record.messages import printable
 PATIENCE, STEP = 600.0, 1.0  # seconds without a change until the line comes; between two looks at what strace writes
 WIDTH = 100  # signs of a command
 # A file that was opened to change it, and is no device, or a name that came or went. A recipe that waits starts processes, and looks at files.
-CHANGE = re.compile(rb"O_(?:WRONLY|RDWR|CREAT|TRUNC)[^\n]*\) = \d+</(?!dev/|proc/)"
-                    rb"|\b(?:rename|unlink|rmdir|mkdir|mknod|link|symlink|truncate)\w*\([^\n]*\) = 0\n")
+CHANGE = re.compile(rb"O_(?:WRONLY|RDWR|CREAT|TRUNC)[^\n]*\) = \d+</(?!dev/|proc/)"  # guard: devices
+                    rb"|\b(?:rename|unlink|rmdir|mkdir|mknod|link|symlink|truncate)\w*\([^\n]*\) = 0\n")  # guard: names-that-cannot-be-made
 STATUS = re.compile(r"Name:\t(.*)\n(?:.*\n)*?PPid:\t(\d+)\n")
 BUILDERS = ("make", "gmake", "ninja")
 LINE = ("race-record: no file was made or changed for %d minutes%s. With one job a recipe that waits for another one never ends: "
@@ -34,12 +34,12 @@ class Standstill:
     def see(self, lines: bytes) -> None:
         """Takes what strace has written since the last call, which may be nothing. Of a build that goes on it reads little."""
         now = self.clock()
-        if self.changed is None or lines and now - self.changed >= STEP and CHANGE.search(lines):
+        if self.changed is None or lines and now - self.changed >= STEP and CHANGE.search(lines):  # guard: changes
             self.changed = now
-        elif not self.is_said and now - self.changed >= PATIENCE and (self.out or sys.stderr):
-            self.is_said = True
+        elif not self.is_said and now - self.changed >= PATIENCE and (self.out or sys.stderr):  # guard: where-nobody-hears
+            self.is_said = True  # guard: once
             command = running(self.tracer)
-            with suppress(OSError):  # nobody reads it, or the device is full: the recording goes on
+            with suppress(OSError):  # nobody reads it, or the device is full: the recording goes on  # guard: where-it-cannot-be-written
                 print(printable(LINE % (PATIENCE // 60, "; this runs: " + command if command else "")), file=self.out or sys.stderr, flush=True)
 
 
@@ -56,6 +56,6 @@ def running(tracer: int) -> str:
         with suppress(OSError), open("/proc/%d/status" % pid, errors="replace") as status, open("/proc/%d/cmdline" % pid, errors="replace") as words:
             name = STATUS.match(status.read())
             found[pid] = (name[1], int(name[2]), words.read(), began(pid)) if name else ("", 0, "", 0)
-    in_order = [found[pid] for pid in sorted(found, key=lambda pid: (found[pid][3], pid))]  # (numbers begin again)
-    commands = [words for name, parent, words, _ in in_order if name not in BUILDERS and found.get(parent, ("",))[0] in BUILDERS]
+    in_order = [found[pid] for pid in sorted(found, key=lambda pid: (found[pid][3], pid))]  # (numbers begin again)  # guard: numbers-that-begin-again
+    commands = [words for name, parent, words, _ in in_order if name not in BUILDERS and found.get(parent, ("",))[0] in BUILDERS]  # guard: recipe
     return " ".join(commands[-1].replace("\0", " ").split())[:WIDTH] if commands else ""

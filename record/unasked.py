@@ -22,7 +22,7 @@ def unasked(makes: List[Make], ninjas: List[Ninja]) -> List[str]:
             asked.update((make.folder, name) for name in others_of(one.base or Base(), set(one.nodes)))
     for ninja in ninjas:
         if ninja.stages:
-            there.update(((ninja.folder, edge.label), None) for edge in ninja.stages[-1].manifest.edges if not edge.is_phony and not edge.is_generator)
+            there.update(((ninja.folder, edge.label), None) for edge in ninja.stages[-1].manifest.edges if not edge.is_phony and not edge.is_generator)  # guard: statements-that-nothing-asked
             asked.update((ninja.folder, edge.label) for edge in ninja.wanted())
     return [name for folder, name in there if (folder, name) not in asked]
 

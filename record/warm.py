@@ -17,7 +17,7 @@ from record.ninja.runs import Ninja
 from record.trace.names import Names
 
 CHANGES = "WCDMTX"  # kinds of events of a file or a folder
-BUILDS = re.compile(r"make|ninja", re.I)  # a recipe that may run several others
+BUILDS = re.compile(r"make|ninja", re.I)  # a recipe that may run several others  # guard: recipes-that-build
 RUNS_NOTHING = re.compile(r"[\s@+-]*(?:true|:)?\s*")  # a line of a recipe
 MAKES_FOLDER = re.compile(r"\s*[@+-]*\s*mkdir\s+(?:(?:-p|--parents)\s+)?(?:\$@|\$\(@\)|([^\s;&|<>`$*?\[]+?))/?\s*")
 
@@ -33,18 +33,18 @@ def warm_names(builds: List[Build], ninjas: List[Ninja], names: Names, cleaned: 
     for build in builds:
         if isinstance(build, MakeBuild) and build.stage == "goals":
             nodes = [node for node in build.graph.nodes.values() if is_made(build, node, builds) and not cleaned.is_gone(node.path, build.make.life)]
-            found.update(node.path for node in nodes if not is_new_link(build, node, names))
-            beyond.update(node.path for node in nodes if not (node.jobs or node.must) and is_beyond(node.path, names))
+            found.update(node.path for node in nodes if not is_new_link(build, node, names))  # guard: links-that-are-made
+            beyond.update(node.path for node in nodes if not (node.jobs or node.must) and is_beyond(node.path, names))  # guard: targets-outside-of-project
     for build in builds:
         if isinstance(build, MakeBuild) and build.stage == "makefiles":
             found.difference_update(node.path for node in build.graph.nodes.values())
     made = {path for ninja in ninjas for path in made_by(ninja, names)}
     for ninja in ninjas:
-        own = {path for path in targets_of(ninja, names) if not cleaned.is_gone(path, ninja.life)}
-        found.update(own)
-        left.update(path for path in own - made if path in names.before)  # a folder too: its statement did not run
-        beyond.update(path for path in own - made if is_beyond(path, names))
-    return sorted({*left, *(path for path in found if names.before.get(path) in ("f", "l")), *beyond & found})
+        own = {path for path in targets_of(ninja, names) if not cleaned.is_gone(path, ninja.life)}  # guard: what-is-removed-first
+        found.update(own)  # guard: outputs
+        left.update(path for path in own - made if path in names.before)  # a folder too: its statement did not run  # guard: folder-that-is-up-to-date
+        beyond.update(path for path in own - made if is_beyond(path, names))  # guard: outputs-outside-of-project
+    return sorted({*left, *(path for path in found if names.before.get(path) in ("f", "l")), *beyond & found})  # guard: folders-that-are-left
 
 
 def is_made(build: MakeBuild, node: Node, builds: List[Build]) -> bool:
@@ -52,15 +52,15 @@ def is_made(build: MakeBuild, node: Node, builds: List[Build]) -> bool:
     that make begins with."""
     if not node.has_recipe or node.phony:
         return False
-    is_kept = not (node.jobs or node.must or any(node.path in other.writers for other in builds))
-    return not (is_kept and (does_nothing(build, node) or is_beginning(build, node)))
+    is_kept = not (node.jobs or node.must or any(node.path in other.writers for other in builds))  # guard: recipe-that-does-nothing-beside-one-that-writes
+    return not (is_kept and (does_nothing(build, node) or is_beginning(build, node)))  # guard: recipes-that-do-nothing
 
 
 def does_nothing(build: MakeBuild, node: Node) -> bool:
     """Whether the recipe of a target is the word `true` alone, or less, as for a file that the project has."""
     base = build.graph.base
-    shell = base.values.get("SHELL", "") if "SHELL" not in base.own else ""
-    return OF_SYSTEM.match(shell) is not None and os.path.basename(shell) in SHELLS and all(RUNS_NOTHING.fullmatch(line) for line in base.recipes.get(node.name, []))
+    shell = base.values.get("SHELL", "") if "SHELL" not in base.own else ""  # guard: recipes-that-do-nothing-in-shell
+    return OF_SYSTEM.match(shell) is not None and os.path.basename(shell) in SHELLS and all(RUNS_NOTHING.fullmatch(line) for line in base.recipes.get(node.name, []))  # guard: recipes-that-do-something
 
 
 def is_beginning(build: MakeBuild, node: Node) -> bool:
@@ -68,7 +68,7 @@ def is_beginning(build: MakeBuild, node: Node) -> bool:
     no such build, and where it is older than what it is made of, it is made again before all goals."""
     first = [name for start in build.make.words.read[:1] for name in start[:1]]
     is_inside = any(up.is_make or up.is_ninja for up in build.make.life.up() if up is not build.make.life)
-    return node.name in first and node.name in DEFAULTS and not is_inside
+    return node.name in first and node.name in DEFAULTS and not is_inside  # guard: makefile-that-words-name
 
 
 def did_nothing(builds: List[Build]) -> bool:
@@ -76,7 +76,7 @@ def did_nothing(builds: List[Build]) -> bool:
     changed one, by `$(file ..)`."""
     works = [work for build in builds for task in build.tasks if task.kind == "recipe" for work in task.works]
     acts = [work for build in builds if build.tool == "make" for work in build.make.acts.values()]
-    return all(work.makes or work.ninjas for work in works) and not any(kind in CHANGES for work in works + acts for kind, _ in work.events)
+    return all(work.makes or work.ninjas for work in works) and not any(kind in CHANGES for work in works + acts for kind, _ in work.events)  # guard: make-inside
 
 
 def made_unseen(makes: List[Make], ninjas: List[Ninja], names: Names, now: Dict[str, str]) -> List[str]:
@@ -90,7 +90,7 @@ def made_unseen(makes: List[Make], ninjas: List[Ninja], names: Names, now: Dict[
             found.update(names.find(make.folder, one.vpath.get(n, n), True).path for n in one.nodes if recipes.get(n) and n not in one.must and n not in ran)
     for ninja in ninjas:
         found.update(targets_of(ninja, names) - made_by(ninja, names))
-    return sorted(path for path in found if path not in now and machine.isfile(path) and any(is_below(path, top) for top in names.tops))
+    return sorted(path for path in found if path not in now and machine.isfile(path) and any(is_below(path, top) for top in names.tops))  # guard: target-that-something-else-makes
 
 
 def is_beyond(path: str, names: Names) -> bool:
@@ -104,10 +104,10 @@ def left_folders(build: Build, builds: List[Build], names: Names) -> Iterator[st
     if not isinstance(build, MakeBuild) or build.stage != "goals":
         return
     for node in build.graph.nodes.values():
-        if node.has_recipe and not node.phony and names.before.get(node.path) == "d" and not any(kind != "d" and is_below(path, node.path) for path, kind in names.before.items()):
+        if node.has_recipe and not node.phony and names.before.get(node.path) == "d" and not any(kind != "d" and is_below(path, node.path) for path, kind in names.before.items()):  # guard: folders-with-sources
             lines = [MAKES_FOLDER.fullmatch(line) for line in build.graph.base.recipes.get(node.name, [])]
             is_plain = bool(lines) and all(line and line.group(1) in (None, node.name.rstrip("/")) for line in lines)
-            if not is_plain or any(True for _ in early_users(build, builds, node)):
+            if not is_plain or any(True for _ in early_users(build, builds, node)):  # guard: folders-that-all-wait
                 yield node.path
 
 
@@ -116,7 +116,7 @@ def early_users(build: MakeBuild, builds: List[Build], node: Node) -> Iterator[T
     inside = {id(make) for task in build.tasks for work in task.works for make in work.makes}
     for other in builds:
         own = [at for at, task in enumerate(other.tasks) if any(make is build.make for work in task.works for make in work.makes)]
-        for at, task in enumerate(other.tasks) if other is build or id(other.make) not in inside else ():
+        for at, task in enumerate(other.tasks) if other is build or id(other.make) not in inside else ():  # guard: folders-of-other-makes
             waits = node.label in build.graph.reached_from([task.node.label]) if other is build else any(one == at or other.is_before(one, at) for one in own)
             if not waits and any(is_below(path, node.path) for work in task.works for _, path in work.events):
                 yield task
@@ -129,13 +129,13 @@ def is_new_link(build: MakeBuild, node: Node, names: Names) -> bool:
 
 def is_made_link(path: str, names: Names) -> bool:
     """Whether there is a link at this path that was not there before."""
-    return machine.islink(path) and path not in names.before
+    return machine.islink(path) and path not in names.before  # guard: links
 
 
 def output_path(ninja: Ninja, path: str, names: Names) -> str:
     """The path of an output of a statement: of what a link leads to, except where the build has made the link."""
     own = names.find(ninja.folder, path, False).path
-    return own if is_made_link(own, names) else names.find(ninja.folder, path, True).path
+    return own if is_made_link(own, names) else names.find(ninja.folder, path, True).path  # guard: link-that-build-makes
 
 
 def targets_of(ninja: Ninja, names: Names) -> Set[str]:
@@ -143,7 +143,7 @@ def targets_of(ninja: Ninja, names: Names) -> Set[str]:
     manifest, which ninja itself reads: it, and what it needs."""
     edges = [edge for edge in ninja.wanted() if not edge.is_phony]
     below = ninja.below_manifest() if any(edge.is_generator for edge in edges) else set()
-    return {output_path(ninja, path, names) for edge in edges if not (edge.is_generator and edge.number in below) for path in edge.makes()}
+    return {output_path(ninja, path, names) for edge in edges if not (edge.is_generator and edge.number in below) for path in edge.makes()}  # guard: what-generates-for-others
 
 
 def made_by(ninja: Ninja, names: Names) -> Set[str]:
@@ -157,7 +157,7 @@ def stand_alone(warm: List[str], builds: List[Build], ninjas: List[Ninja]) -> bo
     One make alone built, and each other target with a recipe needs such a target, or is needed by it.
     """
     goals = [build for build in builds if isinstance(build, MakeBuild) and build.stage == "goals"]
-    if ninjas or len(goals) != 1 or len({id(build.make) for build in builds}) != 1:
+    if ninjas or len(goals) != 1 or len({id(build.make) for build in builds}) != 1:  # guard: several-makes
         return False
     graph, left = goals[0].graph, set(warm)
     nodes = [node for node in graph.nodes.values() if node.path in left and node.has_recipe]
@@ -176,7 +176,7 @@ def users_of(graph: Graph) -> Dict[str, List[str]]:
 
 def is_alone(graph: Graph, users: Dict[str, List[str]], node: Node) -> bool:
     """Whether a target was up to date, and its recipe is in order with all others and runs no make of its own."""
-    if node.jobs or node.must or node.phony or node.name in graph.base.double or BUILDS.search("\n".join(graph.base.recipes.get(node.name, []))):
+    if node.jobs or node.must or node.phony or node.name in graph.base.double or BUILDS.search("\n".join(graph.base.recipes.get(node.name, []))):  # guard: made-again
         return False
     ordered, todo = graph.reached_from([node.label]), users.get(node.label, [])[:]
     while todo:
@@ -184,4 +184,4 @@ def is_alone(graph: Graph, users: Dict[str, List[str]], node: Node) -> bool:
         if label not in ordered:
             ordered.add(label)
             todo.extend(users.get(label, []))
-    return all(label in ordered for label, other in graph.nodes.items() if other.has_recipe or other.jobs)
+    return all(label in ordered for label, other in graph.nodes.items() if other.has_recipe or other.jobs)  # guard: recipes-that-do-not-wait

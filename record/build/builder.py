@@ -67,7 +67,7 @@ class Builder:
 
     def acts_work(self, node: Node) -> Optional[Work]:
         """What make did itself for a target; of a double-colon target it may have been for each of its rules."""
-        return self.make.acts.get((self.number, node.name))
+        return self.make.acts.get((self.number, node.name))  # guard: later-rules
 
     def acts_of(self, node: Node) -> Iterable[Tuple[str, str]]:
         """The same of what make did itself for a target; once the writers are known, its looks at names that nobody writes are left out."""
@@ -118,13 +118,13 @@ class Builder:
         for kind, path in events:
             if kind in CHANGES and not path.endswith("/"):
                 task.writes.add(path)
-            elif kind in ASKS and path in writers:
+            elif kind in ASKS and path in writers:  # guard: failed-looks-are-reads
                 task.read(path)
             elif kind == LISTED:
                 folder, pattern = path.split("\0")
                 for name, who in created.get(folder, {}).items():
-                    if (who != {at}) and join(folder, name) not in self.made and fits(pattern, join(folder, name), self.names):
-                        task.read_by_list(join(folder, name))
+                    if (who != {at}) and join(folder, name) not in self.made and fits(pattern, join(folder, name), self.names):  # guard: patterns-keep-other-names-out
+                        task.read_by_list(join(folder, name))  # guard: listings-see-what-is-created
             elif kind == AGE_SEEN:
                 self.timed.setdefault(path, set()).add(at)
 

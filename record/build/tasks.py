@@ -47,11 +47,11 @@ class Task:
     def read(self, path: str) -> None:
         """Reads a name, or asks for it."""
         self.reads.add(path)
-        self.listed.discard(path)
+        self.listed.discard(path)  # guard: lists-of-folders-and-read-that-is-met
 
     def read_by_list(self, path: str) -> None:
         """Reads a name of a folder that it lists."""
-        if path not in self.reads:
+        if path not in self.reads:  # guard: lists-of-folders-and-read
             self.reads.add(path)
             self.listed.add(path)
 

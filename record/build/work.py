@@ -45,7 +45,7 @@ class Tool:
 def take_piece(work: Work, ran: Work, events: List[Tuple[str, str, int]]) -> None:
     """What make did by itself, and what it ran for that, belongs to a recipe."""
     work.lives += ran.lives
-    work.makes += ran.makes
+    work.makes += ran.makes  # guard: makes-that-make-calls
     for kind, path, place in events:
         work.add(kind, path, place)
 

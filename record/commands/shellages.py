@@ -21,30 +21,30 @@ READ_TIME_NAMES = re.compile(r"\b(?:st_|get)?atime\b|(?<!\S)-A\s")  # the same i
 # `ar` with `u` is not among them: it compares a file with its archive alone (record/make/ages.py).
 GAP = r"(?:[ \t]|\\\n)+"  # between two words of a command
 AGE_WORDS = re.compile(r"""
-      (^|\s|\[)[\"'\\]*-[\"'\\]*(-?([no][\"'\\]*t|[ac]?newer[\w-]*|mmin|atime|amin|cmin|ctime|f?printf)|mtime)[\"'\\]*[\s=]  # x -nt y, find -newer x, "-ot"
-    | \b(cp|mv|rsync|tar)\s+([^;|&\n]*?\s)?(-\w*u|--update(?!=all|=none))        # cp -pu x y
-    | (?:\btest|\[)GAP(?:!GAP)?(?![-!])(?:\\.|"(?:\\.|[^"\\])*"|'[^']*'|\$\([^()]*\)|`[^`]*`|[^\s"'\\`])+GAP
+      (^|\s|\[)[\"'\\]*-[\"'\\]*(-?([no][\"'\\]*t|[ac]?newer[\w-]*|mmin|atime|amin|cmin|ctime|f?printf)|mtime)[\"'\\]*[\s=]  # x -nt y, find -newer x, "-ot"  # guard: operators-behind-backslash
+    | \b(cp|mv|rsync|tar)\s+([^;|&\n]*?\s)?(-\w*u|--update(?!=all|=none))        # cp -pu x y  # guard: updates-that-compare-none
+    | (?:\btest|\[)GAP(?:!GAP)?(?![-!])(?:\\.|"(?:\\.|[^"\\])*"|'[^']*'|\$\([^()]*\)|`[^`]*`|[^\s"'\\`])+GAP  # guard: negated-operators
       -?(?:"-?\$[^"]*"|\$(?:\{[^{}]*\}|"[^"\s]*"|'[^'\s]*'|[^\s"'`;&|])+)GAP[^\s;&|\])]  # test x $how y
-    | \btar\s+\w*u\w*(?![\w./])                                                   # tar uf x.tar y, and no file: tar buffer.o
+    | \btar\s+\w*u\w*(?![\w./])                                                   # tar uf x.tar y, and no file: tar buffer.o  # guard: files-behind-name-of-tar
     | \bls\s+([^;|&\n]*?\s)?-\w*[tlc]                                             # ls -t
     | \bstat\b[^;|&\n]*%[WXYZwxyz]                                                # stat -c %Y x
     | --sort[= ]t                                                                 # ls --sort=time
     | \bdate\s+[^;|&\n]*-r                                                        # date -r x
-    | \bzstat\b|\bzsh/stat\b|\benable\s+-\w*f                                     # zmodload zsh/stat, enable -f finfo finfo
+    | \bzstat\b|\bzsh/stat\b|\benable\s+-\w*f                                     # zmodload zsh/stat, enable -f finfo finfo  # guard: ages
     """.replace("GAP", GAP), re.VERBOSE)
 OUTPUT = re.compile(r"(\s-o\s+)(?:\S*/)?(?:cp|mv|rsync|tar|ls|stat|date|test)(?=\s)")  # what a compiler writes: `gcc -o tar buffer.o -lunistring`; `xargs -o` runs a program
 # The same of one program, by its name: these words would be others elsewhere.
 SHOWS_AGES = {
-    "ls": re.compile(r"\s(-\w*[tlcugoni]|--(fu|fo|so|ti|in))"),  # --full-time, --format, --sort, --time, --inode
+    "ls": re.compile(r"\s(-\w*[tlcugoni]|--(fu|fo|so|ti|in))"),  # --full-time, --format, --sort, --time, --inode  # guard: numbers-of-files
     "date": re.compile(r"\s(-\w*r|--ref)"),
     "tar": re.compile(r"^\s\w*[uN]|\s(-\w*[uN]|--(ne|af|up|keep-n))"),  # --newer, --after-date, --update, --keep-newer-files
     "find": re.compile(r"\s-(f?ls|used|inum)\s"),
-    "cp": re.compile(r"\s(-\w*u|--u(?!\w*=(?:all|none)))"),  # not --update=none, as coreutils 9.3 and later have it
+    "cp": re.compile(r"\s(-\w*u|--u(?!\w*=(?:all|none)))"),  # not --update=none, as coreutils 9.3 and later have it  # guard: updates-that-compare-none-by-words-of-cp
     "mv": re.compile(r"\s(-\w*u|--u(?!\w*=(?:all|none)))"),
-    "du": re.compile(r"\s--ti"),
+    "du": re.compile(r"\s--ti"),  # guard: ages-by-du
 }
-TIME_OF_STAT = re.compile(r"%[-+ 0#'\d.]*[WXYZwxyzi]|\s(-\w*t|--t)")  # words of `stat` that show a time, or the number of a file, which goes by age: `-c %010Y`, `%i`, `-t`
-HEADED = re.compile(r"\s(?:-\w*[ucUC]|--(?:un|co))(?!.*\s(?:-L|--la))")  # words of `diff` by which its first lines show times
+TIME_OF_STAT = re.compile(r"%[-+ 0#'\d.]*[WXYZwxyzi]|\s(-\w*t|--t)")  # words of `stat` that show a time, or the number of a file, which goes by age: `-c %010Y`, `%i`, `-t`  # guard: tried-numbers-of-files
+HEADED = re.compile(r"\s(?:-\w*[ucUC]|--(?:un|co))(?!.*\s(?:-L|--la))")  # words of `diff` by which its first lines show times  # guard: names-in-front-of-what-differs
 LOADS = re.compile(r"@(?:load|include)\b")  # a text of awk that takes in what may ask for ages
 LOADED = re.compile(r"-[li]\S*|--(?:lo|in)\S*")  # a word of awk that does so
 QUALIFIED = re.compile(r"[\w*?\])/>]\(")  # a pattern of zsh that may ask for ages, as `*(om)` does
@@ -60,7 +60,7 @@ COMPUTED = re.compile(r"\beval[ \t]+[\"']?(?:\$\(|`)")  # `eval "$(..)"`: the te
 
 def without_outputs(text: str) -> str:
     """A text in which no program that a compiler writes has the name of a tool."""
-    return text if "xargs" in text else OUTPUT.sub(r"\1x", text)
+    return text if "xargs" in text else OUTPUT.sub(r"\1x", text)  # guard: what-compiler-writes
 
 
 def has_age_words(text: str) -> bool:
@@ -75,9 +75,9 @@ def script_compares(path: str, folder: str, depth: int = 0) -> bool:
         text = text_of(path, LARGE)
     except OSError:
         return True
-    if len(text) == LARGE or has_age_words(text) or COMPUTED.search(text) or depth > DEPTH:
+    if len(text) == LARGE or has_age_words(text) or COMPUTED.search(text) or depth > DEPTH:  # guard: texts-that-are-printed
         return True
-    return any("$" in name or script_compares(os.path.join(folder, name), folder, depth + 1) for name in sourced(text))
+    return any("$" in name or script_compares(os.path.join(folder, name), folder, depth + 1) for name in sourced(text))  # guard: scripts-that-script-takes
 
 
 @lru_cache(KEPT)
@@ -85,7 +85,7 @@ def tests_newer(path: str, argv: Tuple[str, ...], folder: str) -> bool:
     """Whether a script that a shell has opened tests which of two files is newer; so may one that cannot be read, other than the system's
     and what the shell's own script hands to others as their input."""
     found = tests_newer_in(path)
-    return not OF_SYSTEM.match(path) and not is_handed_on(path, list(argv), folder) if found is None else found
+    return not OF_SYSTEM.match(path) and not is_handed_on(path, list(argv), folder) if found is None else found  # guard: input-that-is-gone
 
 
 @lru_cache(KEPT)
@@ -99,14 +99,14 @@ def tests_newer_in(path: str) -> Optional[bool]:
 
 def is_handed_on(path: str, argv: List[str], folder: str) -> bool:
     """Whether the script of a shell names a file as input, and has no word by which the shell itself would read that."""
-    text = COMMENT.sub("", contents(os.path.join(folder, script_of(argv)))) if script_of(argv) else ""
-    return is_input(path, text) and not READS_INPUT.search(text)
+    text = COMMENT.sub("", contents(os.path.join(folder, script_of(argv)))) if script_of(argv) else ""  # guard: remarks-of-script
+    return is_input(path, text) and not READS_INPUT.search(text)  # guard: input-that-shell-reads-itself
 
 
 def is_unread(argv: List[str], folder: str) -> bool:
     """Whether a shell runs a text that nobody reads: one from standard input, or one that `eval` gets."""
     text, script = shell_words(argv)
-    return EVAL.search(text) is not None if text else not script or evals_output(os.path.join(folder, script))
+    return EVAL.search(text) is not None if text else not script or evals_output(os.path.join(folder, script))  # guard: ages-of-folder-in-text-that-nobody-reads
 
 
 @lru_cache(KEPT)
@@ -118,21 +118,21 @@ def evals_output(path: str) -> bool:
 @lru_cache(KEPT)
 def is_put_by_libtool(path: str) -> bool:
     """Whether a script is one that libtool has put in the place of a program."""
-    return OF_LIBTOOL.match(contents(path)) is not None
+    return OF_LIBTOOL.match(contents(path)) is not None  # guard: scripts-that-libtool-did-not-write
 
 
 def asks_where_it_leads(argv: List[str], above: List[str], folder: str) -> bool:
     """Whether a process is the `ls -ld` of such a script, which keeps no more of it than where a link leads. `above`: the words of who started it."""
-    return argv[:2] == ["ls", "-ld"] and bool(script_of(above)) and is_put_by_libtool(os.path.join(folder, script_of(above)))
+    return argv[:2] == ["ls", "-ld"] and bool(script_of(above)) and is_put_by_libtool(os.path.join(folder, script_of(above)))  # guard: other-links
 
 
 def shows_ages(argv: List[str]) -> bool:
     """Whether a program shows or compares ages, by words that are its own."""
     name, text = base_name(argv), "".join(" " + word for word in argv[1:]) + " "
-    if name == "zsh":
+    if name == "zsh":  # guard: patterns-of-zsh
         return bool(QUALIFIED.search(text))
     if name == "stat":
-        return not FORMAT_OF_STAT.search(text) or bool(TIME_OF_STAT.search(text))
+        return not FORMAT_OF_STAT.search(text) or bool(TIME_OF_STAT.search(text))  # guard: stat-without-format
     return name in SHOWS_AGES and bool(SHOWS_AGES[name].search(text))
 
 
@@ -141,7 +141,7 @@ def may_show_ages(argv: List[str], folder: str) -> bool:
     name = base_name(argv)
     if name in ("awk", "gawk"):
         texts = [contents(os.path.join(folder, word)) for before, word in zip(argv, argv[1:]) if before in ("-f", "--file")]
-        return any(LOADED.fullmatch(word) or LOADS.search(word) for word in argv[1:]) or any(map(LOADS.search, texts))
+        return any(LOADED.fullmatch(word) or LOADS.search(word) for word in argv[1:]) or any(map(LOADS.search, texts))  # guard: what-awk-loads
     return name == "diff" and HEADED.search("".join(" " + word for word in argv[1:])) is not None
 
 
@@ -150,8 +150,8 @@ def asks_reads(argv: List[str], folder: str) -> bool:
     is_known = base_name(argv) in SHELLS or base_name(argv) in ("test", "[", "find", "stat", "ls")
     if is_interpreter(argv):
         script = next((word for word in argv[1:] if not word.startswith("-")), "")
-        return bool(READ_TIME_NAMES.search(" ".join(argv)) or READ_TIME_NAMES.search(contents(os.path.join(folder, script))))
-    return is_known and (bool(READ_TIME_WORDS.search(without_outputs(" ".join(argv) + " "))) or bool(script_of(argv)) and asks_reads_in(os.path.join(folder, script_of(argv))))
+        return bool(READ_TIME_NAMES.search(" ".join(argv)) or READ_TIME_NAMES.search(contents(os.path.join(folder, script))))  # guard: words-of-interpreters
+    return is_known and (bool(READ_TIME_WORDS.search(without_outputs(" ".join(argv) + " "))) or bool(script_of(argv)) and asks_reads_in(os.path.join(folder, script_of(argv))))  # guard: scripts
 
 
 @lru_cache(KEPT)
@@ -162,13 +162,13 @@ def asks_reads_in(path: str) -> bool:
 
 def compares_ages(argv: List[str], folder: str) -> bool:
     """Whether a process may depend on which of two files is newer."""
-    if shows_ages(argv):
+    if shows_ages(argv):  # guard: words-of-their-own
         return True
     text, script = shell_words(argv)
-    if base_name(argv) in SHELLS and not text and not script:
+    if base_name(argv) in SHELLS and not text and not script:  # guard: script-from-standard-input
         return True  # its script comes from standard input, and nobody can read it
-    if script and is_put_by_libtool(os.path.join(folder, script)):
+    if script and is_put_by_libtool(os.path.join(folder, script)):  # guard: scripts-that-libtool-puts-in-place-of-programs
         return False
     if script and "libtool" not in script:
-        return script_compares(os.path.join(folder, script), folder) or has_age_words(" ".join(argv[1:]) + " ")
+        return script_compares(os.path.join(folder, script), folder) or has_age_words(" ".join(argv[1:]) + " ")  # guard: words-of-script
     return has_age_words(" ".join(argv) + " ") or bool(TAKES_IN.search(text))

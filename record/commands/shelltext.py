@@ -25,37 +25,37 @@ VERSIONED = re.compile(r"(?:[\w.]+-linux-gnu-)?([a-z+\[.][a-z0-9+.]*?)(?:-[\d.]+
 TOOLS = re.compile(r"/usr/(?:local/)?bin/(?:makeinfo|texi2any|pod2man|pod2text|help2man)$")  # scripts of the system that compare no ages
 PROGRESS = ("cmake_progress_start", "cmake_progress_report", "cmake_echo_color")  # what `cmake -E` does to count what is built
 # A folder that `cp` or `mv` copies gets its names in that order; with `-v` or `-c` the last four say in which order they come to names.
-SORTERS, NAMING = ("make", "gmake", "rm", "chmod", "chown", "rmdir", "git"), ("rm", "rmdir", "chmod", "chown")
+SORTERS, NAMING = ("make", "gmake", "rm", "chmod", "chown", "rmdir", "git"), ("rm", "rmdir", "chmod", "chown")  # guard: copies
 COMPRESSORS = ("gzip", "pigz", "bzip2", "xz", "lzma", "lzip", "zstd", "compress")  # they refuse a file that has two names; `tar` that unpacks counts none
-UNPACKS = re.compile(r"\S+(?: -C \S+| --\w[\w-]*=\S*)* (?:-?[vzjJapmko]*x[a-zA-Z]*|--extract|--get)(?: |$)")
+UNPACKS = re.compile(r"\S+(?: -C \S+| --\w[\w-]*=\S*)* (?:-?[vzjJapmko]*x[a-zA-Z]*|--extract|--get)(?: |$)")  # guard: tar-that-packs
 # Scripts that make folders for themselves, and what Perl's makefiles make folders by.
 MAKERS, EXTUTILS = ("install-sh", "mkinstalldirs", "libtool"), re.compile(r"-MExtUtils::Command -e mkpath$|-MExtUtils::Install -e pm_to_blib\(")
-PASSING = ("env", "nice", "ionice", "setsid", "timeout", "flock", "time", "stdbuf")  # they leave errors to who runs in their place
+PASSING = ("env", "nice", "ionice", "setsid", "timeout", "flock", "time", "stdbuf")  # they leave errors to who runs in their place  # guard: programs-that-hand-errors
 
 # Words of programs.
 NAMES_NEXT = re.compile(r"[-+]\w*[oO]\w*|--rcfile|--init-file")  # options of a shell whose value is the next word: `-euo pipefail`
-AT_ONCE = re.compile(r"\s(?:-\w*P\s*|--max-procs[= ])(?!\s|1\s)")  # of xargs, by which it runs several programs at once: `-P 4`
+AT_ONCE = re.compile(r"\s(?:-\w*P\s*|--max-procs[= ])(?!\s|1\s)")  # of xargs, by which it runs several programs at once: `-P 4`  # guard: xargs-of-one-job
 FORCES, SAYS = re.compile(r"-[a-zA-Z]*f[a-zA-Z]*|--force"), re.compile(r"-[a-zA-Z]*[viI][a-zA-Z]*|--(?:verbose|interactive.*)")  # of rm: `-rf`, `-v`
 SHOWS = re.compile(r"-(?:print|ls|fprint|fls|exec|ok)")  # what find does beside `-delete`
 FORMAT_OF_STAT = re.compile(r"\s(-\w*c|--f|--p)")  # `stat -c`, `--format`, `--printf`: it shows no more than that asks for
 SIZE_OF_STAT = re.compile(r"%[-+ 0#'\d.]*[sbB]")  # a format that asks for a size: `%s`, `%010b`
-SHOWS_SIZES = {"ls": re.compile(r"\s(-\w*[sS]|--si|--so\w*[= ]s)"), "find": re.compile(r"\s-size\s")}  # `ls -s`, `--size`, `--sort=size`
+SHOWS_SIZES = {"ls": re.compile(r"\s(-\w*[sS]|--si|--so\w*[= ]s)"), "find": re.compile(r"\s-size\s")}  # `ls -s`, `--size`, `--sort=size`  # guard: how-large-ls-shows
 
 # Words of a shell's text.
-OPTIONS = re.compile(r"\b(shopt|compgen|GLOBIGNORE)\b|\s[-+]O\s")  # of bash, by which patterns say something else, or nothing
+OPTIONS = re.compile(r"\b(shopt|compgen|GLOBIGNORE)\b|\s[-+]O\s")  # of bash, by which patterns say something else, or nothing  # guard: names-that-bash-completes
 # A text of another file, or one that is put together: `. ./x`, `then source x`, `a=1 eval "$x"`.
 TAKES_IN = re.compile(r"(^|[;&|({\n`!]\s*|\b(then|do|else|elif|if|while|until|time|command|builtin)\s+|\b\w+=\S*\s+)(\.|source|eval)\s")
-DOT = re.compile(r"(^|(?<!\\)[;&|\n])(?:[ \t]|\\\n)*\.[ \t]+(?![-=!<>&|;\])])")  # the same at the begin of a command, where no test of bash goes on: `[[ x && . -nt y ]]`
+DOT = re.compile(r"(^|(?<!\\)[;&|\n])(?:[ \t]|\\\n)*\.[ \t]+(?![-=!<>&|;\])])")  # the same at the begin of a command, where no test of bash goes on: `[[ x && . -nt y ]]`  # guard: dots-on-next-line
 # The name of a script that a script takes in: `./x` in `if . ./x; then`, see `sourced`.
 SOURCED = re.compile(r"""
     (?: (?:^|[;&|{(!]|=`|\w=\S*[ \t])[ \t]*                                  # where a command begins, and behind `a=1 `
-      | \b(?:then|do|else|elif|if|while|until|time|command|builtin)[ \t]+ )
+      | \b(?:then|do|else|elif|if|while|until|time|command|builtin)[ \t]+ )  # guard: scripts-behind-if
     (?:\.|source)[ \t]+([^\s;&|)#]+)
     """, re.MULTILINE | re.VERBOSE)
 # Macros in the environment that give bash other options, and functions there: then the words of a shell do not say what it does.
 SHELL_MACROS = {"BASHOPTS", "SHELLOPTS"}
 SETS_OPTIONS = re.compile(r"\b(BASHOPTS|SHELLOPTS|BASH_FUNC_)|\bexport\s+-\w*f|\b(declare|typeset)\s+-(?=\w*x)\w*f")
-WORD = re.compile(r"[^\s;|&<>()'\"`]+")  # a text without a word may be long: each sign is looked at once
+WORD = re.compile(r"[^\s;|&<>()'\"`]+")  # a text without a word may be long: each sign is looked at once  # guard: long-words-without-pattern
 MAGIC = re.compile(r"[*?\[]")  # what makes a word a pattern
 BRACKETS = re.compile(r"\[[!^]?\]?(?:\[[:.=][^\]]*[:.=]\]|[^\]/])*\]")  # one of several characters: `[a-z]`; what is quoted in it cuts a word
 DIRECTORY = r"(?:\"[^\"]*\"|'[^']*'|[^\s;|&<>()'\"`]+)"  # a word that names a folder, perhaps in quotes
@@ -73,10 +73,10 @@ def is_removal(argv: List[str]) -> bool:
     """Whether a process does no more with what it finds than to remove it: it does not say what it found, by its status or its output."""
     name = base_name(argv)
     if name == "find":
-        return "-delete" in argv and not any(SHOWS.match(word) for word in argv)
-    words = argv if name == "rm" else shell_text(argv).split() if REMOVES.match(shell_text(argv)) else []
+        return "-delete" in argv and not any(SHOWS.match(word) for word in argv)  # guard: what-find-does-beside
+    words = argv if name == "rm" else shell_text(argv).split() if REMOVES.match(shell_text(argv)) else []  # guard: what-is-removed
     options = [word for word in words[1:] if word.startswith("-")]
-    return any(FORCES.fullmatch(word) for word in options) and not any(SAYS.fullmatch(word) for word in options)
+    return any(FORCES.fullmatch(word) for word in options) and not any(SAYS.fullmatch(word) for word in options)  # guard: status
 
 
 def shell_words(argv: List[str]) -> Tuple[str, str]:
@@ -126,19 +126,19 @@ def with_interpreter(argv: List[str], path: str, words: List[str]) -> List[str]:
 def patterns(argv: List[str], cut: bool) -> Iterable[str]:
     """The patterns that a listing of a folder by this process can be about."""
     text = shell_text(argv)
-    if not text or cut or "$" in text or "`" in text or re.search(r"\beval\b", text):
+    if not text or cut or "$" in text or "`" in text or re.search(r"\beval\b", text):  # guard: patterns-of-computed-text
         return ["*"]
-    if OPTIONS.search(" ".join(argv)) or TAKES_IN.search(text) or base_name(argv) in ("ksh", "zsh"):
+    if OPTIONS.search(" ".join(argv)) or TAKES_IN.search(text) or base_name(argv) in ("ksh", "zsh"):  # guard: other-shells
         return ["*"]
     words = glob_words(text)
     last = {os.path.basename(word) for word in words}
-    middle = {folders_of(part) for word in words for part in word.split("/")[:-1] if re.search(r"[*?]", part)}
+    middle = {folders_of(part) for word in words for part in word.split("/")[:-1] if re.search(r"[*?]", part)}  # guard: text
     return sorted((last | middle) - {""}) or ["*"]
 
 
 def folders_of(pattern: str) -> str:
     """The pattern by which a shell looks for folders alone: there are more parts of the path behind it."""
-    return (pattern if pattern.strip("*") else "?*") + "/"
+    return (pattern if pattern.strip("*") else "?*") + "/"  # guard: behind-quote
 
 
 def glob_words(text: str) -> List[str]:
@@ -152,10 +152,10 @@ def glob_words(text: str) -> List[str]:
         start = match.start() + match.group().rfind("=", 0, sign.start()) + 1  # behind an assignment
         word, before, behind = text[start:match.end()], text[max(0, start - 2):start], text[match.end():match.end() + 1]
         bare = word.rstrip("\\")
-        begins = "*" if before[-1:] in ("'", '"', "=") or before[-2:-1] == "\\" else ""
-        ends = "*" if behind[:1] in ("'", '"') or bare != word else ""
+        begins = "*" if before[-1:] in ("'", '"', "=") or before[-2:-1] == "\\" else ""  # guard: before-word
+        ends = "*" if behind[:1] in ("'", '"') or bare != word else ""  # guard: behind-word
         pattern = begins + loose(bare) + ends
-        found.append("*" if re.search(r"[{}]", pattern) or ends and "[" in BRACKETS.sub("", bare) else pattern)
+        found.append("*" if re.search(r"[{}]", pattern) or ends and "[" in BRACKETS.sub("", bare) else pattern)  # guard: braces-with-blanks
     return found
 
 
@@ -171,9 +171,9 @@ def loose(pattern: str) -> str:
 def is_quiet_mkdir(argv: List[str]) -> bool:
     """`mkdir -p` or `install -d`, which do not show whether the folder was there."""
     name, words = base_name(argv), argv[1:]
-    loud = any(w.startswith("--v") or re.match(r"-[a-zA-Z]*v", w) for w in words)
+    loud = any(w.startswith("--v") or re.match(r"-[a-zA-Z]*v", w) for w in words)  # guard: word-that-is-cut
     if name == "mkdir":
-        return not loud and any(w == "--parents" or re.match(r"-[a-zA-Z]*p", w) for w in words)
+        return not loud and any(w == "--parents" or re.match(r"-[a-zA-Z]*p", w) for w in words)  # guard: mkdir-v-is-not-quiet
     return name in ("install", "ginstall") and not loud and any(w == "--directory" or re.match(r"-[a-zA-Z]*[dD]", w) for w in words)
 
 
@@ -188,14 +188,14 @@ def given_by(argv: Tuple[str, ...]) -> Tuple[str, Tuple[str, ...]]:
         return "", ()
     found = {name.lstrip("-")[0]: value for name, value in options}
     is_known = "d" in found and ("o" in found or "g" in found)
-    return ("%s %s:%s" % (found.get("m", "755"), found.get("o", ""), found.get("g", "")), tuple(names)) if is_known else ("", ())
+    return ("%s %s:%s" % (found.get("m", "755"), found.get("o", ""), found.get("g", "")), tuple(names)) if is_known else ("", ())  # guard: modes
 
 
 def maker_at(argv: List[str]) -> int:
     """Where the words behind the first name a script that builds carry, which makes folders for itself; -1 where none does."""
     name, words = base_name(argv), argv[1:]
     if name == "perl":
-        return 2 if EXTUTILS.match(" ".join(words[:3])) else -1
+        return 2 if EXTUTILS.match(" ".join(words[:3])) else -1  # guard: extutils-of-perl
     if name not in SHELLS and name != "cmake":
         return -1
     if name == "cmake" and words[:2] == ["-E", "make_directory"]:
@@ -207,7 +207,7 @@ def makes(argv: List[str], folder: str) -> bool:
     """Whether such a script makes this folder for itself, and needs no more than that it is there."""
     at, words = maker_at(argv), argv[1:]
     if at < 0:
-        return is_on_the_way(folder, output_folder(argv))
+        return is_on_the_way(folder, output_folder(argv))  # guard: folder-that-it-makes
     if os.path.basename(words[at]) == "libtool":
         return os.path.basename(folder) in (".libs", "_libs")
     if os.path.basename(words[at]) == "install-sh" and "-d" not in words:
@@ -215,7 +215,7 @@ def makes(argv: List[str], folder: str) -> bool:
     names, filled = [word for word in words[at + 1:] if not word.startswith("-")], re.findall(r"'([^']*)'", words[at])
     if words[at].startswith("pm_to_blib"):
         names = [os.path.dirname(name) for name in names] + filled
-    return any(is_on_the_way(folder, name) for name in names) or any("/" + os.path.normpath(name) + "/" in folder for name in filled)
+    return any(is_on_the_way(folder, name) for name in names) or any("/" + os.path.normpath(name) + "/" in folder for name in filled)  # guard: no-other-folder
 
 
 def above(argv: List[str], folder: str) -> List[str]:
@@ -247,8 +247,8 @@ def quiet_folders(text: str, is_kept: bool = False) -> Set[str]:
         r"if\s+(?:(?:test|\[)\s+!|!\s+(?:test|\[))" + asked + r"\s*;\s*then\s+" + made + r"\s*;\s*fi" + ends,
     )
     begin = r"(?:^|[;\n({&]|\bthen|\bdo)\s*"
-    found = [m for form in forms for m in re.finditer(begin + form, text) if throws_away(m) or not (is_kept and "made" not in m.groupdict() or KEPT_ERRORS.search(NOWHERE.sub(" ", text)))]
-    return {s for m in found if makes_it(m) for s in spelled_by(m)}
+    found = [m for form in forms for m in re.finditer(begin + form, text) if throws_away(m) or not (is_kept and "made" not in m.groupdict() or KEPT_ERRORS.search(NOWHERE.sub(" ", text)))]  # guard: errors-that-are-kept
+    return {s for m in found if makes_it(m) for s in spelled_by(m)}  # guard: one-that-is-made
 
 
 def is_excused(argv: List[str], folder: str, is_kept: bool = False) -> bool:
@@ -257,14 +257,14 @@ def is_excused(argv: List[str], folder: str, is_kept: bool = False) -> bool:
     if not any(folder.endswith("/" + s.lstrip("./")) for s in quiet_folders(text, is_kept)):
         return False
     looks, name = re.sub(r"\binstall\s+-d\b", "install", text), re.escape(os.path.basename(folder)) + r"(?![\w./-])"
-    return all(len(re.findall(begins + name, looks)) <= 1 for begins in (r"(?:-[defrwxs]\s+|\bls\s+|\bstat\s+)\S*", r"\bmkdir\s+(?!-p\b|--p)[^;&|\n]*?"))
+    return all(len(re.findall(begins + name, looks)) <= 1 for begins in (r"(?:-[defrwxs]\s+|\bls\s+|\bstat\s+)\S*", r"\bmkdir\s+(?!-p\b|--p)[^;&|\n]*?"))  # guard: twice-in-text
 
 
 def throws_away(form: "re.Match[str]") -> bool:
     """Whether a quiet form throws the errors of `mkdir` away: `2>/dev/null`, or `>/dev/null 2>&1` in this order."""
     output = errors = False
     for word in re.findall(r"2>&1|2?>\s*/dev/null", form.groupdict().get("errors") or ""):
-        output, errors = output or word[0] == ">", output if "&" in word else errors or word[0] == "2"
+        output, errors = output or word[0] == ">", output if "&" in word else errors or word[0] == "2"  # guard: errors-of-mkdir
     return errors or "made" in form.groupdict() and "/dev/null" in form.group()
 
 
@@ -272,13 +272,13 @@ def spelled_by(form: "re.Match[str]") -> List[str]:
     """The folders that are there behind a quiet form: the one that it asks for, and those above where it makes them too."""
     name = os.path.normpath(form.group("d").strip("'\""))
     parts = name.split("/")
-    return [name] if "made" not in form.groupdict() else ["/".join(parts[:count]) for count in range(1, len(parts) + 1) if parts[count - 1] not in ("", ".", "..")]
+    return [name] if "made" not in form.groupdict() else ["/".join(parts[:count]) for count in range(1, len(parts) + 1) if parts[count - 1] not in ("", ".", "..")]  # guard: those-above
 
 
 def makes_it(form: "re.Match[str]") -> bool:
     """Whether a quiet form makes the folder that it asks for, or one below it."""
     made = form.groupdict().get("made")
-    return made is None or (os.path.normpath(made.strip("'\"")) + "/").startswith(os.path.normpath(form.group("d").strip("'\"")) + "/")
+    return made is None or (os.path.normpath(made.strip("'\"")) + "/").startswith(os.path.normpath(form.group("d").strip("'\"")) + "/")  # guard: one-below-it-is-made
 
 
 def is_ageless(argv: List[str]) -> bool:
@@ -296,9 +296,9 @@ def sorts_names(argv: List[str]) -> bool:
     """Whether a program that lists a folder sorts what it finds, or does the same with each name."""
     name = base_name(argv)
     if name == "ls":
-        return not any(re.match(r"-\w*[Uf]|--so\w*(?:=n|$)", word) for word in argv[1:])
+        return not any(re.match(r"-\w*[Uf]|--so\w*(?:=n|$)", word) for word in argv[1:])  # guard: that-ls-shows
     is_loud = name in NAMING and any(re.match(r"-\w*[vc]|--[vc]", word) for word in argv[1:])
-    return name in SHELLS or name in SORTERS and not is_loud
+    return name in SHELLS or name in SORTERS and not is_loud  # guard: that-rm-says
 
 
 def is_interpreter(argv: List[str]) -> bool:
@@ -309,7 +309,7 @@ def is_interpreter(argv: List[str]) -> bool:
 def names_here(argv: List[str]) -> bool:
     """Whether the words name the folder that a process is in; shells look at it anyway. A dot where a command of a shell begins takes in a script."""
     text, words = shell_text(argv), " ".join(argv)
-    return bool(re.search(r"\s(\./?|\$PWD)(\s|$)", words.replace(text, DOT.sub(r"\1", text)) if text else words))
+    return bool(re.search(r"\s(\./?|\$PWD)(\s|$)", words.replace(text, DOT.sub(r"\1", text)) if text else words))  # guard: dots-that-take-in-script
 
 
 def asks_size(argv: List[str]) -> bool:
@@ -340,15 +340,15 @@ def looks_at_links(argv: List[str]) -> bool:
     if name == "stat":
         return "%h" in text or not re.search(r"-c|--format|--printf", text)
     if name == "ls":
-        return bool(re.search(r"\s(-\w*[lnogs]|--(fo|fu))", text))
-    if name in ("find", "tar", "rsync", "cpio", *COMPRESSORS):
-        return bool(re.search(r"-links|-printf|-ls|-samefile", text)) if name == "find" else name != "tar" or not UNPACKS.match(text)
-    return is_interpreter(argv) and "stat" in text  # also in the text of `-c`
+        return bool(re.search(r"\s(-\w*[lnogs]|--(fo|fu))", text))  # guard: long-words
+    if name in ("find", "tar", "rsync", "cpio", *COMPRESSORS):  # guard: compressors
+        return bool(re.search(r"-links|-printf|-ls|-samefile", text)) if name == "find" else name != "tar" or not UNPACKS.match(text)  # guard: tar-that-unpacks
+    return is_interpreter(argv) and "stat" in text  # also in the text of `-c`  # guard: texts-of-interpreters-count
 
 
 def sets_options(argv: List[str], folder: str) -> bool:
     """Whether the words of a process give shells that it starts options or functions by way of the environment."""
-    return bool(SETS_OPTIONS.search(" ".join(argv))) or bool(script_of(argv)) and sets_options_in(os.path.join(folder, script_of(argv)))
+    return bool(SETS_OPTIONS.search(" ".join(argv))) or bool(script_of(argv)) and sets_options_in(os.path.join(folder, script_of(argv)))  # guard: functions-in-environment
 
 
 @lru_cache(KEPT)
@@ -363,7 +363,7 @@ def sets_options_in(path: str) -> bool:
 def takes_in(argv: List[str], path: str) -> bool:
     """Whether a shell with a text of its own that reads a file may take it in, as by `BASH_ENV`: its text does not name it as input."""
     text = shell_text(argv)
-    if not text or OF_SYSTEM.match(path):
+    if not text or OF_SYSTEM.match(path):  # guard: projects-below
         return False
     return not is_input(path, text)
 
@@ -381,7 +381,7 @@ def runs_at_once(argv: List[str]) -> bool:
 def hands_on(argv: List[str]) -> bool:
     """Whether a program leaves the errors of what it starts to the place where its own go."""
     text = shell_text(argv)
-    return not KEPT_ERRORS.search(NOWHERE.sub(" ", text)) if text else base_name(argv) in PASSING
+    return not KEPT_ERRORS.search(NOWHERE.sub(" ", text)) if text else base_name(argv) in PASSING  # guard: errors-that-program-above-keeps
 
 
 class Traits:
@@ -392,10 +392,10 @@ class Traits:
         self.makes_folders = maker_at(argv) >= 0 or output_folder(argv) != ""
         self.looks_at_links = looks_at_links(argv)
         self.is_interpreter = is_interpreter(argv)
-        self.is_tool = self.is_interpreter and TOOLS.match("".join(argv[1:2])) is not None
+        self.is_tool = self.is_interpreter and TOOLS.match("".join(argv[1:2])) is not None  # guard: system-alone
         self.is_ageless = is_ageless(argv)
         self.asks_size = asks_size(argv)
-        self.asks_input = base_name(argv) == "stat" and "-" in argv[1:]
+        self.asks_input = base_name(argv) == "stat" and "-" in argv[1:]  # guard: standard-input
         self.is_shell = base_name(argv) in SHELLS
         self.shows_progress = shows_progress(argv)
         self.is_open: Optional[bool] = None  # whether a shell runs what does not stand in its text, or another program may show ages, as far as that was asked

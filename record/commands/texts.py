@@ -12,7 +12,7 @@ BINARY = "\x7fELF"  # how programs and libraries begin
 
 def is_plain(path: str) -> bool:
     """Whether a file can be read again."""
-    return machine.isfile(path) and not os.path.normpath(path).startswith(OF_PROCESS)
+    return machine.isfile(path) and not os.path.normpath(path).startswith(OF_PROCESS)  # guard: what-cannot-be-read-again
 
 
 def text_of(path: str, limit: int = -1) -> str:

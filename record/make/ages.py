@@ -33,9 +33,9 @@ def add_ages(builder: RoundBuilder) -> None:
         for path in names[1:]:
             compare(builder, at, names[0], path, node.name)
         for who, work in works_of(builder, at):
-            inner_ages(builder, who, work)
-            ages_by_words(builder, who, work)
-            ages_in_archives(builder, who, work)
+            inner_ages(builder, who, work)  # guard: inner-makes
+            ages_by_words(builder, who, work)  # guard: words-of-program
+            ages_in_archives(builder, who, work)  # guard: ages-by-ar
 
 
 def works_of(builder: Builder, at: int) -> List[Tuple[int, Work]]:
@@ -49,15 +49,15 @@ def note_sources(builder: Builder) -> None:
     """Which names take over the age of which others: a file that is moved or linked, and one whose time a program sets, as `cp -p`
     and `touch -r` do, from what it looked at. An archive keeps the ages of what was put in, and may go through a pipe to who unpacks or keeps it."""
     for works in [*(works_of(builder, at) for at in range(len(builder.build.tasks))), *([(-1, work)] for _, work in builder.askers.works)]:
-        showing = (life for _, work in works for life in work.lives if any(map(shellages.shows_ages, life.ran)))
+        showing = (life for _, work in works for life in work.lives if any(map(shellages.shows_ages, life.ran)))  # guard: that-another-program-looks
         shown = {path for life in showing for kind, path in life.events if kind == AGE_SEEN}  # a time may come from such a program, as a word
-        shown |= {path for _, work in works for path in packed(work)}
+        shown |= {path for _, work in works for path in packed(work)}  # guard: ages-through-pipe
         for life in (life for _, work in works for life in work.lives):
-            names = {path for kind, path in life.events if kind in (READ, SEEN)} | (life.handed() | shown if any(kind == AGE_TAKEN for kind, _ in life.events) else set())
+            names = {path for kind, path in life.events if kind in (READ, SEEN)} | (life.handed() | shown if any(kind == AGE_TAKEN for kind, _ in life.events) else set())  # guard: standard-input-taken
             looked = made_here(builder, names)
             for name, source in takes_over(life):
                 builder.sources.setdefault(name, []).append({source} if source else looked)
-        for work in (work for _, work in works if pipes(work)):
+        for work in (work for _, work in works if pipes(work)):  # guard: archives-that-another-program-keeps
             looked = made_here(builder, packed(work))
             for path in (path for kind, path in work.events if kind == WRITTEN):
                 builder.sources.setdefault(path, []).append(looked)
@@ -65,12 +65,12 @@ def note_sources(builder: Builder) -> None:
 
 def made_here(builder: Builder, names: Set[str]) -> Set[str]:
     """Those names whose ages the build settles."""
-    return {path for path in names if path in builder.build.writers or path in builder.timers or path in builder.askers.copies}
+    return {path for path in names if path in builder.build.writers or path in builder.timers or path in builder.askers.copies}  # guard: copies-of-archives
 
 
 def packs(life: Life) -> bool:
     """Whether a process puts files with their ages into an archive; `ar` does so where its words ask for that."""
-    return any(shelltext.base_name(argv) in PACKERS or shelltext.base_name(argv) == "ar" and "U" in "".join(argv[1:2]) for argv in life.ran)
+    return any(shelltext.base_name(argv) in PACKERS or shelltext.base_name(argv) == "ar" and "U" in "".join(argv[1:2]) for argv in life.ran)  # guard: archives-of-ar
 
 
 def packed(work: Work) -> Set[str]:
@@ -87,7 +87,7 @@ def takes_over(life: Life) -> Iterator[Tuple[str, str]]:
     """The names that take over the age of others, each with the one that is known; nothing where it may be any at which a process looked."""
     is_packer = packs(life)
     for kind, path in life.events:
-        if kind == AGE_TAKEN or kind == WRITTEN and is_packer:
+        if kind == AGE_TAKEN or kind == WRITTEN and is_packer:  # guard: archives
             name, _, source = path.partition("\0")
             yield name, source
 
@@ -98,7 +98,7 @@ def writers_of(builder: Builder, path: str) -> Set[int]:
         seen, todo, found = {path}, [path], set()
         while todo:
             name = todo.pop()
-            found |= builder.build.writers.get(name, set()) | builder.timers.get(name, set()) | builder.births.get(name, set())
+            found |= builder.build.writers.get(name, set()) | builder.timers.get(name, set()) | builder.births.get(name, set())  # guard: folders-by-what
             new = set().union(*builder.sources.get(name, ())) - seen
             seen |= new
             todo.extend(new)
@@ -110,7 +110,7 @@ def compare(builder: Builder, at: int, first: str, second: str, own: str = "") -
     """A task compares the ages of two names; what the rules of its own target write to the first make does not see."""
     build = builder.build
     one, two = writers_of(builder, first), writers_of(builder, second)
-    one = {a for a in one if not own or build.tasks[a].node.name != own}
+    one = {a for a in one if not own or build.tasks[a].node.name != own}  # guard: age-that-make-saw-first
     if not one or not two or first == second:
         return
     for a in one:
@@ -125,7 +125,7 @@ def settle(builder: Builder, at: int, first: str, second: str, low: int, high: i
     builder.build.tasks[low].writes.add(name)
     builder.build.tasks[high].writes.add(name)
     builder.build.meanings[name] = "which of %s and %s is newer" % (first, second)
-    builder.build.askers.setdefault(name, at)
+    builder.build.askers.setdefault(name, at)  # guard: who-asks-for-ages
 
 
 def inner_ages(builder: Builder, at: int, work: Work) -> None:
@@ -151,7 +151,7 @@ def asks_links(flags: str, args: str) -> bool:
 
 def age_paths(names: Names, make: Make, name: str) -> List[str]:
     """The paths whose ages a make takes for that of a target: with `-L` that of a link too."""
-    return [names.find(make.folder, name, follow).path for follow in ((True, False) if asks_links(make.words.flags, make.words.args) else (True,))]
+    return [names.find(make.folder, name, follow).path for follow in ((True, False) if asks_links(make.words.flags, make.words.args) else (True,))]  # guard: their-own-age
 
 
 def settled_by(builder: Builder, at: int, work: Work, kind: str) -> Iterator[Tuple[int, int, str, str]]:
@@ -164,14 +164,14 @@ def settled_by(builder: Builder, at: int, work: Work, kind: str) -> Iterator[Tup
             wrote.setdefault(writer, []).append(path)
     for low, high in combinations(sorted(wrote), 2):
         first, second = wrote[low][0], next((p for p in wrote[high] if p != wrote[low][0]), wrote[low][-1])
-        if first != second and at not in (low, high) and build.unordered(low, high):
+        if first != second and at not in (low, high) and build.unordered(low, high):  # guard: two-names
             yield low, high, first, second
 
 
 def compared_in_archives(work: Work) -> Set[str]:
     """What else a packer compares where it takes in or puts out newer files alone (`tar -u`, `tar --keep-newer-files`): the ages in the archive that it
     changes, and of what another packer of the recipe hands on."""
-    return packed(work) if any(shellages.shows_ages(argv) for life in work.lives if packs(life) for argv in life.ran) else set()
+    return packed(work) if any(shellages.shows_ages(argv) for life in work.lives if packs(life) for argv in life.ran) else set()  # guard: newer-files-through-pipe
 
 
 def ages_in_archives(builder: Builder, at: int, work: Work) -> None:
@@ -181,7 +181,7 @@ def ages_in_archives(builder: Builder, at: int, work: Work) -> None:
         for archive in sorted({path for kind, path in life.events if kind in (READ, WRITTEN)}):
             others = builder.build.writers.get(archive, set()) - {at}
             members = {os.path.basename(path) for one in others for kind, path in builder.events(tasks[one]) if kind == READ}
-            for path in sorted({path for kind, path in life.events if kind in (READ, SEEN) and path != archive and os.path.basename(path) in members}):
+            for path in sorted({path for kind, path in life.events if kind in (READ, SEEN) and path != archive and os.path.basename(path) in members}):  # guard: ar-of-new-members
                 compare(builder, at, archive, path)
 
 
@@ -192,4 +192,4 @@ def ages_by_words(builder: Builder, at: int, work: Work, assumed: str = "ages", 
         settle(builder, at, first, second, low, high)
     unknown = next(settled_by(builder, at, work, AGE_UNKNOWN), None)
     if unknown is not None:
-        builder.assumed.add(assumed, "%s looks at %s and %s" % (words or builder.build.tasks[at].node.name, unknown[2], unknown[3]))
+        builder.assumed.add(assumed, "%s looks at %s and %s" % (words or builder.build.tasks[at].node.name, unknown[2], unknown[3]))  # guard: programs-that-may-compare-ages

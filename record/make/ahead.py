@@ -17,9 +17,9 @@ MACRO = re.compile(r"\$(?:\((?:call[ \t]+)?([\w.-]+)\)|\{(?:call[ \t]+)?([\w.-]+
 DIR = re.compile(r"\$[({]dir[ \t]+([^\s$(){},]+)[)}]")
 PATH = r"(?P<path>[^\s$*?\[\\(){},;|&<>'\"`~#]+)"
 # What makes a folder where it is not there, and says so at most: the beginning of a recipe's line, or all of it.
-MAKES = re.compile(r"[ \t@+-]*\$\(if \$\(wildcard " + PATH + r"\),,[ \t]*(?:@?echo [^;&|`$<>()\n]*;[ \t]*)?\$\(shell mkdir -p (?P=path)\)\)[ \t]*")
+MAKES = re.compile(r"[ \t@+-]*\$\(if \$\(wildcard " + PATH + r"\),,[ \t]*(?:@?echo [^;&|`$<>()\n]*;[ \t]*)?\$\(shell mkdir -p (?P=path)\)\)[ \t]*")  # guard: what-make-says
 LOOKS = re.compile(r"\b(?:wildcard|realpath|eval)\b")  # functions of make that may look at a folder, also by what make remembers
-ACTS = re.compile(LOOKS.pattern + r"|\b(?:shell|file)\b")  # and those that may use it
+ACTS = re.compile(LOOKS.pattern + r"|\b(?:shell|file)\b")  # and those that may use it  # guard: what-make-uses-before
 
 
 def makes_ahead(builder: Builder, at: int, folder: str) -> bool:
@@ -32,16 +32,16 @@ def makes_ahead(builder: Builder, at: int, folder: str) -> bool:
     if not isinstance(builder, RoundBuilder) or task.kind not in ("recipe", "look"):
         return False
     base, known = builder.graph.base, builder.known
-    if builder.make.words.exports_to_shell and any(ACTS.search(known.text_of(name)) for name in known.handed_on):
+    if builder.make.words.exports_to_shell and any(ACTS.search(known.text_of(name)) for name in known.handed_on):  # guard: shells-that-get-exported-macros
         return False  # one of them may look at the folder before the first `$(shell ..)` makes it
     lines = base.recipes.get(task.node.name, []) if ".SECONDEXPANSION" not in base.prerequisites else []
     for place, line in enumerate(lines):
         text = text_for(known, task.node.name, line)
-        found = MAKES.match(text)
+        found = MAKES.match(text)  # guard: those-that-make-makes-in-line
         if found is not None:
             path = builder.names.find(builder.make.folder, found.group("path"), True).path
-            is_here = (path + "/").startswith(folder + "/")
-            return is_here and not leads_to(known, lines[:place], ACTS) and not leads_to(known, [text[found.end():], *lines[place + 1:]], LOOKS)
+            is_here = (path + "/").startswith(folder + "/")  # guard: those-that-make-makes-for-this-recipe
+            return is_here and not leads_to(known, lines[:place], ACTS) and not leads_to(known, [text[found.end():], *lines[place + 1:]], LOOKS)  # guard: what-make-looks-at-before
     return False
 
 
@@ -63,8 +63,8 @@ def one_value(known: Macros, found: "re.Match[str]") -> str:
     """The text of a macro that is the same for all targets and that no recipe changes; else its name as it stands."""
     name = found.group(1) or found.group(2) or found.group(3)
     value, lines = known.base.values.get(name), known.base.bodies.get(name, [])
-    if value is None or ANY in known.changed or name in known.changed:
+    if value is None or ANY in known.changed or name in known.changed:  # guard: macros-that-recipes-change
         return found.group()
     if value == LINES_TEXT:
         return lines[0] if len(lines) == 1 else found.group()
-    return found.group() if lines else value
+    return found.group() if lines else value  # guard: macros-of-one-target

@@ -14,9 +14,9 @@ NAMED = "\x01"  # names without a pattern
 UNKNOWN = "\x02"  # anything
 SIGN = "\x03"  # a sign of a name that is none of a reference
 EARLIER = "\x04"  # stands around what a macro is at the end: it may have been another text before, which led to another folder
-FLOATS = re.compile("[%\x01-\x04]")  # with what an implicit rule puts in the place of `%`
+FLOATS = re.compile("[%\x01-\x04]")  # with what an implicit rule puts in the place of `%`  # guard: patterns-with-stem
 ODD = re.compile(r"[\\{}~]|[^\x01-\x04 -~\t\n]")  # words in which make may find other parts than we do
-SEPARATES = re.compile(r"[:|]")  # words of a rule, also where no blank stands there
+SEPARATES = re.compile(r"[:|]")  # words of a rule, also where no blank stands there  # guard: patterns-behind-bar
 ANY = "*"
 
 
@@ -35,7 +35,7 @@ def parts_of(word: str, is_odd: bool = False) -> Iterator[Asked]:
     parts = loose(word).split("/")
     for at, part in enumerate(parts):
         if MAGIC.search(part):
-            pattern = part if at == len(parts) - 1 else folders_of(part)
+            pattern = part if at == len(parts) - 1 else folders_of(part)  # guard: make
             is_open = is_odd or ODD.search(word) or FLOATS.search(part)  # a slash may stand in what is not known
             yield Asked(ANY if is_open else folder_of(parts[:at], word.startswith("/")), re.sub(FLOATS, shown, pattern))
 
@@ -54,22 +54,22 @@ def folder_of(parts: List[str], is_whole: bool) -> str:
             begin, names = ANY, []
         elif part not in ("", "."):
             names.append(part)
-    return "/".join([begin, *names]) if names or begin else "/"
+    return "/".join([begin, *names]) if names or begin else "/"  # guard: folders-of-patterns-by-their-names
 
 
 def pieces(word: str) -> Iterable[str]:
     """A word of a makefile, and the words that it may be in a rule."""
-    return dict.fromkeys((word, *SEPARATES.split(word)))
+    return dict.fromkeys((word, *SEPARATES.split(word)))  # guard: patterns-behind-colon
 
 
 def asked_in(asked: Iterable[Asked], own: str, folder: str, by_links: bool) -> List[str]:
     """The patterns that a make which works in its `own` folder asks for in a folder; all of them, where it went by links."""
-    return sorted({one.part for one in asked if by_links or fnmatchcase(folder, whole(one.folder, own))})
+    return sorted({one.part for one in asked if by_links or fnmatchcase(folder, whole(one.folder, own))})  # guard: folders-of-patterns
 
 
 def whole(pattern: str, own: str) -> str:
     """The pattern of a folder, as one of its whole path."""
-    return os.path.normpath(os.path.join(glob.escape(own), pattern)) if pattern[:1] != ANY else pattern
+    return os.path.normpath(os.path.join(glob.escape(own), pattern)) if pattern[:1] != ANY else pattern  # guard: folders-by-way-of-others
 
 
 def is_of_linker(life: Life) -> bool:

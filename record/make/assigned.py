@@ -10,7 +10,7 @@ from record.make.references import ANY, NAME, joined
 LINE = r"((?:[^\n]*\\\n)*[^\n]*)"  # of a makefile
 ASSIGNED = re.compile(r"(?<!" + NAME + ")(" + NAME + r"+?)[ \t]*([+?!]|:{1,3})?=" + LINE)
 ASSIGNED_TO_ANY = re.compile(r"(?:[)}]|\$\w)[\w.-]*[ \t]*(?:[+?!]|:{1,3})?=" + LINE)  # the same of a macro whose name another one gives
-LATE = re.compile(r"(?:[)}]|\$\w)([\w.-]*)[ \t]*(?:[+?]|:::)?=" + LINE)  # the same, where make works out the value when somebody asks for it
+LATE = re.compile(r"(?:[)}]|\$\w)([\w.-]*)[ \t]*(?:[+?]|:::)?=" + LINE)  # the same, where make works out the value when somebody asks for it  # guard: values-that-are-worked-out-at-once
 PUT_TOGETHER = re.compile(r"\$[({](?:call[ \t]+)?[\w.-]*\$")  # a reference whose name another one gives
 WHOLE = re.compile(r"(?ms)(?<!\\\n)^ *(?:(?:export|override)[ \t]+)*define[ \t]+([\w.-]+)[ \t]*=?[ \t]*\n.*?^[ \t]*endef\b")
 END_OF_NAME = re.compile(r"(?:[)}]|\$\w)([\w.-]*)[ \t]*(?:[:+?!]*=)?[ \t]*$")  # behind what another macro gives of it, in a line that begins with `define`
@@ -30,7 +30,7 @@ def assigned_in(text: str) -> List[Tuple[str, str]]:
 @lru_cache(8)
 def signed_in(text: str) -> List[Tuple[str, str, str]]:
     """The macros to which single lines assign something, each with the sign before the `=`, and with the value."""
-    return [(one.group(1), one.group(2) or "", one.group(3)) for one in ASSIGNED.finditer(joined(text))]
+    return [(one.group(1), one.group(2) or "", one.group(3)) for one in ASSIGNED.finditer(joined(text))]  # guard: assignments-of-two-lines
 
 
 class Late(NamedTuple):
@@ -44,12 +44,12 @@ class Late(NamedTuple):
 
     def fits(self, name: str) -> bool:
         """Whether a macro may have such a name."""
-        return name.startswith(self.begin) and name.endswith(self.end) and len(name) >= len(self.begin + self.end)
+        return name.startswith(self.begin) and name.endswith(self.end) and len(name) >= len(self.begin + self.end)  # guard: ends-of-computed-names
 
     def value_of(self, name: str) -> str:
         """The value that a macro has, as far as the text of a template says it."""
         head = name[len(self.begin):len(name) - len(self.end)]
-        return once(self.value.replace(self.macro, head) if self.macro and head else self.value)
+        return once(self.value.replace(self.macro, head) if self.macro and head else self.value)  # guard: what-is-kept-by-name-that-is-put
 
 
 def once(text: str) -> str:
@@ -69,9 +69,9 @@ def late_at(lines: str, one: "re.Match[str]") -> Late:
     """What is assigned at a place of a makefile."""
     end, value = one.start(1), one.group(2)
     word = WORD.fullmatch(lines[max(lines.rfind(sign, 0, end) for sign in "\n\t ,") + 1:end])
-    while value.endswith(")") and value.count(")") > value.count("("):  # those of what reads it
+    while value.endswith(")") and value.count(")") > value.count("("):  # those of what reads it  # guard: brackets-behind-value
         value = value[:-1]
-    return Late(one.group(1), value, *(word.groups() if word is not None else ()))
+    return Late(one.group(1), value, *(word.groups() if word is not None else ()))  # guard: names-of-several-parts
 
 
 def defined_in(text: str) -> Iterator[Tuple[str, str]]:
@@ -96,15 +96,15 @@ def all_defined(text: str) -> Iterator[Tuple[str, str]]:
     """The same, and those that stand in others, as make defines them where it reads such a one as a template."""
     for name, body in defined_in(text):
         yield name, body
-        yield from all_defined(body)
+        yield from all_defined(body)  # guard: macros-of-lines-that-set-others
 
 
 def without_printed(text: str) -> str:
     """Makefiles without the macros of several lines that no reference names: recipes get them by the environment alone, as `$$NAME`. Where a
     name may be put together all stay."""
-    if PUT_TOGETHER.search(text):
+    if PUT_TOGETHER.search(text):  # guard: texts-by-names-that-are-put-together
         return text
-    return WHOLE.sub(lambda one: one.group() if is_named(one.group(1), text) else "", text)
+    return WHOLE.sub(lambda one: one.group() if is_named(one.group(1), text) else "", text)  # guard: texts-that-make-rules
 
 
 def is_named(name: str, text: str) -> bool:

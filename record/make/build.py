@@ -31,7 +31,7 @@ class MakeBuilder(RoundBuilder):
         self.note_writers()
         self.make_decisions()
         self.note_writers()
-        self.make_first_looks()
+        self.make_first_looks()  # guard: first-looks
         self.note_unwritten()
         self.connect()
         self.fill()
@@ -43,7 +43,7 @@ class MakeBuilder(RoundBuilder):
             node = self.graph.nodes[label]
             own = {node.path, self.names.find(self.make.folder, node.name, False).path, *self.seen(node)}
             if node.jobs and not node.phony and not any(kind in WRITTEN + CREATED + MAKES and path in own for kind, path in self.events(self.build.tasks[at])):
-                self.assumed.add("unwritten", node.name)
+                self.assumed.add("unwritten", node.name)  # guard: recipes-that-leave-their-target-alone
 
     # ---------------------------------------------------------------- tasks
     def add(self, node: Node, kind: str, label: str) -> int:
@@ -63,16 +63,16 @@ class MakeBuilder(RoundBuilder):
 
     def make_decisions(self) -> None:
         """A target that somebody writes, or one of whose prerequisites is written, is looked at, recipe or not."""
-        self.ageless = unasked_ages(self)
+        self.ageless = unasked_ages(self)  # guard: targets-without-recipe
         fixed = fixed_looks(self)
         for node in self.graph.nodes.values():
             own = self.of_node.get(node.label, -1)
-            needed = self.looked_at(node, own) + self.followed(node, own)
-            if own < 0 and node.label not in fixed and any(self.is_written(p) for p in needed):
+            needed = self.looked_at(node, own) + self.followed(node, own)  # guard: what-stood-behind
+            if own < 0 and node.label not in fixed and any(self.is_written(p) for p in needed):  # guard: names-that-no-rule-makes
                 self.of_node[node.label] = self.add(node, "decision", node.label)
-            elif own >= 0 and self.is_leaf(node):
+            elif own >= 0 and self.is_leaf(node):  # guard: looks-of-leaves
                 acts = self.acts_of(node)
-                if any(self.is_written(p, own) for p in needed) or acts or node.name in self.macros:
+                if any(self.is_written(p, own) for p in needed) or acts or node.name in self.macros:  # guard: leaves
                     self.look_of[node.label] = self.add(node, "look", node.label + "@look")
 
     def make_first_looks(self) -> None:
@@ -87,7 +87,7 @@ class MakeBuilder(RoundBuilder):
             own = self.first_seen(node) if short or self.is_seen_early(node, users, considered.late) else []
             if own or asked or considered.written(node):
                 self.first_of[node.label] = self.add(node, "first", node.label + "@first")
-                self.build.tasks[-1].writes = considered.written(node)
+                self.build.tasks[-1].writes = considered.written(node)  # guard: what-they-write
                 self.asked[node.label] = {*own, *short, *asked}
 
     def is_seen_early(self, node: Node, users: Dict[str, List[Node]], late: Set[str]) -> bool:
@@ -98,7 +98,7 @@ class MakeBuilder(RoundBuilder):
         others = [self.build.tasks[at].node for path in self.first_seen(node) for at in self.build.writers.get(path, set()) - mine]
         others = [o for o in others if o.name != node.name and node.name not in self.graph.base.also.get(o.name, [])]
         is_compared = (len(self.looked_at(u, self.of_node.get(u.label, -1))) > 1 for u in users.get(node.label, []))
-        return bool(others) and not remade_anyway(self, node, others) and (self.has_effect(node) or any(is_compared))
+        return bool(others) and not remade_anyway(self, node, others) and (self.has_effect(node) or any(is_compared))  # guard: what-they-change
 
     def has_effect(self, node: Node) -> bool:
         """Whether a target has a recipe that is more than `:`."""
@@ -142,7 +142,7 @@ class MakeBuilder(RoundBuilder):
 
     def is_serial(self) -> bool:
         """Whether this make runs one recipe at a time whatever the user says."""
-        return is_row(self.graph.base, self.make.words) or self.make.has_one_slot()
+        return is_row(self.graph.base, self.make.words) or self.make.has_one_slot()  # guard: notparallel
 
     def kept(self) -> Set[str]:
         """Targets without a task of their own that stand above one."""
@@ -164,15 +164,15 @@ class MakeBuilder(RoundBuilder):
         nodes, late = self.graph.nodes, self.graph.late()
         looks = [(nodes[label].done, at) for label, at in self.look_of.items()]
         looks += [(nodes[label].done, at) for label, at in self.of_node.items() if self.build.tasks[at].kind == "decision" and self.is_leaf(nodes[label])]
-        looks += [(nodes[label].first, at) for label, at in self.first_of.items() if label not in late]
+        looks += [(nodes[label].first, at) for label, at in self.first_of.items() if label not in late]  # guard: that-may-come-late
         looks.sort()
-        for (_, first), (_, second) in zip(looks, looks[1:]):
+        for (_, first), (_, second) in zip(looks, looks[1:]):  # guard: chain-of-looks
             after[second].add(first)
         for label, at in self.of_node.items():
             node = nodes[label]
             if self.build.tasks[at].kind == "recipe":
                 earlier = bisect.bisect_left(looks, (node.first, -1))
-                if earlier:
+                if earlier:  # guard: before-recipes-that-come-later
                     after[at].add(looks[earlier - 1][1])
 
     def renumber(self, order: List[int], after: List[Set[int]]) -> None:
@@ -206,7 +206,7 @@ class MakeBuilder(RoundBuilder):
             build.tasks[at].reads.update(self.asked[label])
         add_inner(self, created)
         find_askers(self, created)
-        add_macros(self, created)
+        add_macros(self, created)  # guard: macros-that-recipes-change
         add_outputs(self)
         count_listings(self, created)
         add_folders(self)
@@ -221,9 +221,9 @@ class MakeBuilder(RoundBuilder):
         task, writers = self.build.tasks[looker], self.build.writers
         names, known = self.looked_at(node, at), remembered(self, node, at)
         for path in names:
-            if path in writers and path not in known and writers[path] - {at, looker}:
+            if path in writers and path not in known and writers[path] - {at, looker}:  # guard: make-keeps-those-of-its-first-look
                 task.reads.add(path)
-            if len(names) > 1 or is_asked:
+            if len(names) > 1 or is_asked:  # guard: ages-that-nobody-asks
                 self.timed.setdefault(path, set()).add(looker)
-        task.reads.update(path for path in self.followed(node, at) if writers.get(path, set()) - {at, looker})
+        task.reads.update(path for path in self.followed(node, at) if writers.get(path, set()) - {at, looker})  # guard: they-are-read
 

@@ -31,7 +31,7 @@ class Cached:
 
     def asked(self, node: Node) -> Set[str]:
         """The names on which it depends, when make considers a target, what a later recipe or search finds."""
-        found = {*self.folders.get(node.name, ()), *(self.may_open(node) if self.unsettled and not node.phony else ())}
+        found = {*self.folders.get(node.name, ()), *(self.may_open(node) if self.unsettled and not node.phony else ())}  # guard: folder-that-recipe-was-first-to-list
         return {path for folder in found for path in self.names_in(folder)}
 
     @cached_property
@@ -43,7 +43,7 @@ class Cached:
         """Those of them that a recipe may ask for by `wildcard`, or make in a search that comes late."""
         patterns = self.make.patterns_in(folder) if self.listed is None or folder in self.listed else []
         paths = {join(folder, name) for name in self.created.get(folder, ())}
-        return {path for path in paths if path in self.late or any(self.shows(pattern, path) for pattern in patterns)}
+        return {path for path in paths if path in self.late or any(self.shows(pattern, path) for pattern in patterns)}  # guard: names-for-which-nobody-asks
 
     def shows(self, pattern: str, path: str) -> bool:
         """Whether a pattern is about a name; with a slash behind it, about folders and links."""
@@ -74,7 +74,7 @@ class Cached:
         for act, before in self.with_looks() if births else ():
             is_search = looks.get(before.word) == before.place and bisect.bisect(births, before.place) == bisect.bisect(births, act.place)
             node = self.nodes[before.word]
-            if is_search and self.counts(act) and any(folder == act.path for folder, _ in self.searched(node)):
+            if is_search and self.counts(act) and any(folder == act.path for folder, _ in self.searched(node)):  # guard: list-of-recipe-right-behind-look
                 found.setdefault(node.name, set()).add(act.path)
         return found
 
@@ -91,7 +91,7 @@ class Cached:
     def counts(self, act: Act) -> bool:
         """Whether make keeps what it found: the names of a folder, or that one was there which recipes make. With one job a folder that it does not find
         is made by recipes that it considers later, in each schedule."""
-        return act.kind == MAKE_LISTED or act.path in self.builder.made and self.builder.before.get(act.path) != "d"
+        return act.kind == MAKE_LISTED or act.path in self.builder.made and self.builder.before.get(act.path) != "d"  # guard: folder
 
     # ---------------------------------------------------------------- searches that found all in the memory of make
     @cached_property
@@ -101,7 +101,7 @@ class Cached:
         began, last_ones = first_birth(self.builder), self.builder.graph.late()
         settled = {folder for name, folders in self.folders.items() if name not in last_ones for folder in folders}
         late = {folder for folder, (_, last) in self.builder.listed.items() if last > began} - settled
-        return {folder for folder in late if not self.is_of_leaf(folder) and self.names_in(folder)}
+        return {folder for folder in late if not self.is_of_leaf(folder) and self.names_in(folder)}  # guard: list-of-recipe-that-waits-for-none
 
     def is_of_leaf(self, folder: str) -> bool:
         """Whether the first list of a folder is of recipes that wait for no other: in each schedule make lists it in its first pass."""
@@ -111,7 +111,7 @@ class Cached:
 
     def may_open(self, node: Node) -> Set[str]:
         """Those of them of which make may keep something when it considers a target."""
-        return {folder for folder, is_listed in self.searched(node) if folder in self.unsettled and (is_listed or self.builder.before.get(folder) != "d")}
+        return {folder for folder, is_listed in self.searched(node) if folder in self.unsettled and (is_listed or self.builder.before.get(folder) != "d")}  # guard: folder-that-is-only
 
     def searched(self, node: Node) -> Iterator[Tuple[str, bool]]:
         """The folders in which make may look for a name when it considers a target, and whether it lists them: for a name that a rule mentions it only opens
@@ -121,13 +121,13 @@ class Cached:
             yield self.path(os.path.dirname(name)), name not in base.prerequisites or name in base.implicit
         for pattern, folders in base.search:
             if any(pattern == "%" or any(stems("/" + pattern, "/" + name)) for name in (node.name, *names)):
-                yield from ((self.path(folder), True) for folder in folders)
+                yield from ((self.path(folder), True) for folder in folders)  # guard: search-path
         yield from ((folder, True) for folder in (self.created if self.is_expanded(node) else ()))
 
     def names_tried(self, node: Node) -> Set[str]:
         """The names that a search for an implicit rule looks for: all, by way of others too, where it found none, or one by way of another file."""
         is_deep = not node.has_recipe or not self.base.intermediate.isdisjoint(node.prerequisites)
-        return names_asked(self.base, node.name, DEPTH) if is_deep else {*tried(self.base, node.name, {*node.prerequisites})}
+        return names_asked(self.base, node.name, DEPTH) if is_deep else {*tried(self.base, node.name, {*node.prerequisites})}  # guard: rules-behind-one-that-make-takes
 
     def path(self, name: str) -> str:
         """Where a name leads now."""

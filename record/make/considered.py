@@ -49,10 +49,10 @@ class Considered:
         if node.rule or node.phony and node.name not in self.base.implicit or not self.writers:
             return set()
         names = self.searched_names(node)
-        found = {path for path in self.searched(names) if self.is_open(path)}
+        found = {path for path in self.searched(names) if self.is_open(path)}  # guard: names-that-are-searched
         there = {path for name in {node.name, *names} for path in self.elsewhere(node, name)}
-        found |= {path for path in there if self.builder.before.get(path) or self.is_open(path)}  # what it finds in a search path it looks at
-        found |= self.expanded(node) | {*peers(self.builder, node, self.builder.of_node.get(node.label, -1))}
+        found |= {path for path in there if self.builder.before.get(path) or self.is_open(path)}  # what it finds in a search path it looks at  # guard: what
+        found |= self.expanded(node) | {*peers(self.builder, node, self.builder.of_node.get(node.label, -1))}  # guard: what-they-read
         found |= self.cached.asked(node) if self.keeps_lists else set()
         return {path for path in found if self.writers.get(path, set()) - self.own(node)}
 
@@ -66,18 +66,18 @@ class Considered:
         """Whether the folder of a name was first listed when a recipe had begun: else each schedule sees what was there before, if make keeps lists."""
         if path not in self.writers:
             return False
-        if not self.keeps_lists or self.builder.listed.get(os.path.dirname(path), (0, 1 << 60))[1] >= first_birth(self.builder):
-            return True
-        self.builder.assumed.add("search", path)
+        if not self.keeps_lists or self.builder.listed.get(os.path.dirname(path), (0, 1 << 60))[1] >= first_birth(self.builder):  # guard: folder-listed-before
+            return True  # guard: folder-not-listed-before
+        self.builder.assumed.add("search", path)  # guard: said
         return False
 
     # ---------------------------------------------------------------- implicit rules
     def searched_names(self, node: Node) -> Set[str]:
         """The names that the search for an implicit rule looks for: by way of other files only where it found no rule, or one of those. The
         search for such a file was a part of that for its user."""
-        if node.name not in self.base.implicit or node.name in self.base.intermediate and node.name not in self.named:
+        if node.name not in self.base.implicit or node.name in self.base.intermediate and node.name not in self.named:  # guard: declared-intermediate-files
             return set()
-        found = self.searches.names(node.name, DEPTH if is_deep(self.base, node) else 1)
+        found = self.searches.names(node.name, DEPTH if is_deep(self.base, node) else 1)  # guard: way-of-other-files
         written = (name for name in found if os.path.basename(name) in self.last_parts or MAGIC.search(name))
         return {name for name in written if not self.is_mentioned(name, node)}
 
@@ -89,7 +89,7 @@ class Considered:
     def searched(self, names: Set[str]) -> Iterator[str]:
         """The paths of names, and all that fit a pattern."""
         for name in names:
-            if MAGIC.search(name):
+            if MAGIC.search(name):  # guard: patterns-of-names
                 pattern = os.path.normpath(join(self.builder.make.folder, loose(name)))
                 yield from (path for path in self.changed if fnmatchcase(path, pattern))
             else:
@@ -116,8 +116,8 @@ class Considered:
         own = self.path(name)
         if self.builder.before.get(own) and own not in self.writers:
             return []
-        folders = [folder for pattern, folders in self.base.search if pattern == name or any(stems_of(pattern, name)) for folder in folders]
-        return [path for path in (self.path(os.path.join(folder, name)) for folder in folders) if path != own]
+        folders = [folder for pattern, folders in self.base.search if pattern == name or any(stems_of(pattern, name)) for folder in folders]  # guard: other-names
+        return [path for path in (self.path(os.path.join(folder, name)) for folder in folders) if path != own]  # guard: search-paths
 
     # ---------------------------------------------------------------- second expansions
     def is_expanded(self, node: Node) -> bool:
@@ -147,7 +147,7 @@ class Considered:
         """When make surely had all prerequisites of a target: it looks at them, or starts its recipe."""
         looks, works = self.looks, [self.builder.make.work[id(job)] for job in node.jobs if id(job) in self.builder.make.work]
         after = [looks[one] for one in node.prerequisites if looks.get(one, 0) > looks.get(node.name, 0)]
-        return min([*after, *(life.born for work in works for life in work.lives)], default=1 << 60)
+        return min([*after, *(life.born for work in works for life in work.lives)], default=1 << 60)  # guard: not-what-recipes-read
 
     def expanded(self, node: Node) -> Set[str]:
         """The paths that a second expansion of its prerequisites reads or lists."""
@@ -155,7 +155,7 @@ class Considered:
         for kind, path in self.pieces.get(node.name, ()):
             if kind in ASKS:
                 found.add(path)
-            elif kind in (LISTED, MAKE_LISTED):
+            elif kind in (LISTED, MAKE_LISTED):  # guard: what-they-list
                 folder, _, pattern = path.partition("\0")
                 found |= {one for one in self.changed if os.path.dirname(one) == folder and fnmatchcase(os.path.basename(one), pattern or "*")}
         return {path for path in found if path in self.writers}
@@ -169,8 +169,8 @@ def takes_for_file(base: Base, version: str, name: str, is_known: bool) -> bool:
     """Whether a search takes a name for a file without a look: makefiles have a rule for it, or before GNU make 4.4 they name it, or make has
     considered it (`is_known`)."""
     if numbers_of(version) >= LATER:
-        return name in base.prerequisites and name not in base.unruled and (is_known and name in base.implicit or not is_by_search(base, name))
-    return is_known or name in base.prerequisites and (name not in base.implicit or bool(base.prerequisites[name]) and name not in base.recipes)
+        return name in base.prerequisites and name not in base.unruled and (is_known and name in base.implicit or not is_by_search(base, name))  # guard: names-that-no-rule-is-about-since
+    return is_known or name in base.prerequisites and (name not in base.implicit or bool(base.prerequisites[name]) and name not in base.recipes)  # guard: not-for-what-has-rule
 
 
 def is_by_search(base: Base, name: str) -> bool:
@@ -178,15 +178,15 @@ def is_by_search(base: Base, name: str) -> bool:
     more prerequisites than such a rule where makefiles name some."""
     listed = len(base.prerequisites.get(name, ())) + len(base.order_only.get(name, ()))
     if name not in base.implicit:
-        return listed == 0 and name in base.found_beside
+        return listed == 0 and name in base.found_beside  # guard: names-beside-one-that-search-has-found
     has_recipe = name in base.recipes or name in base.places
-    return has_recipe and (".EXTRA_PREREQS" in {*base.values, *base.own} or listed <= most_by_search(base, name))
+    return has_recipe and (".EXTRA_PREREQS" in {*base.values, *base.own} or listed <= most_by_search(base, name))  # guard: names-of-which-search-has-found-no-rule
 
 
 def most_by_search(base: Base, name: str) -> float:
     """How many prerequisites a target has at most by a rule that a search finds."""
     fits = (asked for targets, asked in base.patterns if any(any(stems(target, name)) for target in targets))
-    return max((math.inf if any("$" in word or MAGIC.search(word) for word in asked) else len(asked) for asked in fits), default=math.inf)
+    return max((math.inf if any("$" in word or MAGIC.search(word) for word in asked) else len(asked) for asked in fits), default=math.inf)  # guard: rules-whose-prerequisites-nobody-can
 
 
 def stems_of(pattern: str, name: str) -> Iterator[Tuple[str, str]]:
@@ -197,4 +197,4 @@ def stems_of(pattern: str, name: str) -> Iterator[Tuple[str, str]]:
 def is_row(base: Base, words: Words) -> bool:
     """Whether a makefile says that its recipes run one at a time: from a version on `.NOTPARALLEL` with names is about these alone. Where make
     has searched a rule for it, another target asks for it, and the data base does not show whether a makefile has a rule of its own."""
-    return base.serial and ".NOTPARALLEL" not in base.implicit and (numbers_of(words.version) < LATER or not base.prerequisites.get(".NOTPARALLEL"))
+    return base.serial and ".NOTPARALLEL" not in base.implicit and (numbers_of(words.version) < LATER or not base.prerequisites.get(".NOTPARALLEL"))  # guard: rows-of-some-targets

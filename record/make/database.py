@@ -11,11 +11,11 @@ TARGET = re.compile(r"^(.*?)(::?)(?: (.*))?$")
 PLACE = re.compile(r"^#  recipe to execute \(from '(.*)', line (\d+)\):")
 STEM = re.compile(r"^#  Implicit/static pattern stem: '(.*)'$")
 ORIGIN = re.compile(r"# (makefile|environment(?: under -e)?|command line|default|automatic|'override' directive)(?: private)?(?: \(from '(.*)', line (\d+)\))?$")
-VALUE = re.compile(r"^(" + NAME + r"*)(.*?) (?:=|:=|::=|:::=|\+=|\?=) ?(.*)$", re.A)  # its name up to a sign that names seldom have, and the rest of it
+VALUE = re.compile(r"^(" + NAME + r"*)(.*?) (?:=|:=|::=|:::=|\+=|\?=) ?(.*)$", re.A)  # its name up to a sign that names seldom have, and the rest of it  # guard: what-macro-of-target-gets
 LINES_TEXT = "$(lines)*"  # what stands for a macro of several lines
 BEGINS = r"[ \t]*(?:(?:override|export|private)[ \t]+)*define(?![\w.-])(?![ \t]*(?:[+?!]|:{1,3})?=)"  # a macro of several lines, and not one that is called so
 LEVEL = re.compile(r"(?!\t)[ \t]*(?:(define)|endef)(?=[ \t]|$)")  # behind a tab it is a line of a recipe, and another word in front hides it
-LINES = re.compile(r"^define (?![:+]?=)(" + NAME + r"*)(.*)", re.A)
+LINES = re.compile(r"^define (?![:+]?=)(" + NAME + r"*)(.*)", re.A)  # guard: macro-that-is-called-define
 PATTERN = re.compile(r"^([^#\t:=]*%[^:=]*)(::?)(?!=) *(.*)$")
 NO_TARGET = "# Not a target:"
 BEHIND = "# variable set hash-table stats:"  # what follows the last macro
@@ -78,7 +78,7 @@ class Base:
 
 def cut(text: str) -> List[str]:
     """Words as make cuts them: a name may have any blank that is not of ASCII."""
-    return [word for word in text.replace("\t", " ").split(" ") if word]
+    return [word for word in text.replace("\t", " ").split(" ") if word]  # guard: words-of-data-base
 
 
 class _Files:
@@ -92,10 +92,10 @@ class _Files:
 
     def line(self, text: str) -> None:
         """One line: an empty one ends a target, and what stands before the recipe are remarks."""
-        if self.is_recipe and (text or self.goes_on):
+        if self.is_recipe and (text or self.goes_on):  # guard: behind-empty-line
             self.recipe(text)
         elif text == "":
-            self.name, self.is_recipe, self.is_other = "", False, False
+            self.name, self.is_recipe, self.is_other = "", False, False  # guard: line-behind-name-that-is-no-target
         elif text.startswith("#") and text[1:2] in ("", " "):
             self.remark(text)
         elif not self.name and not text.startswith("\t"):
@@ -117,7 +117,7 @@ class _Files:
         self.is_other = text == NO_TARGET
         if not text.startswith("#  "):
             return
-        self.is_recipe = self.is_recipe or text.startswith("#  recipe to execute")
+        self.is_recipe = self.is_recipe or text.startswith("#  recipe to execute")  # guard: behind-another-mark
         place, stem = PLACE.match(text), STEM.match(text)
         base.stems.update({self.name: stem.group(1)} if stem and self.name else {})
         if place and self.name:
@@ -141,14 +141,14 @@ class _Files:
         if self.is_macro or not match:
             if match:
                 self.base.scoped.add(match.group(1))
-                own_value(self.base, match.group(3) or "", text, self.remarked)
+                own_value(self.base, match.group(3) or "", text, self.remarked)  # guard: where-targets-got-their-macros
             self.is_macro = False
             return
         base, self.name = self.base, match.group(1)
         first, _, second = ((match.group(3) or "") + " ").partition("| ")
-        if self.name == ".NOTPARALLEL" and not self.is_other:  # (as a prerequisite alone it says nothing)
+        if self.name == ".NOTPARALLEL" and not self.is_other:  # (as a prerequisite alone it says nothing)  # guard: no-target
             base.serial = True
-        base.unruled.update([self.name] if self.is_other else [])
+        base.unruled.update([self.name] if self.is_other else [])  # guard: names-that-no-rule-is-about
         base.prerequisites.setdefault(self.name, []).extend(cut(first))
         base.order_only.setdefault(self.name, set()).update(cut(second))
         if match.group(2) == "::":
@@ -162,7 +162,7 @@ def is_continued(text: str) -> bool:
 
 def level(text: str, previous: str) -> int:
     """By how much a line of a macro goes deeper into others of several lines."""
-    found = LEVEL.match(text) if not is_continued(previous) else None
+    found = LEVEL.match(text) if not is_continued(previous) else None  # guard: lines-that-go
     return 0 if found is None else 1 if found.group(1) else -1
 
 
@@ -192,7 +192,7 @@ class _Macros:
     def line(self, text: str, previous: str) -> None:
         """One line: a macro stands behind the line that says where it is from, and its lines may be any others."""
         is_behind = text == BEHIND or ORIGIN.match(text) is not None
-        if self.depth and previous == "endef" and is_behind:
+        if self.depth and previous == "endef" and is_behind:  # guard: lines-in-no-pairs
             self.depth = 0  # lines of a macro of the environment need not be in pairs
         elif self.depth:
             self.depth += level(text, previous)
@@ -201,7 +201,7 @@ class _Macros:
         elif ORIGIN.match(previous):
             self.macro(text, previous)
             self.from_where(text, previous)
-        elif self.goes_on and not is_behind:  # make shows a value with ends of lines as it is
+        elif self.goes_on and not is_behind:  # make shows a value with ends of lines as it is  # guard: values-of-several-lines
             self.body(text)
         else:
             self.goes_on = False
@@ -211,16 +211,16 @@ class _Macros:
         lines, value = LINES.match(text), VALUE.match(text) if not text.startswith("# ") else None
         self.depth, self.goes_on = int(lines is not None), lines is None and value is not None
         known = lines or value
-        self.base.is_unclear |= known is not None and not known.group(2) and known.group(1) in self.base.values
+        self.base.is_unclear |= known is not None and not known.group(2) and known.group(1) in self.base.values  # guard: macros-that-come-twice
         if lines is not None:
             self.name = lines.group(1)
             self.base.values.update({self.name: LINES_TEXT} if not lines.group(2) else {})
         elif value is None:
-            own_value(self.base, text[2:], with_signs(text), remark)
+            own_value(self.base, text[2:], with_signs(text), remark)  # guard: macros-of-patterns
         elif value.group(2):
             self.name = value.group(1)
             self.base.cut.add(self.name)
-            self.body(text)
+            self.body(text)  # guard: blank
         else:
             self.name = value.group(1)
             self.base.values[self.name] = value.group(3)
@@ -228,7 +228,7 @@ class _Macros:
     def from_where(self, text: str, remark: str) -> None:
         """Who gave a macro its value that holds for all targets, by the line above it."""
         found = ORIGIN.match(remark)
-        if found is not None and not text.startswith("# ") and (LINES.match(text) or VALUE.match(text)):
+        if found is not None and not text.startswith("# ") and (LINES.match(text) or VALUE.match(text)):  # guard: who-gave-macro-its-value
             self.base.origins[self.name] = found.group(1), found.group(2) or "", int(found.group(3) or 0)
 
     def body(self, text: str) -> None:
@@ -246,7 +246,7 @@ def pattern_rule(base: Base, text: str) -> None:
 
 def behind_files(base: Base, text: str, previous: str) -> None:
     """A line of the part that lists search paths: those of `vpath`, and that of `VPATH`."""
-    found = SEARCH.match(text)
+    found = SEARCH.match(text)  # guard: patterns
     if found:
         base.search.append((found.group(1), found.group(2).split(":")))
     elif previous.startswith("# General ('VPATH' variable) search path"):
@@ -259,14 +259,14 @@ def read_base(lines: List[str]) -> Base:
     files, macros = _Files(base), _Macros(base)
     inside, behind, previous = False, False, ""
     for text in lines:
-        if text in PARTS and not macros.depth:
-            base.is_unclear |= text in base.parts
+        if text in PARTS and not macros.depth:  # guard: parts-inside-of-macros
+            base.is_unclear |= text in base.parts  # guard: parts-that-come-twice
             base.parts.append(text)
         if behind:
             behind_files(base, text, previous)
         elif macros.depth:
             macros.line(text, previous)
-        elif text == PARTS[2]:
+        elif text == PARTS[2]:  # guard: lines-that-begin-like-one-of-its-parts
             inside = True
         elif text == PARTS[3]:
             behind = True

@@ -40,14 +40,14 @@ class Elsewhere:
         self.ninjas: Sequence[Tool] = ()
         self.groups: Dict[int, List[Life]] = {}
         for life in owners.lives:
-            if any(kind in AGES + ORDER_SEEN for kind, _ in life.events) or packs(life):
-                self.groups.setdefault(id(part_of(life)), []).append(life)
+            if any(kind in AGES + ORDER_SEEN for kind, _ in life.events) or packs(life):  # guard: archives
+                self.groups.setdefault(id(part_of(life)), []).append(life)  # guard: programs-that-belong-together
 
     @cached_property
     def pairs(self) -> Dict[str, List[Pair]]:
         """By target: what makes and ninjas compare with it."""
         found: Dict[str, List[Pair]] = {}
-        for target, pair in chain(self.of_makes(), self.of_ninjas()):
+        for target, pair in chain(self.of_makes(), self.of_ninjas()):  # guard: ages-that-later-ninja-compares
             found.setdefault(target, []).append(pair)
         return found
 
@@ -58,7 +58,7 @@ class Elsewhere:
                 base, looks = one.base or Base(), make.first_looks.get(one.start, {})
                 paths = {name: age_paths(self.names, make, one.vpath.get(name, name)) for name in one.nodes}
                 for name, node in one.nodes.items():
-                    plain = [n for n in node.prerequisites if n in paths and n not in base.order_only.get(name, ()) and n not in base.phony]
+                    plain = [n for n in node.prerequisites if n in paths and n not in base.order_only.get(name, ()) and n not in base.phony]  # guard: prerequisites-behind-bar
                     for target in paths[name] if plain and name not in base.phony else ():
                         yield from ((target, Pair(make, number, path, looks.get(name, NEVER))) for n in plain for path in paths[n])
 
@@ -75,10 +75,10 @@ class Elsewhere:
         works = [work for at in range(len(builder.build.tasks)) for _, work in works_of(builder, at)]
         own = {id(life) for work in works for life in work.lives}
         begin = min((life.born for work in works for life in work.lives), default=0)
-        groups = [[life for life in lives if id(life) not in own and life.died > begin] for lives in self.groups.values()]
+        groups = [[life for life in lives if id(life) not in own and life.died > begin] for lives in self.groups.values()]  # guard: programs
         copies = {path for lives in groups for life in lives for path, _ in takes_over(life)}
-        changed = {*builder.build.writers, *builder.made, *builder.created(), *copies}
-        asked: Dict[str, List[Pair]] = {} if self.is_last(builder) else self.pairs
+        changed = {*builder.build.writers, *builder.made, *builder.created(), *copies}  # guard: copies
+        asked: Dict[str, List[Pair]] = {} if self.is_last(builder) else self.pairs  # guard: second-make
         pairs = [(target, one.prerequisite) for target in sorted(changed & asked.keys()) for one in asked[target]
                  if self.is_later(builder, one, own, begin) and not self.is_new(builder, target, one)]
         return Askers(list(dict.fromkeys(pairs)), [work_of(lives) for lives in groups if lives], copies)
@@ -92,13 +92,13 @@ class Elsewhere:
     def is_later(builder: Builder, one: Pair, own: Set[int], begin: int) -> bool:
         """Whether it may be asked behind a recipe of a build, and not in one. Ninja asks when it has read its manifest."""
         if one.tool is builder.make:
-            return one.number > builder.number
-        return id(one.tool.life) not in own and (one.tool.life.born if one.tool.life.is_ninja else one.tool.life.died) > begin
+            return one.number > builder.number  # guard: make-that-begins-again
+        return id(one.tool.life) not in own and (one.tool.life.born if one.tool.life.is_ninja else one.tool.life.died) > begin  # guard: make-of-another-recipe
 
     def is_new(self, builder: Builder, target: str, one: Pair) -> bool:
         """Whether a make looked at a target when that was not there yet: then it makes it, whatever its age is later."""
         first, _ = self.owners.written.get(target, (0, 0))
-        return one.place < first and self.names.before.get(target) is None and builder.is_known(target)
+        return one.place < first and self.names.before.get(target) is None and builder.is_known(target)  # guard: target-that-is-made-anyway
 
 
 def part_of(life: Life) -> Life:
@@ -114,7 +114,7 @@ def work_of(lives: List[Life]) -> Tuple[str, Work]:
     work, unknown = Work(lives=lives), []
     for life in lives:
         for (kind, path), place in life.events.items():
-            asked = AGE_UNKNOWN if kind == AGE_SEEN and is_vague(life) else kind
+            asked = AGE_UNKNOWN if kind == AGE_SEEN and is_vague(life) else kind  # guard: shells
             if asked in AGES:
                 work.add(asked, path, place)
             if asked == AGE_UNKNOWN:
@@ -140,7 +140,7 @@ def find_askers(builder: Builder, created: Created) -> None:
     asked = [path for pair in builder.askers.pairs for path in pair] + [path for _, work in builder.askers.works for kind, path in work.events if kind in (AGE_SEEN, AGE_UNKNOWN)]
     for path in asked:
         if path in created or path in builder.made:
-            builder.timed.setdefault(path, set())
+            builder.timed.setdefault(path, set())  # guard: folders
 
 
 def add_elsewhere(builder: Builder, created: Created) -> None:
@@ -151,4 +151,4 @@ def add_elsewhere(builder: Builder, created: Created) -> None:
         ages_by_words(builder, -1, work, "afterwards", words)
         for life, path in ((life, path) for life in work.lives for kind, path in life.events if kind == ORDER_SEEN and path in created):
             if next(unordered(builder, sorted({who for names in created[path].values() for who in names})), None) is not None:
-                builder.assumed.add("listings", "%s lists %s" % (words_of(life), path))
+                builder.assumed.add("listings", "%s lists %s" % (words_of(life), path))  # guard: order-of-names

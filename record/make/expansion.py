@@ -20,7 +20,7 @@ NOTHING = frozenset(("",))
 WORDS = re.compile("[^%s]+" % BLANKS)
 PLAIN_NAME = re.compile(r"[\w./+@%~^-]+", re.A)
 TARGET = re.compile(r"[\w./+-]+", re.A)
-AUTOMATIC = re.compile(r"[@<^+*?|%]")
+AUTOMATIC = re.compile(r"[@<^+*?|%]")  # guard: parts-of-automatic-macros
 PARTS = re.compile(r"[@<^+*?|%][DF]")  # of them: make knows most, and a makefile may say otherwise
 PRINTABLE = re.compile(r"[ -~]*")
 # Functions that expand all their words once, and how many words they have at most.
@@ -73,7 +73,7 @@ class Expansion:
         known = self.known
         target = targets[0] if len(targets) == 1 else ""
         is_known = target and target not in known.base.double and PRINTABLE.fullmatch(known.base.stems.get(target, OPEN))
-        self.own = {"@": frozenset(targets) or UNKNOWN, "*": frozenset((known.base.stems[target],)) if is_known else UNKNOWN}  # what make itself gives macros of a recipe
+        self.own = {"@": frozenset(targets) or UNKNOWN, "*": frozenset((known.base.stems[target],)) if is_known else UNKNOWN}  # what make itself gives macros of a recipe  # guard: stem
         self.asked = Asked()
         self.done: Dict[Key, Held] = {}
         self.steps = self.depth = 0
@@ -104,7 +104,7 @@ class Expansion:
             return self.pattern(name)
         if colon and "=" not in rest:
             raise Unclear
-        found = self.macro(name, scope)
+        found = self.macro(name, scope)  # guard: names-in-front-of-colon
         return found if not colon else union(map_product(replaced, [found, frozenset((rest,))]))
 
     def pattern(self, name: str) -> Values:
@@ -112,7 +112,7 @@ class Expansion:
         if any(sign in ENDS or sign == "*" for sign in name):
             raise Unclear
         self.asked.patterns = True
-        self.take(re.sub(OPEN + "+", "*", name))
+        self.take(re.sub(OPEN + "+", "*", name))  # guard: names-that-nobody-can-say
         return UNKNOWN
 
     def take(self, name: str) -> None:
@@ -132,7 +132,7 @@ class Expansion:
         if AUTOMATIC.fullmatch(name):
             self.asked.own = self.asked.own or name in self.own
             return self.own.get(name, UNKNOWN)
-        if not (PLAIN_NAME.fullmatch(name) or PARTS.fullmatch(name)) or name == ".VARIABLES":
+        if not (PLAIN_NAME.fullmatch(name) or PARTS.fullmatch(name)) or name == ".VARIABLES":  # guard: list-of-all-macros
             raise Unclear
         if self.steady.is_odd(name):
             self.take(name)
@@ -141,11 +141,11 @@ class Expansion:
 
     def held(self, name: str, scope: Scope) -> Values:
         """The same of one whose texts are known."""
-        key = name, frozenset(scope.items())
+        key = name, frozenset(scope.items())  # guard: what-was-worked-out-with-other-words
         found = self.done.get(key) or self.common.get(key)
         if found is None:
             return self.work_out(key, scope)
-        self.asked.add(found.asked)
+        self.asked.add(found.asked)  # guard: what-was-worked-out-counts-again
         return found.values
 
     def work_out(self, key: Key, scope: Scope) -> Values:
@@ -163,7 +163,7 @@ class Expansion:
             self.asked = outer
         self.depth -= 1
         self.done[key] = held
-        if not (held.asked.own or held.asked.is_ring) and len(self.common) < KEPT:
+        if not (held.asked.own or held.asked.is_ring) and len(self.common) < KEPT:  # guard: what-was-worked-out-for-target
             self.common[key] = held
         return held.values
 
@@ -176,8 +176,8 @@ class Expansion:
             return self.loop(words_of(text, opening, 3), scope)
         if name in CHOOSING:
             words = words_of(text, opening, CHOOSING[name])
-            found = [self.text(word.strip(BLANKS) if at == 0 or name != "if" else word, scope) for at, word in enumerate(words)]
-            return union(found[1:] if name == "if" else found) | NOTHING
+            found = [self.text(word.strip(BLANKS) if at == 0 or name != "if" else word, scope) for at, word in enumerate(words)]  # guard: conditions
+            return union(found[1:] if name == "if" else found) | NOTHING  # guard: branches
         if name in LOOKING:
             return self.looked_at(self.text(words_of(text, opening, 1)[0], scope))
         if name not in SIMPLE:
@@ -193,20 +193,20 @@ class Expansion:
             elif not PLAIN_NAME.fullmatch(name) or name == ".VARIABLES":
                 raise Unclear
             else:
-                self.asked.reads.add(name)
+                self.asked.reads.add(name)  # guard: macros-that-are-looked
         return UNKNOWN
 
     def call(self, words: Sequence[str], scope: Scope) -> Values:
         """A function that makefiles define: it sees the words that it is handed, and none of those that the one around it got."""
         values = [self.text(word, scope) for word in words]
-        count = max(len(values), *map(int, scope.get(COUNT, frozenset("0"))))
-        own = {str(at): values[at] if at < len(values) else NOTHING for at in range(count)}
+        count = max(len(values), *map(int, scope.get(COUNT, frozenset("0"))))  # guard: words-behind-those-that-it-is-handed
+        own = {str(at): values[at] if at < len(values) else NOTHING for at in range(count)}  # guard: words-that-inner-one-lacks
         found = []
         for text in values[0]:
             name = (WORDS.findall(text) or [""])[0]
-            if OPEN in text or name in SIMPLE or name in LOOKING or name in CHOOSING or name in OTHERS or name and not PLAIN_NAME.fullmatch(name):
+            if OPEN in text or name in SIMPLE or name in LOOKING or name in CHOOSING or name in OTHERS or name and not PLAIN_NAME.fullmatch(name):  # guard: functions-of-make
                 raise Unclear
-            found.append(self.macro(name, {**scope, **own, "0": frozenset((name,)) if name == text else UNKNOWN, COUNT: frozenset((str(count),))}))
+            found.append(self.macro(name, {**scope, **own, "0": frozenset((name,)) if name == text else UNKNOWN, COUNT: frozenset((str(count),))}))  # guard: words-of-their-own
         return union(found)
 
     def loop(self, words: Sequence[str], scope: Scope) -> Values:
@@ -215,8 +215,8 @@ class Expansion:
         name = next(iter(names)).strip(BLANKS)
         if len(words) != 3 or len(names) != 1 or OPEN in name or not PLAIN_NAME.fullmatch(name):
             raise Unclear
-        values = frozenset(word for text in lists for word in (WORDS.findall(text) if OPEN not in text else UNKNOWN))
-        self.text(words[2], {**scope, name: values if 0 < len(values) <= MOST else UNKNOWN})
+        values = frozenset(word for text in lists for word in (WORDS.findall(text) if OPEN not in text else UNKNOWN))  # guard: each-word-of-loop
+        self.text(words[2], {**scope, name: values if 0 < len(values) <= MOST else UNKNOWN})  # guard: loops-that-hide-macros
         return UNKNOWN
 
 
@@ -249,13 +249,13 @@ def put_in_place(pattern: str, other: str, text: str) -> Optional[str]:
     for word in text.split():
         is_fit = len(word) >= len(head + tail) and word.startswith(head) and word.endswith(tail)
         found.append(other.replace("%", word[len(head):len(word) - len(tail)], 1) if is_fit else word)
-    return " ".join(word for word in found if word) if percent and not (other and "" in found) else None
+    return " ".join(word for word in found if word) if percent and not (other and "" in found) else None  # guard: words-that-come-to-nothing
 
 
 def replaced(text: str, rest: str) -> Optional[str]:
     """`$(X:a=b)`, for the value of X and what stands behind the colon."""
     pattern, _, other = rest.partition("=")
-    return put_in_place(pattern, other, text) if "%" in pattern else put_in_place("%" + pattern, "%" + other, text)
+    return put_in_place(pattern, other, text) if "%" in pattern else put_in_place("%" + pattern, "%" + other, text)  # guard: what-is-put-in-place
 
 
 def substituted(old: str, new: str, text: str) -> Optional[str]:
@@ -278,7 +278,7 @@ class Answer(NamedTuple):
 
 def asked(steady: Steady, text: str, targets: Tuple[str, ...], common: Dict[Key, Held]) -> Answer:
     """What a text asks for."""
-    if steady.known.is_lost or ANY in steady.known.changed:
+    if steady.known.is_lost or ANY in steady.known.changed:  # guard: worked-out
         return Answer(None, False)
     one = Expansion(steady, targets, common)
     try:
@@ -311,8 +311,8 @@ class Answers:
     def names_of(self, target: str) -> Tuple[str, ...]:
         """The names of which one surely is `$@` in the recipe of a target: its own, and those of targets that the same recipe makes. No search path gives
         it another one, as make has run that by this name. None where nobody can say that."""
-        names = tuple(sorted({target, *self.grouped.get(target, ())}))
-        is_own = not self.known.base.search or names == (target,) and target in self.ran
+        names = tuple(sorted({target, *self.grouped.get(target, ())}))  # guard: names-of-several-targets
+        is_own = not self.known.base.search or names == (target,) and target in self.ran  # guard: names-that-make-has-said
         return names if is_own and all(map(TARGET.fullmatch, names)) else ()
 
     @cached_property
@@ -325,7 +325,7 @@ class Answers:
         """By target: all that one recipe makes with it."""
         found: Dict[str, Set[str]] = {}
         for group in ({name, *others} for name, others in self.known.base.also.items()):
-            for one in group:
+            for one in group:  # guard: each-of-several-targets
                 found.setdefault(one, set()).update(group)
         return found
 
@@ -341,5 +341,5 @@ class Answers:
     def texts_of_recipe(self, target: str) -> List[str]:
         """The texts of these macros that make may expand for the recipe. What it worked out when it read the makefiles is none of them."""
         steady, is_sure = self.steady, self.sure("\n".join(self.known.base.recipes.get(target, ())), target) is not None
-        late = {name for name in self.of_recipe(target) if is_sure and not steady.is_odd(name)}
-        return ["\n".join(steady.texts(name)) if name in late else self.known.text_of(name) for name in self.of_recipe(target)]
+        late = {name for name in self.of_recipe(target) if is_sure and not steady.is_odd(name)}  # guard: what-recipe-gives-macro
+        return ["\n".join(steady.texts(name)) if name in late else self.known.text_of(name) for name in self.of_recipe(target)]  # guard: what-is-asked-later

@@ -41,4 +41,4 @@ def asks_jobs(args: List[str], flags: str) -> bool:
     """Whether a number of jobs is among make's words. The first word of MAKEFLAGS may be letters without a dash."""
     first = flags.split(" ")[0]
     letters = "" if first.startswith("-") or "=" in first else "-" + first
-    return bool(own_jobs(args)) or bool(own_jobs([letters])) or " -j" in " " + flags or "--jobserver" in flags
+    return bool(own_jobs(args)) or bool(own_jobs([letters])) or " -j" in " " + flags or "--jobserver" in flags  # guard: letters-of-environment

@@ -154,7 +154,7 @@ def note(folder: Folder, at: int, kind: str, place: int) -> None:
         folder.first_made[at] = min(place, folder.first_made.get(at, place))
     if kind in OWN_LOOKS:
         folder.looks[at] = min(place, folder.looks.get(at, place))
-    if kind in MADE_QUIETLY + STRICT + MAKER_SEEN + OWN_LOOKS:
+    if kind in MADE_QUIETLY + STRICT + MAKER_SEEN + OWN_LOOKS:  # guard: asked-for-behind-their-use
         folder.first_asked[at] = min(place, folder.first_asked.get(at, place))
 
 
@@ -164,9 +164,9 @@ def add_folders(builder: Builder) -> None:
     makers = {path: Makers(folder.strict | folder.quiet, {*folder.gone}) for path, folder in table.items()}
     for path, folder in table.items():
         add_folder(builder, path, folder)
-    add_listed(builder, makers, {path: folder.first_made for path, folder in table.items()})
-    add_times(builder)
-    add_modes(builder)
+    add_listed(builder, makers, {path: folder.first_made for path, folder in table.items()})  # guard: listed-when-made
+    add_times(builder)  # guard: times
+    add_modes(builder)  # guard: modes
 
 
 def add_folder(builder: Builder, path: str, folder: Folder) -> None:
@@ -174,33 +174,33 @@ def add_folder(builder: Builder, path: str, folder: Folder) -> None:
     tasks = builder.build.tasks
     if folder.created:
         for at in folder.users | folder.absent | folder.scripts:
-            if at not in folder.strict | folder.quiet and (at in folder.scripts or excused(builder, at, path)):
+            if at not in folder.strict | folder.quiet and (at in folder.scripts or excused(builder, at, path)):  # guard: test-d-mkdir
                 folder.quiet.add(at)
                 folder.first_made[at] = -1
-    for at in [at for at in folder.users | folder.absent | folder.quiet if makes_itself(builder, at, path) or makes_ahead(builder, at, path)]:
+    for at in [at for at in folder.users | folder.absent | folder.quiet if makes_itself(builder, at, path) or makes_ahead(builder, at, path)]:  # guard: rule-that-comes-late
         folder.quiet.add(at)
         folder.first_made[at] = -1
     for at in list(folder.strict):
-        if excused(builder, at, path):
+        if excused(builder, at, path):  # guard: mkdir-true
             folder.strict.discard(at)
             folder.quiet.add(at)
             folder.looks.pop(at, None)
     makers = folder.strict | folder.quiet
-    if was_there(builder, path) and not folder.gone:
+    if was_there(builder, path) and not folder.gone:  # guard: there-before-build
         makers = set()
     part_modes(builder, path, folder, makers)
-    for at in folder.strict & makers:
+    for at in folder.strict & makers:  # guard: strict-makers-meet
         mark(builder, path + "/@make", "who makes the folder %s first" % path, makers - {at}, {at})
     for at in (folder.users | folder.absent) - makers:
         if at in folder.absent or not any(builder.build.is_before(m, at) for m in makers):
-            seen(builder, path, at, makers)
+            seen(builder, path, at, makers)  # guard: user-needs-maker
     for at in makers:
         if shows_first(builder, path, folder, at, makers):
             seen(builder, path, at, makers - {at})
     everyone = makers | folder.users | folder.absent | folder.scripts | set(folder.looks) | folder.tried
-    for at in folder.gone:
+    for at in folder.gone:  # guard: removed
         mark(builder, path + "/@gone", "that the folder %s is there" % path, everyone - {at}, {at})
-    for at in folder.gone | folder.tried:
+    for at in folder.gone | folder.tried:  # guard: not-removed-as-it-holds-something
         for who, events in each(builder):
             if who != at:
                 for kind, name, _ in events:
@@ -221,7 +221,7 @@ def part_modes(builder: Builder, path: str, folder: Folder, makers: Set[int]) ->
             apart(builder, name, meaning, at, set().union(*folder.modes.values()) - some)
     found = makers.difference(*folder.modes.values())  # these would have made it by their own bits
     own = {at: masks(builder, at, path) for at in (makers if found else ())}
-    others = {bits: {at for at in own if bits and own[at] not in (NO_BITS, bits)} for bits in set(own.values())}
+    others = {bits: {at for at in own if bits and own[at] not in (NO_BITS, bits)} for bits in set(own.values())}  # guard: modes-of-those-that-find
     for at in found:
         apart(builder, name, meaning, at, others[own[at]])
 
@@ -236,15 +236,15 @@ def masks(builder: Builder, at: int, path: str) -> FrozenSet[int]:
 def bits(life: Life) -> int:
     """The bits without which a process makes names; programs such as `install` take no bits away, and set the mode themselves."""
     is_own = shelltext.base_name(life.argv) in shelltext.SHELLS or shelltext.is_interpreter(life.argv)
-    return life.mask if life.mask or is_own or life.parent is None else life.parent.mask
+    return life.mask if life.mask or is_own or life.parent is None else life.parent.mask  # guard: programs-that-take-no-bits-away
 
 
 def shows_first(builder: Builder, path: str, folder: Folder, at: int, makers: Set[int]) -> bool:
     """Whether a maker shows whether the folder was there: it looked first, or made the folder too late for itself."""
     look = folder.looks.get(at)
-    if look is not None and look < folder.first_made[at] and not excused(builder, at, path):
+    if look is not None and look < folder.first_made[at] and not excused(builder, at, path):  # guard: who-looked-before-it-made
         return True
-    return folder.first_used.get(at, 1 << 60) < folder.first_asked.get(at, 0) and not any(builder.build.is_before(m, at) for m in makers - {at})
+    return folder.first_used.get(at, 1 << 60) < folder.first_asked.get(at, 0) and not any(builder.build.is_before(m, at) for m in makers - {at})  # guard: made-behind-their-use
 
 
 def seen(builder: Builder, path: str, at: int, makers: Set[int]) -> None:
@@ -283,14 +283,14 @@ def add_listed(builder: Builder, table: Dict[str, Makers], first_made: Dict[str,
             for name in (name for name in inside.get(where, ()) if matches(os.path.basename(name), pattern)):
                 made, gone = table[name]
                 makers = (gone if was_there(builder, name) else made | gone) - {at}
-                is_own = at in gone or at in made and (is_import or first_made[name].get(at, -1) < place)
-                if not is_own and (gone or not any(builder.build.is_before(m, at) for m in makers)):
+                is_own = at in gone or at in made and (is_import or first_made[name].get(at, -1) < place)  # guard: listed-before-task-makes-them-itself
+                if not is_own and (gone or not any(builder.build.is_before(m, at) for m in makers)):  # guard: listed
                     seen(builder, name, at, makers)
 
 
 def matches(name: str, pattern: str) -> bool:
     """Whether a pattern can match the name of a folder; with a slash behind it, that of no file."""
-    return name != "__pycache__" if pattern == FOR_IMPORTS else fnmatch.fnmatchcase(name, pattern.rstrip("/"))
+    return name != "__pycache__" if pattern == FOR_IMPORTS else fnmatch.fnmatchcase(name, pattern.rstrip("/"))  # guard: folders-that-python-uses
 
 
 def add_times(builder: Builder) -> None:
@@ -298,9 +298,9 @@ def add_times(builder: Builder) -> None:
     wanted = builder.timed
     for at, events in each(builder):
         for kind, path, _ in events:
-            if kind in MAKES and path in wanted:
+            if kind in MAKES and path in wanted:  # guard: age-of-empty
                 builder.births.setdefault(path, set()).add(at)
-            if kind not in (CREATED, REMOVED, FOLDER_REMOVED, TIME_CHANGED, LOCKED):
+            if kind not in (CREATED, REMOVED, FOLDER_REMOVED, TIME_CHANGED, LOCKED):  # guard: time-of-folder
                 continue
             where = path if kind == TIME_CHANGED else dirname(path.rstrip("/"))
             if where in wanted:
@@ -314,7 +314,7 @@ def add_modes(builder: Builder) -> None:
     """The mode of a folder, and how many folders are in it."""
     table = each(builder)
     modes = changed_modes(builder, table)
-    closed = {path for path, given in modes.items() if not all(mode and is_open(mode) for mode in given)}
+    closed = {path for path, given in modes.items() if not all(mode and is_open(mode) for mode in given)}  # guard: folders-that-stay-open
     links = {p for _, events in table for k, p, _ in events if k == LINKS_SEEN}
     for at, events in table if modes else ():
         for kind, path, _ in events:
@@ -323,7 +323,7 @@ def add_modes(builder: Builder) -> None:
                 mark(builder, path + "/@mode", "the mode of the folder " + path, set(), {at})
             elif path in modes and kind in (SEEN, ENTERED, LISTED):
                 mark(builder, path + "/@mode", "", {at}, set())
-            elif os.path.dirname(path.rstrip("/")) in (modes if kind in CHANGES else closed if kind in LOOKS else ()):
+            elif os.path.dirname(path.rstrip("/")) in (modes if kind in CHANGES else closed if kind in LOOKS else ()):  # guard: modes-of-those-in-which-one-is-made
                 mark(builder, os.path.dirname(path.rstrip("/")) + "/@mode", "", {at}, set())
     counted: Dict[str, Set[int]] = {}
     for at, events in table if links else ():
@@ -335,7 +335,7 @@ def add_modes(builder: Builder) -> None:
                 counted.setdefault(where, set()).add(at)
     for at, events in table if counted else ():
         for kind, path, _ in events:
-            if kind == LINKS_SEEN and path in counted:
+            if kind == LINKS_SEEN and path in counted:  # guard: how-many
                 apart(builder, path + "/@links", "how many names %s has" % path, at, counted[path] - {at})
 
 
@@ -352,5 +352,5 @@ def changed_modes(builder: Builder, table: Events) -> Dict[str, Set[str]]:
         path, _, mode = text.partition("\0")
         given.setdefault(path, set()).add(mode)
     made, known = gather(builder) if given else {}, builder.names.modes
-    first = {path: known.get(path, set()).union(made[path].modes if path in made else ()) for path in given}  # also those that a make above has made
-    return {path: modes for path, modes in given.items() if builder.names.before.get(path) == "d" or len(modes) > 1 or first[path] != modes}
+    first = {path: known.get(path, set()).union(made[path].modes if path in made else ()) for path in given}  # also those that a make above has made  # guard: modes-of-folders-that-make
+    return {path: modes for path, modes in given.items() if builder.names.before.get(path) == "d" or len(modes) > 1 or first[path] != modes}  # guard: modes-that-makers

@@ -20,7 +20,7 @@ class Graph:
         self.read_nodes()
         self.split_double_colons()
         self.join_grouped()
-        self.wait_for_all_rules()
+        self.wait_for_all_rules()  # guard: who-alone-needs-it-waits-for-all-rules
         self.goals = [n for n in self.round.goals if n in self.nodes]
 
     # ---------------------------------------------------------------- nodes
@@ -44,7 +44,7 @@ class Graph:
         """The rules of one target run one after the other; who needs the target is only sure to wait for the first."""
         for name, rules in self.base.double.items():
             node = self.nodes.get(name)
-            if node is None or len(rules) < 2:
+            if node is None or len(rules) < 2:  # guard: users-wait-for-first-rule
                 continue
             known = {p for rule in rules for p in rule.prerequisites + rule.order_only}
             loose = [p for p in node.prerequisites if p not in known]
@@ -58,19 +58,19 @@ class Graph:
             for at, (part, rule) in enumerate(zip(parts, rules)):
                 part.prerequisites = dict.fromkeys([p for p in rule.prerequisites + rule.order_only if p in self.nodes] + loose)
                 if at:
-                    part.prerequisites[parts[at - 1].label] = None
+                    part.prerequisites[parts[at - 1].label] = None  # guard: one-rule-after-other
             own = [part for part, rule in zip(parts, rules) if not rule.is_empty]
-            is_known = not jobs or len(jobs) == len(own)
+            is_known = not jobs or len(jobs) == len(own)  # guard: rules-without-recipe
             self.share_jobs(own if is_known else parts, jobs, node)
-            if is_known:
-                self.hold_back(parts)
+            if is_known:  # guard: what-unknown-rule-needs
+                self.hold_back(parts)  # guard: what-later-rule-needs
 
     def share_jobs(self, parts: List[Node], jobs: List[Run], first: Node) -> None:
         """Gives each job to a rule. Where some rules with a recipe ran nothing, the k-th job is of the k-th rule or a later one: it has waited
         for what the k-th needs. Who needs the target waits for the first job, though that is of a later rule."""
         for part, job in zip(parts, jobs):
             part.jobs = [job]
-        if jobs and parts[0] is not first:
+        if jobs and parts[0] is not first:  # guard: who-waits-for-first-job
             for node in self.nodes.values():
                 if first.label in node.prerequisites and node.name != first.name:
                     node.prerequisites.setdefault(parts[0].label)
@@ -80,7 +80,7 @@ class Graph:
         first rule may have ended since and the second not begun; so this holds where it comes to the target by one way alone."""
         for name, rules in self.base.double.items():
             users = self.users(name) if name in self.nodes and len(rules) > 1 else set()
-            if len(users) == 1 and name not in self.round.goals and not self.has_more_ways({name, *users}):
+            if len(users) == 1 and name not in self.round.goals and not self.has_more_ways({name, *users}):  # guard: two-that-need
                 last = [label for label, node in self.nodes.items() if node.name == name][-1]
                 for node in self.nodes.values():
                     if node.name in users and name in node.prerequisites:
@@ -90,12 +90,12 @@ class Graph:
         """The other targets that need one, by make's words or by its data base."""
         base = self.base
         said = {one for one, seen in self.round.nodes.items() if name in seen.prerequisites}
-        return (said | {one for one in self.nodes if name in base.prerequisites.get(one, ()) or name in base.order_only.get(one, ())}) - {name}
+        return (said | {one for one in self.nodes if name in base.prerequisites.get(one, ()) or name in base.order_only.get(one, ())}) - {name}  # guard: who-needs-it-by-data-base
 
     def has_more_ways(self, names: Set[str]) -> bool:
         """Whether make comes to the prerequisites of a target by another way than by that target: by one that is made with it, or as it is an intermediate file."""
         grouped = {one for name, others in self.base.also.items() for one in (name, *others)}
-        return not names.isdisjoint(self.base.intermediate | grouped)
+        return not names.isdisjoint(self.base.intermediate | grouped)  # guard: intermediate-file-needs
 
     def hold_back(self, parts: List[Node]) -> None:
         """What a later rule alone needs is looked at when the rule before it has ended."""
@@ -156,10 +156,10 @@ class Graph:
             node = self.nodes.get(name)
             if node is None or not node.jobs:
                 continue
-            for other in (one for one in others if one not in parts):
+            for other in (one for one in others if one not in parts):  # guard: names-with-blanks-of-one-recipe
                 member = self.nodes.get(other)
                 if member is not None and member is not node and not member.jobs:
-                    member.prerequisites[name] = None
+                    member.prerequisites[name] = None  # guard: grouped-targets-wait-for-one-that-runs
                     node.prerequisites.pop(other, None)
 
 

@@ -27,12 +27,12 @@ def pass_locks(builder: Builder) -> None:
     """Tasks that only lock a file do not write it, where all of them make it alike, and each task that asks for it comes behind one of them."""
     tasks, build = builder.build.tasks, builder.build
     for path, lock in gather(builder).items():
-        lock.askers |= {at for at, task in enumerate(tasks) if path in task.reads}
+        lock.askers |= {at for at, task in enumerate(tasks) if path in task.reads}  # guard: who-lists
         writers = {at for at, task in enumerate(tasks) if path in task.writes}
-        is_seen = any(not any(build.is_before(maker, at) for maker in lock.makers - {at}) for at in lock.askers)
-        if not (lock.is_changed or is_seen or len(lock.modes) > 1 or writers - lock.makers):
+        is_seen = any(not any(build.is_before(maker, at) for maker in lock.makers - {at}) for at in lock.askers)  # guard: who-looks-at-one-behind-its-maker
+        if not (lock.is_changed or is_seen or len(lock.modes) > 1 or writers - lock.makers):  # guard: who-changes
             for at in lock.makers:
-                tasks[at].writes.discard(path)
+                tasks[at].writes.discard(path)  # guard: who-makes-one-first
 
 
 def gather(builder: Builder) -> Dict[str, Lock]:

@@ -17,7 +17,7 @@ from record.make.references import ANY, COMPUTED, EVAL, outermost, with_function
 from record.make.steady import IMPLIED, Steady
 
 # A line of a makefile that is a rule: what stands behind its colon, up to a recipe on the same line.
-RULE = re.compile(r"(?m)^(?!\t)[^\n=#]*?:(?![:=])((?:[^\n;#=]*\\\n)*[^\n;#]*)")
+RULE = re.compile(r"(?m)^(?!\t)[^\n=#]*?:(?![:=])((?:[^\n;#=]*\\\n)*[^\n;#]*)")  # guard: not-those-that-recipes-link
 ACTS = re.compile(r"\$[({](?:call[ \t]+)?(?:shell|eval|file|wildcard|realpath)[ \t,]")  # what makes a value by way of the disk, or of other macros
 
 
@@ -34,18 +34,18 @@ class Macros(MacroTexts):
     def __init__(self, make: Make, base: Base) -> None:
         super().__init__(make, base)
         recipes = (line for lines in base.recipes.values() for line in lines)
-        texts = [self.text, *base.values.values(), *recipes, *(line for lines in base.bodies.values() for line in lines)]
+        texts = [self.text, *base.values.values(), *recipes, *(line for lines in base.bodies.values() for line in lines)]  # guard: makefiles-that-are-gone
         self.is_used = self.is_lost and LINES_TEXT in base.values.values() or any(may_change(text) for text in [*texts, "\n".join(texts)])
         self.is_used = self.is_used or any(COMPUTED.search(text) for text in texts) and any(MAKES.search(text) for text in texts)
         self.exports, self.kept, self.steady = Exports(self), Kept(self), Steady(self)
         self.acts: Dict[str, Act] = {}
         self.answers = Answers(self.steady)
-        self.is_used = self.is_used or bool(self.steady.set_by_recipes)  # by a text that the environment has
+        self.is_used = self.is_used or bool(self.steady.set_by_recipes)  # by a text that the environment has  # guard: macros-that-environment-sets
 
     @cached_property
     def idle(self) -> Set[str]:
         """The targets that make never considered, and whose recipes are those of no other target: it expands none of these."""
-        places = idle_in(self.base, {name for one in self.make.words.rounds for name in (*one.nodes, *one.must, *one.vpath.values())})
+        places = idle_in(self.base, {name for one in self.make.words.rounds for name in (*one.nodes, *one.must, *one.vpath.values())})  # guard: recipes-of-targets-that-somebody-asks
         return {name for name, found in self.base.places.items() if not places.keys().isdisjoint(found)}
 
     def learn(self, changed: Set[str]) -> bool:
@@ -56,15 +56,15 @@ class Macros(MacroTexts):
         self.changed, self.given = changed, given
         self.named, self.ways, self.read_twice, self.whole_texts = {}, {}, {}, {}
         self.exports, self.kept, self.with_lines, self.acts, self.answers = Exports(self), Kept(self), {}, {}, Answers(self.steady)
-        for name in ("handed_on", "names_eval", "rule_texts", "rule_words", "some_have_lines"):
+        for name in ("handed_on", "names_eval", "rule_texts", "rule_words", "some_have_lines"):  # guard: function-that-is-put-together-for-while
             self.__dict__.pop(name, None)  # they are worked out anew
         return True
 
     @cached_property
     def rule_texts(self) -> List[str]:
         """What stands behind the colons of rules, and in macros that are named there."""
-        text = "\n".join(found.group(1) for found in RULE.finditer(without_printed(self.text)))
-        return [text, *map(self.text_of, self.reached(text))]
+        text = "\n".join(found.group(1) for found in RULE.finditer(without_printed(self.text)))  # guard: texts-that-recipes-print
+        return [text, *map(self.text_of, self.reached(text))]  # guard: macros
 
     @cached_property
     def rule_words(self) -> Set[str]:
@@ -77,21 +77,21 @@ class Macros(MacroTexts):
 
     def is_exported(self, name: str) -> bool:
         """Whether each process of a recipe finds a macro in its environment, or make itself reads it for each recipe."""
-        return self.is_lost or self.is_named_in_export(name) or name in IMPLIED or self.exports.is_inherited(name)
+        return self.is_lost or self.is_named_in_export(name) or name in IMPLIED or self.exports.is_inherited(name)  # guard: that-make-reads
 
     @cached_property
     def handed_on(self) -> Set[str]:
         """The exported macros, and all macros that their values refer to, also by way of others: make works these out for each recipe."""
-        found = {name for name in self.texts if self.is_exported(name)}
-        return found.union(*map(self.reached_from, found), self.answers.of("\n".join(self.exports.texts)))
+        found = {name for name in self.texts if self.is_exported(name)}  # guard: those-that-no-exported-one-refers
+        return found.union(*map(self.reached_from, found), self.answers.of("\n".join(self.exports.texts)))  # guard: what-exported-ones-refer-to-by-others
 
     def works_late(self) -> bool:
         """Whether make may do something when it works out the exported macros of a recipe, or find others in them: that comes when the recipe
         starts, and all else before."""
         bodies = {name: "\n".join(lines) for name, lines in self.base.bodies.items()}
-        acting = {name for known in (self.base.values, bodies) for name, text in known.items() if ACTS.search(text) or self.is_lost and text == LINES_TEXT}
-        is_acting = bool(acting) and any(map(self.is_exported, self.reaching(acting)))
-        return is_acting or any(name == ANY or self.is_exported(name) or name in self.handed_on for name in self.changed)
+        acting = {name for known in (self.base.values, bodies) for name, text in known.items() if ACTS.search(text) or self.is_lost and text == LINES_TEXT}  # guard: several-lines
+        is_acting = bool(acting) and any(map(self.is_exported, self.reaching(acting)))  # guard: others-are-worked-out-before
+        return is_acting or any(name == ANY or self.is_exported(name) or name in self.handed_on for name in self.changed)  # guard: others-in-them-that-recipe-sets
 
     def is_named_in_export(self, name: str) -> bool:
         """Whether a makefile exports a macro, by its name or with all others, or for a target; or the words of make give it a value."""
@@ -114,9 +114,9 @@ class Macros(MacroTexts):
         for one in own:
             found.writes.add(one.name)
             found.reads |= self.read_by(one, text) - surely
-            is_sure = is_one and one.is_fresh and one.start in sure and not self.firm & {one.name, ANY}
+            is_sure = is_one and one.is_fresh and one.start in sure and not self.firm & {one.name, ANY}  # guard: that-recipe-may-set
             if is_sure and one.name not in self.reached(text[:one.end]):
-                found.reads.discard(one.name)
+                found.reads.discard(one.name)  # guard: set-by-recipe-itself
                 surely.add(one.name)
         return found
 
@@ -125,7 +125,7 @@ class Macros(MacroTexts):
         if name not in self.acts:
             text, use = self.text_of(name), Use()
             for one in self.evals(text):
-                (use.keeps if self.kept.holds(name, one) else use.writes).add(one.name)
+                (use.keeps if self.kept.holds(name, one) else use.writes).add(one.name)  # guard: that-keep-value
                 use.reads |= self.read_by(one, text)
             use.writes |= {ANY} if self.is_lost and self.base.values.get(name) == LINES_TEXT else set()
             self.acts[name] = Act(use if use.writes or use.keeps else None, COMPUTED.search(text) is not None)
@@ -133,7 +133,7 @@ class Macros(MacroTexts):
 
     def implied(self) -> Use:
         """What each recipe does without a word: make works out the macros that it exports, and those that it reads itself, for each of them."""
-        setting = {name for name in self.names if EVAL.search(self.text_of(name)) or COMPUTED.search(self.text_of(name))}
+        setting = {name for name in self.names if EVAL.search(self.text_of(name)) or COMPUTED.search(self.text_of(name))}  # guard: exported-macros
         names = {name for name in self.reaching(setting) if self.is_exported(name)} if setting else set()
         return self.use("".join("$(%s)" % name for name in sorted(names))) if names else Use()
 

@@ -70,7 +70,7 @@ class MacroTexts:
         for name, value in [*assigned_in(self.text), *((name, "\n".join(lines)) for name, lines in self.base.bodies.items())]:
             found.setdefault(name, []).append(value)
         found.pop(ANY, None)
-        names = {*found, *(name for text in [*self.base.values.values(), *map("\n".join, self.base.recipes.values())] for name in named(text))} if self.late else ()
+        names = {*found, *(name for text in [*self.base.values.values(), *map("\n".join, self.base.recipes.values())] for name in named(text))} if self.late else ()  # guard: names-that-are-gone
         for name in names:  # such a macro may give itself another value, which alone is left, or none
             values = self.late_of(name)
             found.update({name: found.get(name, []) + values} if values else {})
@@ -96,7 +96,7 @@ class MacroTexts:
         found: Dict[str, List[str]] = {ANY: [value for name, value in assigned_in(self.text) if name == ANY]}
         for text in map(with_functions, texts):
             for one in self.evals(text):
-                found.setdefault(one.name, []).append(text[one.start + 1:one.end])
+                found.setdefault(one.name, []).append(text[one.start + 1:one.end])  # guard: what-it-gives-macro-for-while
         return {name: [read_again(with_functions(one)) for one in dict.fromkeys(values)] for name, values in found.items()}
 
     def all_texts(self) -> Iterator[str]:
@@ -117,7 +117,7 @@ class MacroTexts:
     def read_by(self, one: Eval, text: str) -> Set[str]:
         """The macro to which an `eval` of a text adds something that has references: whether make works these out depends on what it was."""
         body = text[one.start + 2:one.end - 1]
-        is_read = one.is_added and any("$$" in part for part in (body, *map(self.text_of, self.reached_by(named(body), False))))
+        is_read = one.is_added and any("$$" in part for part in (body, *map(self.text_of, self.reached_by(named(body), False))))  # guard: whether-it-works-out-what-it-adds
         return {one.name} if is_read else set()
 
     def evals(self, text: str) -> Iterator[Eval]:
@@ -129,7 +129,7 @@ class MacroTexts:
     def may_have_lines(self, text: str) -> bool:
         """Whether the references of a text may come to more than one line."""
         names = self.reached(text)
-        is_open = any(name not in self.texts and not NO_MACRO.fullmatch(name) for name in names)  # an argument, or a macro of a loop
+        is_open = any(name not in self.texts and not NO_MACRO.fullmatch(name) for name in names)  # an argument, or a macro of a loop  # guard: words-of-functions
         return FILES.search(text) is not None or is_open and self.some_have_lines or any(map(self.has_lines, names))
 
     @cached_property
@@ -162,11 +162,11 @@ class MacroTexts:
 
     def texts_of(self, name: str) -> List[str]:
         """The same, one by one."""
-        is_changed = ANY in self.changed or name in self.changed
+        is_changed = ANY in self.changed or name in self.changed  # guard: what-macros-are-while-nobody-changes
         known = self.texts.get(name, [])
-        again = map(read_again, known) if is_changed and self.is_evaluated else ()  # an `eval` may have read the line that assigns them
-        given = [*self.given.get(name, ()), *(["$(%s)" % UNNAMED] if self.given.get(ANY) else ())]
-        return self.given.get(ANY, []) if name == UNNAMED else [*known, *again, *(given if is_changed else ())]
+        again = map(read_again, known) if is_changed and self.is_evaluated else ()  # an `eval` may have read the line that assigns them  # guard: templates-that-assign-macro
+        given = [*self.given.get(name, ()), *(["$(%s)" % UNNAMED] if self.given.get(ANY) else ())]  # guard: macros-that-it-gives-another-one-for-while
+        return self.given.get(ANY, []) if name == UNNAMED else [*known, *again, *(given if is_changed else ())]  # guard: what-many-macros
 
     @cached_property
     def is_evaluated(self) -> bool:
@@ -186,15 +186,15 @@ class MacroTexts:
     def named_by(self, name: str, again: bool = True) -> Set[str]:
         """The macros that a macro refers to, also where its text is read again; those that a pattern fits."""
         if (name, again) not in self.named:
-            self.named[name, again] = {*(self.fitting(name) if "*" in name else ()), *self.named_in(self.text_of(name), again)}
+            self.named[name, again] = {*(self.fitting(name) if "*" in name else ()), *self.named_in(self.text_of(name), again)}  # guard: star
         return self.named[name, again]
 
     def fitting(self, pattern: str) -> List[str]:
         """The macros that a pattern fits. What stands for a `*` may have a colon or a blank, and then what stands behind it says nothing of a name."""
         head, _, tail = pattern.partition("*")
-        if tail.strip("*") and (self.has_colons or any(head + one in self.texts for one in self.before_colons)):
+        if tail.strip("*") and (self.has_colons or any(head + one in self.texts for one in self.before_colons)):  # guard: colon-behind-their-beginning
             return [name for name in self.texts if name.startswith(head)]
-        return matching(self.texts, pattern) + [name for name in self.base.cut if tail and name.startswith(head)]
+        return matching(self.texts, pattern) + [name for name in self.base.cut if tail and name.startswith(head)]  # guard: blank-in-another-macro
 
     @cached_property
     def before_colons(self) -> Set[str]:
@@ -206,11 +206,11 @@ class MacroTexts:
         """Whether that is the name of a macro, or other macros give it; or the colon is a macro in a word."""
         ends = "|".join(re.escape(name) for name, values in self.texts.items() if any(map(COLON_ALONE.fullmatch, values)))
         in_word = re.compile(r"[\w)}]\$[({](?:%s)[)}]|\$[({](?:%s)[)}][\w.%%$]" % (ends, ends))
-        return bool(ends) and any(map(in_word.search, self.all_texts())) or not self.before_colons.isdisjoint(self.texts) or any("$" in one for text in self.all_texts() for one in COLON_BEHIND.findall(text))
+        return bool(ends) and any(map(in_word.search, self.all_texts())) or not self.before_colons.isdisjoint(self.texts) or any("$" in one for text in self.all_texts() for one in COLON_BEHIND.findall(text))  # guard: colon
 
     def named_in(self, text: str, again: bool) -> FrozenSet[str]:
         """The macros that a text refers to, also where it is read again. A target may have parts of the stem of its own, whose names look like patterns."""
-        text = self.with_loops(text) + "".join(self.text_of(one) for one in ("*D", "*F") if one in self.base.bodies and one in text)
+        text = self.with_loops(text) + "".join(self.text_of(one) for one in ("*D", "*F") if one in self.base.bodies and one in text)  # guard: parts-of-stem-that-target
         return named(read_again(text) if again else text)
 
     def with_loops(self, text: str) -> str:
@@ -227,7 +227,7 @@ class MacroTexts:
     def words_of(self, name: str, seen: Set[str]) -> Optional[Set[str]]:
         """The words that a macro may have, where all of them stand in texts; None where they are put together otherwise."""
         found: Set[str] = set()
-        if name.isdigit() or self.bound & {name, ANY}:
+        if name.isdigit() or self.bound & {name, ANY}:  # guard: templates
             return None
         for text in (one.replace("\\\n", " ") for one in self.texts.get(name, ()) if name not in seen):
             others = [self.words_of(other, {*seen, name}) for other in ALONE.findall(text)]
@@ -242,8 +242,8 @@ class MacroTexts:
         get there as a word of a function."""
         text = with_functions(text)
         found = self.reached_by(self.named_in(text, False), False)
-        is_again = SECOND.search(text) is not None or any(map(self.reads_twice, found))
-        return self.reached_by(self.named_in(text, True), True) if is_again else found
+        is_again = SECOND.search(text) is not None or any(map(self.reads_twice, found))  # guard: what-macro-reads-second-time
+        return self.reached_by(self.named_in(text, True), True) if is_again else found  # guard: lists-that-get-there-as-words-of-loop
 
     def reached_by(self, names: Iterable[str], again: bool) -> Set[str]:
         """Some macros, and all that they refer to, also by way of others: one sweep, as they may all lead to the same ones."""
@@ -252,7 +252,7 @@ class MacroTexts:
             seen: Set[str] = set()
             todo = set(key[0])
             while todo:
-                seen |= todo
+                seen |= todo  # guard: one-sweep-over-macros
                 todo = set().union(*(self.named_by(name, again) for name in todo)) - seen
             self.ways[key] = seen
         return self.ways[key]

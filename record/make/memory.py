@@ -21,7 +21,7 @@ from record.trace.names import Names
 
 
 LIBRARIES = "lib%.so lib%.a"
-UNCLEAR = re.compile(r"[$\\~]")  # a macro without a value, a word that goes on behind a blank, somebody's home folder
+UNCLEAR = re.compile(r"[$\\~]")  # a macro without a value, a word that goes on behind a blank, somebody's home folder  # guard: at-home
 OF_PREREQUISITES = re.compile(r"\$(?:[<^+?]|[({][<^+?][)}])")
 LOOP = re.compile(r"\$[({](?:foreach|let)\s+([^,$]+),")
 
@@ -31,14 +31,14 @@ def place_listings(builder: RoundBuilder) -> None:
     file: whether the folder is there makes no difference then, except for the names in it."""
     acts = {name: work for (number, name), work in builder.make.acts.items() if number == builder.number}
     nodes = {node.name: node for node in builder.graph.nodes.values()}
-    open_names = exported_lists(builder.known)
+    open_names = exported_lists(builder.known)  # guard: exported-macros
     for name, work in acts.items():
         listed = [(kind, path, place) for (kind, path), place in work.events.items() if kind in MAKE_LISTED + MAKE_OPENED]
         asked = own_folders(builder, nodes[name]) if listed and name in nodes and not open_names else None
         for kind, path, place in listed:
-            if kind == MAKE_LISTED and (asked is None or path in asked):
+            if kind == MAKE_LISTED and (asked is None or path in asked):  # guard: search
                 add_list(builder.make, work, path, place)
-            elif kind == MAKE_OPENED and (asked is None or path in asked or has_modes(builder.make)):
+            elif kind == MAKE_OPENED and (asked is None or path in asked or has_modes(builder.make)):  # guard: folder-that-is-there-for-them-alone
                 work.add(SEEN, path, place)
 
 
@@ -50,11 +50,11 @@ def has_modes(make: Make) -> bool:
 
 def add_list(make: Make, work: Work, folder: str, place: int) -> None:
     """A folder is listed for all that a make asks for by `wildcard`; before it sorted what it finds, the order of the names counts too."""
-    patterns = make.patterns_in(folder)
+    patterns = make.patterns_in(folder)  # guard: folders-of-patterns
     for pattern in patterns:
         work.add(LISTED, folder + "\0" + pattern, place)
     if patterns and not make.words.sorts_names:
-        work.add(ORDER_SEEN, folder, place)
+        work.add(ORDER_SEEN, folder, place)  # guard: lists-of-recipes
 
 
 def exported_lists(known: Macros) -> bool:
@@ -67,7 +67,7 @@ def own_folders(builder: RoundBuilder, node: Node) -> Optional[Set[str]]:
     """The folders that a target's recipe lists by `wildcard`; None where nobody can say which."""
     base, known = builder.graph.base, builder.known
     text = "\n".join(base.recipes.get(node.name, ()))
-    if ".SECONDEXPANSION" in base.prerequisites or any(may_list(known, one) for one in (text, *map(known.text_of, known.answers.of_recipe(node.name)))):
+    if ".SECONDEXPANSION" in base.prerequisites or any(may_list(known, one) for one in (text, *map(known.text_of, known.answers.of_recipe(node.name)))):  # guard: values-that-are-worked-out
         return None
     return folders_listed(builder, node)
 
@@ -77,7 +77,7 @@ def may_list(known: Macros, text: str) -> bool:
     `$$` has another value, as in `X = $(eval X := $$(shell ..))$(X)`, and where that names no `wildcard`."""
     found = list(evals(text))
     bodies = [text[one.start + 1:one.end] for one in found]
-    is_known = len(re.findall(WORD_EVAL, text)) == len(found) and not any(one.name == ANY or "$" in body.replace("$$", "") for one, body in zip(found, bodies))
+    is_known = len(re.findall(WORD_EVAL, text)) == len(found) and not any(one.name == ANY or "$" in body.replace("$$", "") for one, body in zip(found, bodies))  # guard: values-that-are-read
     inner = [body.replace("$$", "$") for body in bodies]
     return not is_known or any("wildcard" in one for body in inner for one in (body, *map(known.text_of, known.reached(body))))
 
@@ -92,13 +92,13 @@ def share_listings(builder: RoundBuilder) -> None:
         asked = folders_listed(builder, node) if node.jobs or node.must and node.has_recipe else set()
         born = births(builder, node)
         for folder, place in late.items():
-            if place < max(born) and (asked is None or folder in asked) and lists.has(folder, min(born)):
-                add_list(make, make.acts.setdefault((builder.number, node.name), Work()), folder, place)
+            if place < max(born) and (asked is None or folder in asked) and lists.has(folder, min(born)):  # guard: for-who-asks
+                add_list(make, make.acts.setdefault((builder.number, node.name), Work()), folder, place)  # guard: listings-that-make-keeps
 
 
 def keeps_lists(version: str) -> bool:
     """Whether make keeps what it has found in a folder when recipes have ended."""
-    return numbers_of(version) < LATER
+    return numbers_of(version) < LATER  # guard: lists-that-make-keeps-before-gnu-make-4
 
 
 class Lists:
@@ -115,7 +115,7 @@ class Lists:
     def has(self, folder: str, start: int) -> bool:
         """Whether make may have a list of a folder when a recipe starts: one that is older than the last command which has ended is read anew."""
         since = self.ends[bisect(self.ends, start) - 1] if self.ends and self.ends[0] <= start else -1
-        return self.keeps or any(since < place < start for place in self.places.get(folder, ()))
+        return self.keeps or any(since < place < start for place in self.places.get(folder, ()))  # guard: that-make-keeps-until-command-ends
 
 
 def births(builder: RoundBuilder, node: Node) -> List[int]:
@@ -129,17 +129,17 @@ def words_asked(known: Macros, node: Node) -> Optional[List[str]]:
     base = known.base
     text = with_functions("\n".join(base.recipes.get(node.name, ())))
     reached = known.answers.of_recipe(node.name)
-    texts = [text, *known.answers.texts_of_recipe(node.name)]
+    texts = [text, *known.answers.texts_of_recipe(node.name)]  # guard: what-was-asked-when-makefile-was-read
     whole = "\n".join(texts)
     calls = [call for one in texts for call in arguments(one)]
-    if ANY in reached or composes(whole, "wildcard") or whole.count("wildcard") > len(calls) or None in calls or binds_any(whole) or BOUND.search(whole):
+    if ANY in reached or composes(whole, "wildcard") or whole.count("wildcard") > len(calls) or None in calls or binds_any(whole) or BOUND.search(whole):  # guard: loops-that-call-calls
         return None
-    own = [with_prerequisites(with_target(call or "", node.name), node.name, base) for call in calls]
-    if "@D" in base.bodies or not known.reached("\n".join(own)).isdisjoint({*base.bodies, *(name for one in texts for name in looped(one))}):
+    own = [with_prerequisites(with_target(call or "", node.name), node.name, base) for call in calls]  # guard: names-of-prerequisites
+    if "@D" in base.bodies or not known.reached("\n".join(own)).isdisjoint({*base.bodies, *(name for one in texts for name in looped(one))}):  # guard: macro-in-loop
         return None  # a macro has another value for some targets, or in a loop
-    values = {name: value for name, value in base.values.items() if not name.isdigit()}  # such a name may stand for a word of a call
+    values = {name: value for name, value in base.values.items() if not name.isdigit()}  # such a name may stand for a word of a call  # guard: words-that-makefile-sets-too
     words = [word for one in own for word in with_values(one, values).split()]
-    if any("$" in one for one in own) and known.changed or any(UNCLEAR.search(word) or MAGIC.search(os.path.dirname(word)) for word in words):
+    if any("$" in one for one in own) and known.changed or any(UNCLEAR.search(word) or MAGIC.search(os.path.dirname(word)) for word in words):  # guard: names-of-targets-alone
         return None
     return words
 
@@ -158,14 +158,14 @@ def folders_asked(known: Macros, names: Names, node: Node) -> Optional[Set[str]]
 def folders_listed(builder: RoundBuilder, node: Node) -> Optional[Set[str]]:
     """Those of them that make lists for that; None where nobody can say which. For a name without a sign of a pattern it asks the disk itself, and lists no folder."""
     words = words_asked(builder.known, node)
-    return None if words is None else folders_of(builder.known, builder.names, (word for word in words if MAGIC.search(word) or not asks_disk(builder)))
+    return None if words is None else folders_of(builder.known, builder.names, (word for word in words if MAGIC.search(word) or not asks_disk(builder)))  # guard: names-without-pattern
 
 
 @lru_cache(maxsize=4)
 def asks_disk(builder: RoundBuilder) -> bool:
     """Whether the trace shows that of one such name of some recipe: then make has not come to those of which it shows no look."""
     words = (word for node in builder.graph.nodes.values() if node.jobs for word in words_asked(builder.known, node) or ())
-    return any(is_asked(builder.make, builder.names, word) for word in words if not MAGIC.search(word))
+    return any(is_asked(builder.make, builder.names, word) for word in words if not MAGIC.search(word))  # guard: names-in-branch-that-is-not-taken
 
 
 def is_asked(make: Make, names: Names, name: str) -> bool:
@@ -176,7 +176,7 @@ def is_asked(make: Make, names: Names, name: str) -> bool:
 @lru_cache(16)
 def asked_by(make: Make) -> Set[str]:
     """All such names: the function by which it finds names for `wildcard` asks by `lstat`."""
-    return {act.path for act in make.life.acts if act.kind in ASKS and not act.word}
+    return {act.path for act in make.life.acts if act.kind in ASKS and not act.word}  # guard: names-that-disk-is-not-asked
 
 
 def folders_of(known: Macros, names: Names, words: Iterable[str]) -> Set[str]:
@@ -208,7 +208,7 @@ def libraries(builder: RoundBuilder, node: Node) -> List[str]:
     names = [name for name in node.prerequisites if name in nodes and builder.build.writers.get(nodes[name].path)]
     names = [name for name in names if not (os.path.dirname(name) and nodes[name].has_recipe)]  # a search path finds targets before they are there
     stems = {name: stem for name in names for stem in stems_of(builder, name)}
-    if not stems or "-l" not in builder.known.text:
+    if not stems or "-l" not in builder.known.text:  # guard: libraries-by-their-short-names
         return []
     words = builder.known.rule_words
     return [nodes[name].path for name, stem in stems.items() if "-l" + stem in words or any(word.startswith("-l") and "$" in word for word in words)]

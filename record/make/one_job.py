@@ -19,12 +19,12 @@ HANDS = re.compile(r"\$\$?[({]?M(?:AKE)?FLAGS\b")  # what hands the flags of the
 def has_one_job(words: Words, life: Life, callers: Sequence[str]) -> bool:
     """Whether a make runs one job at a time whatever the make above is asked for. `callers`: the lines of the recipe that called it, as they stand in
     the makefile. A number that a macro or a program gave may be another one next time, and so may the flags of the make above."""
-    texts = [*callers, *texts_between(life)]
-    if any(map(hands_on, texts)):
+    texts = [*callers, *texts_between(life)]  # guard: lines-of-recipe-as-they-stand
+    if any(map(hands_on, texts)):  # guard: jobs-that-recipe-hands
         return False
     if words.slots:
-        return words.slots == "1" and any(ONE_JOB.search(text) for text in texts)
-    return not asks_jobs([], words.flags) and (not words.below or sets_flags(callers, words.flags))
+        return words.slots == "1" and any(ONE_JOB.search(text) for text in texts)  # guard: j1-of-inner-make
+    return not asks_jobs([], words.flags) and (not words.below or sets_flags(callers, words.flags))  # guard: inner-make-without-flags
 
 
 def hands_on(text: str) -> bool:
@@ -46,11 +46,11 @@ def texts_between(life: Life) -> Iterator[str]:
         if up is not life and (up.is_make or up.is_ninja):
             return
         is_worked_out = up.parent is not None and up.parent.is_make
-        for number, argv in enumerate(up.ran[:-1] if up is life else up.ran or [up.argv]):
-            yield from texts_of(up, argv)[is_worked_out and number == 0:]
+        for number, argv in enumerate(up.ran[:-1] if up is life else up.ran or [up.argv]):  # guard: words-of-make-itself
+            yield from texts_of(up, argv)[is_worked_out and number == 0:]  # guard: number-that-macro-gives
 
 
 def texts_of(life: Life, argv: List[str]) -> List[str]:
     """The words of a program, and the text of a shell's script."""
     script = script_of(argv)
-    return [" ".join(argv), *([contents(os.path.join(life.folder, script))] if script else [])]
+    return [" ".join(argv), *([contents(os.path.join(life.folder, script))] if script else [])]  # guard: scripts

@@ -74,7 +74,7 @@ class Make(Tool):
     def known_text(self, name: str) -> Optional[str]:
         """What a makefile said when make read it; None where it is gone."""
         try:
-            return "\n".join(map(text_of, self.words.copies_of(name) or [os.path.join(self.folder, name)]))
+            return "\n".join(map(text_of, self.words.copies_of(name) or [os.path.join(self.folder, name)]))  # guard: what-they-say
         except OSError:
             return None
 
@@ -82,7 +82,7 @@ class Make(Tool):
         """Whether it looked for a makefile, as for `-include`, and found none: that one says nothing."""
         path = os.path.normpath(os.path.join(self.folder, name))
         kinds = self.kinds.get(path, set())
-        return ABSENT in kinds and READ not in kinds and not machine.lexists(path)
+        return ABSENT in kinds and READ not in kinds and not machine.lexists(path)  # guard: makefiles
 
     def begin(self, start: int) -> int:
         """When it began, or began again: then it knows nothing of what it has listed."""
@@ -101,24 +101,24 @@ class Make(Tool):
         found: Dict[str, Tuple[int, int]] = {}
         for place, path in self.lists:
             if self.begin(start) <= place < self.begin(start + 1):
-                found[path] = (found[path][0] if path in found else place, place)
+                found[path] = (found[path][0] if path in found else place, place)  # guard: pieces
         return found
 
     def has_one_slot(self) -> bool:
         """Whether it runs one job at a time whatever the user says: by its words, or as no make above hands it jobs. The words of
         a make that none is above are the user's own."""
         if not any(life.is_make or life.is_ninja for life in self.life.up() if life is not self.life):
-            return False
-        return (bool(self.words.slots) or not self.is_called) and has_one_job(self.words, self.life, self.callers)
+            return False  # guard: users-own-j1
+        return (bool(self.words.slots) or not self.is_called) and has_one_job(self.words, self.life, self.callers)  # guard: not-make-that-make-calls
 
 
 def beginning(make: Make, number: int) -> int:
     """When a round of a make begins: the makefiles are read, and the recipes of the round before have ended."""
     rounds = make.words.rounds
     jobs = [job for one in rounds[:number] for job in one.jobs]
-    ended = (life.died for job in jobs if id(job) in make.work for life in make.work[id(job)].lives[:1])
+    ended = (life.died for job in jobs if id(job) in make.work for life in make.work[id(job)].lives[:1])  # guard: what-is-made-for-makefile
     start = rounds[number].start
-    return max([make.ready[start] if start < len(make.ready) else make.life.born, *ended])
+    return max([make.ready[start] if start < len(make.ready) else make.life.born, *ended])  # guard: what-is-made-while-make-reads
 
 
 def called_by(make: Make) -> Iterator[Life]:
@@ -139,7 +139,7 @@ def makes_of(work: Work) -> List[Make]:
 def only_places(wanted: List[int], there: List[int]) -> Optional[List[int]]:
     """The places at which numbers stand in a row in their order; nothing where they do not, or in more than one way."""
     first, last = places_of(wanted, there), places_of(wanted[::-1], there[::-1])
-    return first if len(first) == len(wanted) and first == [len(there) - 1 - place for place in last[::-1]] else None
+    return first if len(first) == len(wanted) and first == [len(there) - 1 - place for place in last[::-1]] else None  # guard: that-come-again
 
 
 def places_of(wanted: List[int], there: List[int]) -> List[int]:
@@ -169,11 +169,11 @@ class Owners:
             if life.is_make and life.number >= 0:
                 found = by_key.pop((life.pid, life.number), None)
                 if found is None:
-                    self.holes.append("a make has no words: " + " ".join(life.argv)[:100])
+                    self.holes.append("a make has no words: " + " ".join(life.argv)[:100])  # guard: make-without-words
                 else:
                     self.add_make(life, found)
         for (pid, _), found in by_key.items():
-            self.holes.append("a make has no process in the trace: %d %s" % (pid, found.args))
+            self.holes.append("a make has no process in the trace: %d %s" % (pid, found.args))  # guard: words-without-make
         for make in self.makes:
             self.holes.extend(make.words.holes)
             self.match_jobs(make)
@@ -189,7 +189,7 @@ class Owners:
         make.by_links = any(act.kind == READ and act.path in self.links and not OF_SYSTEM.match(act.path) for act in life.acts)
         self.makes.append(make)
         self.of_life[id(life)] = make
-        self.holes += ["a make did not end: make " + words.args] if words.status is None else []
+        self.holes += ["a make did not end: make " + words.args] if words.status is None else []  # guard: make-that-did-not-end
 
     @staticmethod
     def folder_of(life: Life, words: Words) -> str:
@@ -211,8 +211,8 @@ class Owners:
         names, values = [name for one in make.words.rounds for name in one.nodes], make.words.values()
         idle, own = idle_of(make.words), [make.words.args, make.words.flags]
         if idle is not None and any(map(TAKES.search, (*own, *texts.values()))):
-            idle.macros.clear()
-        used = own + without_defaults({name: without_idle(text, name, make.words, idle) for name, text in texts.items()}, make.words)
+            idle.macros.clear()  # guard: macros-that-are-taken-away
+        used = own + without_defaults({name: without_idle(text, name, make.words, idle) for name, text in texts.items()}, make.words)  # guard: defaults
         return sorted(patterns(used, values, names, make.words.environment)), sorted(listed(used, values, names, lambda: asked_names(make.words), make.words.environment))
 
     def match_jobs(self, make: Make) -> None:
@@ -233,14 +233,14 @@ class Owners:
             births = [self.births.get(id(job), -1) for job in one.jobs]
             if any(b < 0 for b in births):
                 self.holes.append("a recipe that ran has no process: " + one.jobs[births.index(-1)].target)
-            elif births != sorted(births):
+            elif births != sorted(births):  # guard: jobs-out-of-order
                 self.holes.append("the jobs of make are not in the order of the trace: make " + make.words.args)
 
     def match_by_number(self, make: Make, kids: List[Life]) -> None:
         """Where they do not fit, or in more than one way: the k-th process of a number is the k-th job of that number, and the record has a hole."""
         for pid, jobs in make.words.jobs.items():
             lives = [life for life in kids if life.pid == pid]
-            if len(lives) != len(jobs):
+            if len(lives) != len(jobs):  # guard: more-processes-than-jobs
                 self.holes.append("a recipe that ran has no process: " + jobs[0].target if not lives else "a process number came again: %d" % pid)
             for life, job in zip(lives, jobs):
                 self.jobs[id(life)] = job
@@ -250,7 +250,7 @@ class Owners:
         chain = list(make.life.up())
         for child, up in zip(chain, chain[1:]):
             if up.is_make or up.is_ninja:
-                return up.is_make and id(child) not in self.jobs and not any("MAKEFLAGS" in word for one in chain[:chain.index(up)] for argv in one.ran for word in argv)
+                return up.is_make and id(child) not in self.jobs and not any("MAKEFLAGS" in word for one in chain[:chain.index(up)] for argv in one.ran for word in argv)  # guard: make-that-make-calls
         return False
 
     def callers_of(self, make: Make) -> Sequence[str]:
@@ -272,7 +272,7 @@ class Owners:
         while todo:
             one = todo.pop()
             yield one
-            todo.extend(one.children)
+            todo.extend(one.children)  # guard: outer-recipe-has-what-its-makes
 
     def take(self, work: Work, life: Life) -> None:
         """What a process and all below it did belongs to a recipe."""
@@ -283,10 +283,10 @@ class Owners:
                 work.makes.append(make)
             for key, place in one.events.items():
                 if key[0] == MAKE_LISTED:
-                    for pattern in make.all_patterns_in(key[1]) if make is not None else ["*"]:
+                    for pattern in make.all_patterns_in(key[1]) if make is not None else ["*"]:  # guard: patterns-of-rules
                         work.add(LISTED, key[1] + "\0" + pattern, place)
                     if not self.is_sorted:
-                        work.add(ORDER_SEEN, key[1], place)
+                        work.add(ORDER_SEEN, key[1], place)  # guard: makes-inside
                 elif work.events.get(key, place + 1) > place:
                     work.add(SEEN if key[0] == MAKE_OPENED else key[0], key[1], place)
 
@@ -314,7 +314,7 @@ class Owners:
         last = begin
         for act in make.life.acts:
             if begin <= act.place < end:
-                if left and act.kind in (READ, ABSENT) and os.path.basename(act.path) in left:
+                if left and act.kind in (READ, ABSENT) and os.path.basename(act.path) in left:  # guard: makefiles-again
                     left.remove(os.path.basename(act.path))
                     last = act.place
                 elif not left and act.word in names:
@@ -328,11 +328,11 @@ class Owners:
         births = [t[0] for t in table]
         jobs = [job for _, one in rounds for job in one.jobs if job.pids[1:]]
         names = {n for _, r in rounds for n in r.nodes} | {v for _, r in rounds for v in r.vpath.values()}
-        apart = self.removed_last(make) | self.read_archives(make, names)
+        apart = self.removed_last(make) | self.read_archives(make, names)  # guard: not-removal-of-intermediate-files
         programs = Programs(make.words, make.life)
         pieces: List[Tuple[int, List[Tuple[str, str, int]], Work]] = []
         for act in make.life.acts:
-            if ready < act.place < end and (act.word not in names or programs.are_at(act.word)) and id(act) not in apart:
+            if ready < act.place < end and (act.word not in names or programs.are_at(act.word)) and id(act) not in apart:  # guard: relative-folders
                 pieces.append((act.place, [(act.kind, act.path, act.place)], Work()))
         for life in make.life.children:
             if id(life) not in self.jobs and ready < life.born < end:
@@ -347,11 +347,11 @@ class Owners:
             before = make.words.rounds[table[at - 1][1]].jobs[table[at - 1][2] - 1] if at else None
             last = self.lasts.get(id(before), 0)
             later = [job for job in jobs if self.births.get(id(job), place) < place < self.lasts.get(id(job), 0)]
-            for job in {id(one): one for one in [*later, *([before] if before is not None and not before.is_ended else [])]}.values():  # make starts a line of a recipe
+            for job in {id(one): one for one in [*later, *([before] if before is not None and not before.is_ended else [])]}.values():  # make starts a line of a recipe  # guard: between-lines-of-recipe
                 take_piece(make.work.setdefault(id(job), Work()), ran, events)
-            if place > last or len(later) > 1:
-                owners = self.owners_at(make, rounds, table, at)
-                for number, target in {o for o in owners if looks.get(o[1], -1) < place} or owners:
+            if place > last or len(later) > 1:  # guard: not-of-next-recipe
+                owners = self.owners_at(make, rounds, table, at)  # guard: acts-of-make-belong-to-somebody
+                for number, target in {o for o in owners if looks.get(o[1], -1) < place} or owners:  # guard: not-to-what-make-looks-at-later
                     take_piece(make.acts.setdefault((number, target), Work()), ran, events)
 
     def removed_last(self, make: Make) -> Set[int]:
@@ -392,5 +392,5 @@ class Owners:
             if before is None and at < len(table) and number != table[at][1] and one.jobs:
                 continue
             base = one.base or Base()
-            owners.update((number, t) for t in one.due.get(done, ()) if t in base.recipes or t not in base.prerequisites)  # a name like `x:` may not be read
+            owners.update((number, t) for t in one.due.get(done, ()) if t in base.recipes or t not in base.prerequisites)  # a name like `x:` may not be read  # guard: what-had-to-be-made
         return owners

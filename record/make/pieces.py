@@ -72,7 +72,7 @@ def words_of(text: str, opening: str, most: int) -> Sequence[str]:
     for place in SIGNS[opening].finditer(text):
         sign = place.group()
         depth += (sign == opening) - (sign == CLOSES[opening])
-        if sign == "," and not depth and len(found) + 1 != most:
+        if sign == "," and not depth and len(found) + 1 != most:  # guard: brackets
             found.append(text[begin:place.start()])
             begin = place.end()
     return (*found, text[begin:])

@@ -26,7 +26,7 @@ class Programs:
 
     def are_at(self, word: str) -> bool:
         """Whether a name, as make spells it, may be that of a program which it looks for."""
-        return os.path.basename(word) in self.names and (self.is_open or os.path.normpath(os.path.dirname(word)) in self.folders)
+        return os.path.basename(word) in self.names and (self.is_open or os.path.normpath(os.path.dirname(word)) in self.folders)  # guard: not-any-target
 
 
 def folders_of(base: Base) -> Set[str]:
@@ -36,14 +36,14 @@ def folders_of(base: Base) -> Set[str]:
 
 def path_of(base: Base) -> Set[str]:
     """The folders in all that PATH may be."""
-    values = [base.values.get("PATH", ""), *(line.partition("=")[2].strip() for line in base.bodies.get("PATH", ()))]
+    values = [base.values.get("PATH", ""), *(line.partition("=")[2].strip() for line in base.bodies.get("PATH", ()))]  # guard: folders-for-one-target
     return {folder or "." for value in values if value for folder in with_values(value, base.values).split(":")}
 
 
 def are_inside(base: Base, where: str, tops: Iterable[str]) -> bool:
     """Whether PATH may lead into the folders that the build works in, for a make in a folder."""
     below = tuple(top.rstrip("/") + "/" for top in tops)
-    return any("$" in folder or (machine.realpath(os.path.join(where, folder)) + "/").startswith(below) for folder in path_of(base))
+    return any("$" in folder or (machine.realpath(os.path.join(where, folder)) + "/").startswith(below) for folder in path_of(base))  # guard: relative-folders-in-which-make-looks-late
 
 
 def names_in(base: Base) -> Set[str]:

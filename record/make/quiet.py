@@ -15,19 +15,19 @@ from record.trace.lives import Life
 def excused(builder: Builder, at: int, folder: str) -> bool:
     """Whether a recipe makes a folder in a quiet form, which does not show who was first."""
     lives = [life for work in builder.build.tasks[at].works for life in work.lives]
-    kept = builder.make.words.kept_errors if isinstance(builder, RoundBuilder) else ""
-    if makes_quietly(lives, folder, bool(kept)) or not kept and is_ignored(builder, at, folder):
+    kept = builder.make.words.kept_errors if isinstance(builder, RoundBuilder) else ""  # guard: errors-that-make-above-keeps
+    if makes_quietly(lives, folder, bool(kept)) or not kept and is_ignored(builder, at, folder):  # guard: lines-that-may-fail
         return True
-    found = kept == "pipe" and (makes_quietly(lives, folder, False) or is_ignored(builder, at, folder))
+    found = kept == "pipe" and (makes_quietly(lives, folder, False) or is_ignored(builder, at, folder))  # guard: errors-that-program-gets
     if found and isinstance(builder, RoundBuilder):  # who comes second says so, to a program
-        builder.assumed.add("output", "make " + builder.make.words.args)
+        builder.assumed.add("output", "make " + builder.make.words.args)  # guard: errors-that-program-gets-said
     return found
 
 
 def makes_quietly(lives: List[Life], folder: str, is_kept: bool) -> bool:
     """Whether the processes of a recipe make a folder in a quiet form. `is_kept`: a make above keeps their errors."""
-    found = any(is_quiet(argv, folder, is_kept) and not keeps_errors(life, argv) for life in lives for argv in life.ran)
-    return found and all(is_of_form(life, folder, is_kept) for life in lives)
+    found = any(is_quiet(argv, folder, is_kept) and not keeps_errors(life, argv) for life in lives for argv in life.ran)  # guard: errors-that-shell-above-keeps
+    return found and all(is_of_form(life, folder, is_kept) for life in lives)  # guard: another-way-too
 
 
 def is_quiet(argv: List[str], folder: str, is_kept: bool) -> bool:
@@ -50,7 +50,7 @@ def is_ignored(builder: Builder, at: int, folder: str) -> bool:
         return False
     makers = [life for work in task.works for life in work.lives if life.events.keys() & {(MADE, folder), (MADE_BEFORE, folder)}]
     heeded = [line for line in builder.graph.base.recipes.get(task.node.name, []) if not re.match(r"\s*[@+]*-", line)]
-    return bool(makers) and all(is_plain_mkdir(life) for life in makers) and not any(re.match(r"\s*[@+]*\s*(\S*mkdir|\$)", line) for line in heeded)
+    return bool(makers) and all(is_plain_mkdir(life) for life in makers) and not any(re.match(r"\s*[@+]*\s*(\S*mkdir|\$)", line) for line in heeded)  # guard: lines-that-may-not-fail
 
 
 def is_plain_mkdir(life: Life) -> bool:
@@ -78,4 +78,4 @@ def makes_itself(builder: Builder, at: int, path: str) -> bool:
         return False
     lines = builder.graph.base.recipes.get(task.node.name, [])
     only = re.compile(r"\s*[@+-]*\s*mkdir\s+(?:-p|--parents)\s+(?:\$@|\$\(@\)|%s)/?\s*" % re.escape(task.node.name))
-    return bool(lines) and all(only.fullmatch(line) for line in lines)
+    return bool(lines) and all(only.fullmatch(line) for line in lines)  # guard: rule-that-comes-late-makes-folder-alone

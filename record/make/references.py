@@ -8,13 +8,13 @@ from record.trace.strace import remembered
 
 BEGIN = re.compile(r"\$(?:[({](?:(?:call|value|origin|flavor)\s+)?|([^\s$({]))")
 EVAL = re.compile(r"\$([({])(?:eval|guile)[ \t]")  # a program in Guile may change any macro
-BUILT_IN = re.compile(r"\$([({])call\s+(call|eval|guile|value|origin|flavor)\s*,")  # a function of make that `call` calls
+BUILT_IN = re.compile(r"\$([({])call\s+(call|eval|guile|value|origin|flavor)\s*,")  # a function of make that `call` calls  # guard: called-function-that-shows
 SPLIT = re.compile(r"\$([({])(call|eval|guile|value|origin|flavor)[\n\r\f\v]")  # a function whose words begin on the next line
 CONTINUED = re.compile(r"[ \t]*(?<!\\)\\\n[ \t]*")  # make takes it for one blank in a reference
 COMPUTED = re.compile(r"\$[({]call\s[^,(){}]*\$")  # a function that another macro names
 # What reads a text that it gets a second time: `eval`, a function that another macro names, and one that works out its own words, where `call` calls it.
-SECOND = re.compile(EVAL.pattern + "|" + COMPUTED.pattern + r"|\$[({]call\s+(?:foreach|let|if|or|and|intcmp)\s*,")
-GOES_ON = re.compile(r"(?<!\\)((?:\\\\)*)\\\n[ \t]*")  # a line of a makefile: two backslashes at its end are one sign of it
+SECOND = re.compile(EVAL.pattern + "|" + COMPUTED.pattern + r"|\$[({]call\s+(?:foreach|let|if|or|and|intcmp)\s*,")  # guard: what-it-reads-second-time
+GOES_ON = re.compile(r"(?<!\\)((?:\\\\)*)\\\n[ \t]*")  # a line of a makefile: two backslashes at its end are one sign of it  # guard: even-numbers-of-backslashes
 BINDS = re.compile(r"\$[({](?:call[ \t]+)?(?:foreach|let)[ \t,]([^,]*),")  # a loop, and the macros that it gives a value
 SIGNS = re.compile(r"\$+")
 STEM = re.compile(r"\$(?:\*|\(\*[DF]?\)|\{\*[DF]?\})")  # what stands for `%`: its own name is no pattern, though one with it in is
@@ -63,15 +63,15 @@ def joined(text: str) -> str:
 
 def read_again(text: str) -> str:
     """A text with all references that it may have when it is read once more, or several times: `$$(X)` is then one to X."""
-    return SIGNS.sub("$", text)
+    return SIGNS.sub("$", text)  # guard: texts-that-are-read-many-times
 
 
 @remembered
 def named(text: str) -> FrozenSet[str]:
     """The macros that a text refers to when it is read once; a name that is made of other macros is a pattern, with `*` for each of them."""
     plain = STEM.sub("$@", text.replace("$$", "  "))
-    found = {one.group(1).strip(ENDS) if one.group(1) else name_at(plain, one.end()) for one in BEGIN.finditer(plain)}
-    return frozenset(ANY if fits(".VARIABLES", name) else name for name in found)
+    found = {one.group(1).strip(ENDS) if one.group(1) else name_at(plain, one.end()) for one in BEGIN.finditer(plain)}  # guard: one-sign
+    return frozenset(ANY if fits(".VARIABLES", name) else name for name in found)  # guard: list-of-all
 
 
 def outermost(text: str) -> Set[int]:
@@ -108,7 +108,7 @@ def end_of(text: str, at: int) -> int:
 @lru_cache(1 << 10)
 def shape(pattern: str) -> "re.Pattern[str]":
     """A pattern of `named`, in which no sign means anything other than `*`."""
-    return re.compile(".*".join(map(re.escape, pattern.split("*"))), re.S)
+    return re.compile(".*".join(map(re.escape, pattern.split("*"))), re.S)  # guard: signs-of-patterns
 
 
 def fits(name: str, pattern: str) -> bool:

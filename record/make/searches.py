@@ -45,7 +45,7 @@ def asked_by(base: Rules, name: str, depth: int) -> Set[str]:
     """The same, by the rules alone."""
     found: Set[str] = set()
     archive, opening, member = name.partition("(")
-    todo, level = [name, *([opening + member] if archive and member.endswith(")") else [])], 0
+    todo, level = [name, *([opening + member] if archive and member.endswith(")") else [])], 0  # guard: members-of-archives
     while todo and level < depth:
         steps = [one for each in todo for one in step(base, each, level == 0)]
         todo, level = list({name for name, is_last in steps if not is_last} - found), level + 1
@@ -60,7 +60,7 @@ def step(base: Rules, name: str, is_first: bool) -> Iterable[Tuple[str, bool]]:
     is_open = is_first and all(target == "%" for _, _, _, target in fits)
     for at, stem, folder, target in fits:
         if is_open or target != "%" or at in base.terminal:
-            yield from ((filled(one, stem, folder), at in base.terminal) for one in base.patterns[at][1])
+            yield from ((filled(one, stem, folder), at in base.terminal) for one in base.patterns[at][1])  # guard: names-without-stem
 
 
 def tried(base: Base, name: str, needs: Set[str]) -> Iterator[str]:
@@ -84,10 +84,10 @@ def asked_names(words: Words) -> Set[str]:
     found: Set[str] = set()
     for one in words.rounds:
         base = one.base
-        if base is None or base.search or any("$" in word for _, asked in base.patterns for word in asked):
+        if base is None or base.search or any("$" in word for _, asked in base.patterns for word in asked):  # guard: names-in-search-paths
             return {"*"}
         searches = Searches(base)
-        found.update(one.nodes, *(searches.names(target, DEPTH) for target in one.nodes if target in base.implicit))
+        found.update(one.nodes, *(searches.names(target, DEPTH) for target in one.nodes if target in base.implicit))  # guard: names-that-are-searched-and-such-rule-fits
     return found
 
 
@@ -105,7 +105,7 @@ class Searches:
         """The names that a search looks for, by way of at most so many rules."""
         folder, last = os.path.split(name)
         stem, dot, ending = last.partition(".")
-        if not stem or "(" in name or stem.startswith(self.heads) or stem.endswith(self.tails):
+        if not stem or "(" in name or stem.startswith(self.heads) or stem.endswith(self.tails):  # guard: names-that-begin-as-rule-says
             return names_asked(self.base, name, depth)
         key = (folder, dot + ending, depth)
         if key not in self.kept:

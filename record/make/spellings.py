@@ -29,13 +29,13 @@ def twice(names: Names, lives: Iterable[Life], makes: Iterable[Make]) -> List[st
     if not names.folds:
         return []
     spellings: Dict[str, Set[str]] = {}
-    for path in names.before:
+    for path in names.before:  # guard: what
         spellings.setdefault(key_of(path), set()).add(path)
     changed: Set[str] = set()
     for kind, path in used(lives):
         spellings.setdefault(key_of(path), set()).add(path)
-        changed |= {key_of(path)} if kind in TREE_CHANGES else set()
-    for path in made(makes, names):
+        changed |= {key_of(path)} if kind in TREE_CHANGES else set()  # guard: what-changes-alone
+    for path in made(makes, names):  # guard: targets
         spellings.setdefault(key_of(path), set()).add(path)
         changed.add(key_of(path))
     return [TWO % tuple(sorted(spellings[key])[:2]) for key in sorted(changed) if len(spellings[key]) > 1]

@@ -29,7 +29,7 @@ class RoundBuilder(Builder):
         self.ageless: Set[str] = set()  # labels of targets by whose age nothing is remade
         self.began = -1
         self.known, self.macros = macros_of(make, self.graph.base)
-        self.works_late = self.known.works_late() or are_inside(self.graph.base, make.folder, names.tops)
+        self.works_late = self.known.works_late() or are_inside(self.graph.base, make.folder, names.tops)  # guard: what-make-does-when-recipe-starts
 
     def path_of(self, name: str) -> str:
         """The real path of a target, as it was before the build or is now."""
@@ -42,7 +42,7 @@ class RoundBuilder(Builder):
         writes it, it is remade whatever the ages of its prerequisites are."""
         if node.phony or node.label in self.ageless:
             return []
-        return [node] + ([] if was_absent(self, node, own) else [self.graph.nodes[p] for p in self.plain(node)])
+        return [node] + ([] if was_absent(self, node, own) else [self.graph.nodes[p] for p in self.plain(node)])  # guard: cold-targets-depend-on-no-age
 
     def looked_at(self, node: Node, own: int) -> List[str]:
         return [one.path for one in self.deciding(node, own)] + peers(self, node, own)
@@ -60,18 +60,18 @@ class RoundBuilder(Builder):
         """The paths that make's looks at a target led to before its recipe began: a link that it makes was not there yet."""
         works = [self.make.work[id(job)] for job in node.jobs if id(job) in self.make.work]
         began = min((life.born for work in works for life in work.lives), default=1 << 60)
-        return [path for path, place in self.seen(node).items() if place < began] or [node.path]
+        return [path for path, place in self.seen(node).items() if place < began] or [node.path]  # guard: what-first-look-led
 
     def plain(self, node: Node) -> List[str]:
         """Labels of the prerequisites whose ages count; the data base cuts names at blanks, so one of those for order alone may look like another."""
-        only = self.graph.base.order_only.get(node.name, set()).difference(self.graph.base.prerequisites.get(node.name, ()))
-        return [p for p in node.prerequisites if p in self.graph.nodes and p not in only and self.graph.nodes[p].name != node.name and not self.graph.nodes[p].phony]
+        only = self.graph.base.order_only.get(node.name, set()).difference(self.graph.base.prerequisites.get(node.name, ()))  # guard: names-with-blanks-behind-bar
+        return [p for p in node.prerequisites if p in self.graph.nodes and p not in only and self.graph.nodes[p].name != node.name and not self.graph.nodes[p].phony]  # guard: order-only
 
     def is_leaf(self, node: Node) -> bool:
         """Whether no recipe runs below a target: make then decides in its first pass."""
         if not hasattr(self, "_busy"):
             self._busy = self.find_busy() | self.graph.late()
-        return node.label not in self._busy
+        return node.label not in self._busy  # guard: not-where-recipe-runs-below
 
     def find_busy(self) -> Set[str]:
         """Targets with a recipe that ran somewhere below them."""
@@ -92,8 +92,8 @@ class RoundBuilder(Builder):
 def looked_with(base: Base, version: str, name: str, ran: Set[str]) -> List[str]:
     """The targets at which make looks where it decides on one that is there: those of the same recipe, unless that `ran` for one of them. It takes the
     age of the oldest."""
-    others = base.also.get(name, []) if numbers_of(version) >= LATER else []
-    return others if ran.isdisjoint(others) else []
+    others = base.also.get(name, []) if numbers_of(version) >= LATER else []  # guard: targets-of-one-recipe-since-gnu-make-4
+    return others if ran.isdisjoint(others) else []  # guard: targets-of-one-recipe-that-ran
 
 
 def peers(builder: RoundBuilder, node: Node, own: int) -> List[str]:

@@ -17,7 +17,7 @@ CONSIDERED = re.compile(r"^( *)(Considering target file|Pruning file) '(.*)'\.$|
 VPATH = re.compile(r"^ *No need to remake target '(.*)'; using VPATH name '(.*)'\.$")
 FINISHED = re.compile(r"^ *Finished prerequisites of target file '(.*)'\.$")
 MUST = re.compile(r"^ *Must remake target '(.*)'\.$")
-FAILED = re.compile(r"^ *(?:Failed to remake|Giving up on) target file '(.*)'\.$")
+FAILED = re.compile(r"^ *(?:Failed to remake|Giving up on) target file '(.*)'\.$")  # guard: targets-that-were-given-up-for-makefile
 SORTED = (4, 3)  # from this version on, make sorts what patterns find
 # From this one on `$(shell ..)` gets exported macros, which make works out for it, and make expands all prerequisites a second time when it considers their
 # target, knows rows of some targets, looks for each name of which no rule is about and at all targets of a recipe, and reads folders anew when a command has ended.
@@ -115,7 +115,7 @@ class Words:
     def copies_of(self, name: str) -> List[str]:
         """All that a makefile said when make read it, as paths of copies; none where there is not one for each time."""
         found = self.copies.get(name, [])
-        return found if len(found) == self.times[name] else []
+        return found if len(found) == self.times[name] else []  # guard: each-time
 
     @property
     def has_failed(self) -> bool:
@@ -125,7 +125,7 @@ class Words:
     @property
     def sorts_names(self) -> bool:
         """Whether what patterns of its makefiles find is sorted; else it comes in the order in which the file system shows a folder."""
-        return numbers_of(self.version) >= SORTED
+        return numbers_of(self.version) >= SORTED  # guard: later-ones
 
     @property
     def exports_to_shell(self) -> bool:
@@ -140,7 +140,7 @@ class Words:
     @property
     def kept_errors(self) -> str:
         """Where its errors go, and those of its recipes: `file`, `pipe`, or nothing."""
-        return self.output if self.is_joined else self.errors
+        return self.output if self.is_joined else self.errors  # guard: errors-that-are-kept-with-output
 
     def values(self) -> Dict[str, str]:
         """The macros of its data bases; one that differs between them may be anything."""
@@ -177,7 +177,7 @@ class _Reader:
         """A round begins: make remakes its makefiles, or its goals. With several jobs a recipe of the round before may still run."""
         self.round = Round(stage, len(self.words.read) - 1)
         self.words.rounds.append(self.round)
-        self.stack = []
+        self.stack = []  # guard: recipe-that-goes-on-in-next-round
 
     def child(self, what: str, pointer: str, name: str, pid: int) -> None:
         """A line about a job: it starts, goes on with its next line, or has ended. Make names it by a pointer, which a later job may have too."""
@@ -190,7 +190,7 @@ class _Reader:
         if what == "Removing child":
             self.children.pop(pointer, None)
         if owner is not None:
-            if owner.pids[-1:] != [pid]:
+            if owner.pids[-1:] != [pid]:  # guard: jobs-of-one-number-in-order
                 owner.pids.append(pid)
                 owner.is_said, self.is_said = owner.is_said or self.is_said, False
                 self.words.jobs.setdefault(pid, []).append(owner)
@@ -223,12 +223,12 @@ class _Reader:
             self.considered(*considered)
         elif child:
             self.child(child.group(1), child.group(2), child.group(3) or "", int(child.group(4)))
-        elif BROKEN.match(text):
+        elif BROKEN.match(text):  # guard: not-whole-hole
             words.holes.append("a line of make's words cannot be read: " + text[:200])
         elif text.startswith("Reading makefiles..."):
             words.read.append([])
             self.children = {}
-        elif text.startswith("Updating makefiles"):
+        elif text.startswith("Updating makefiles"):  # guard: one-build-each
             self.begin("makefiles")
         elif text.startswith("Updating goal targets"):
             self.begin("goals")
@@ -286,7 +286,7 @@ def base_hole(lines: List[str], found: Base) -> str:
         return "begins twice"
     if not any(text.startswith("# files hash-table stats") for text in lines):
         return "lists no targets"
-    if found.is_unclear:
+    if found.is_unclear:  # guard: lines-that-look-like-its-own-are-hole
         return "holds lines of a macro that look like its own"
     return "" if is_end(lines) else "has no end"
 
@@ -300,12 +300,12 @@ def take_base(words: Words, lines: List[str]) -> None:
     """One data base: that of all rounds since the last."""
     found = read_base(lines)
     hole = base_hole(lines, found)
-    if hole:
+    if hole:  # guard: data-base-that-is-not-whole
         words.holes.append("the data base of a make %s: make %s" % (hole, words.args))
-    words.holes += ["the data base of a make has a macro of several lines without an end: make " + words.args] if found.is_open else []
+    words.holes += ["the data base of a make has a macro of several lines without an end: make " + words.args] if found.is_open else []  # guard: macro-without-end
     for one in words.rounds:
         unread = next((job.target for job in one.jobs if one.base is None and job.target not in found.recipes), None)
-        words.holes += ["the data base of a make does not show the recipe of a target that ran: " + unread] if unread is not None else []
+        words.holes += ["the data base of a make does not show the recipe of a target that ran: " + unread] if unread is not None else []  # guard: recipes-that-it-does-not-show
         one.base = one.base or found
 
 
@@ -315,7 +315,7 @@ def failures(words: Words) -> Iterator[str]:
     for one in words.rounds:
         ran, needed = {job.target for job in one.jobs}, {name for node in one.nodes.values() for name in node.prerequisites}
         for name in one.failed if one.stage == "makefiles" else ():
-            if name in needed and not ran.isdisjoint(one.below(name)):
+            if name in needed and not ran.isdisjoint(one.below(name)):  # guard: not-makefiles-that-failed
                 yield "a recipe failed for a makefile that need not be there, and what stands behind it did not run: %s" % name
 
 
@@ -355,12 +355,12 @@ def read_words(pid: int, life: int, lines: Iterable[str], place: str = "", start
             reader.line(text)
     if base:
         take_base(words, base)
-    words.holes += failures(words)
+    words.holes += failures(words)  # guard: recipes-that-failed-for-makefile
     for job in (job for one in words.rounds for job in one.jobs) if words.output == "pipe" else ():
         job.is_said = True  # nobody sees what it prints
-    if not words.read and not words.status:
+    if not words.read and not words.status:  # guard: makes-that-are-not-understood
         words.holes.append("a make says nothing that the recorder knows: make " + words.args)
-    if bases != len(words.read) and words.read:
+    if bases != len(words.read) and words.read:  # guard: data-base-of-make-that-goes
         words.holes.append("a make that began %d times printed %d data bases: make %s" % (len(words.read), bases, words.args))
     return words
 

@@ -52,14 +52,14 @@ class Footprints:
             self.reads[at] |= paths  # looks that a later build answers otherwise
         self.written = set().union(*self.writes)
         for at, task in enumerate(build.tasks):
-            self.writes[at] |= self.removed_later(at, task)
+            self.writes[at] |= self.removed_later(at, task)  # guard: what-recipe-removes-later
         self.drop_temporaries()
         self.changes = [{path for path in self.reads[at] & self.writes[at] if self.is_read_first(task, path)} for at, task in enumerate(build.tasks)]
         self.both = [{path for path in reads & writes if names.before.get(path) == "f"} for reads, writes in zip(self.reads, self.writes)]  # sources that it changes
         for at in range(len(build.tasks)):
             self.reads[at] = {path for path in self.reads[at] - self.writes[at] if self.is_input(path)}
-            self.seen.looks |= self.own_looks[at] - self.reads[at] - self.written
-        self.seen.looks |= {path for path in self.written if os.path.islink(path)}
+            self.seen.looks |= self.own_looks[at] - self.reads[at] - self.written  # guard: looks-at-what-others-read
+        self.seen.looks |= {path for path in self.written if os.path.islink(path)}  # guard: links-that-are-made
         self.seen.absent -= self.written
 
     def events(self, task: Task) -> Iterable[Tuple[str, str]]:
@@ -72,7 +72,7 @@ class Footprints:
         if acts is not None:
             born = min((life.born for work in task.works for life in work.lives), default=1 << 60)
             again = self.called_between(seen, born) if min(acts.events.values(), default=seen + 1) <= seen else set()
-            yield from (event for event, place in acts.events.items() if place > seen or event in again)
+            yield from (event for event, place in acts.events.items() if place > seen or event in again)  # guard: what-make-does-for-recipe
 
     def called_between(self, seen: int, born: int) -> Set[Tuple[str, str]]:
         """What make itself calls before a recipe starts: a file may be read for the recipe though it was read earlier too."""
@@ -112,8 +112,8 @@ class Footprints:
         asked = {path.rstrip("/") for work in task.works for life in work.lives if is_removal(life.argv) for kind, path in life.events if kind in "NL"}
         plain, listed = {path for path in asked if "\0" not in path}, [path.split("\0") for path in asked if "\0" in path]
         others = set().union(*(writes for other, writes in enumerate(self.writes) if other != at)) - self.writes[at] if asked else set()
-        return {path for path in others if any(is_below(path, name) for name in plain)
-                or any(os.path.dirname(path) == folder and fnmatchcase(os.path.basename(path), pattern) for folder, pattern in listed)}
+        return {path for path in others if any(is_below(path, name) for name in plain)  # guard: trees-that-it-removes-later
+                or any(os.path.dirname(path) == folder and fnmatchcase(os.path.basename(path), pattern) for folder, pattern in listed)}  # guard: patterns-that-it-removes-later
 
     @staticmethod
     def is_read_first(task: Task, path: str) -> bool:
@@ -126,7 +126,7 @@ class Footprints:
         """Names that are gone before and after the build, where each recipe that touches them makes and removes them itself."""
         gone = {path for path in self.written if path not in self.names.before and not os.path.lexists(path)}
         for at, (reads, writes) in enumerate(zip(self.reads, self.writes)):
-            gone -= (reads | writes) - self.removes[at]
+            gone -= (reads | writes) - self.removes[at]  # guard: temporaries
         for at in range(len(self.reads)):
             self.reads[at] -= gone
             self.writes[at] -= gone
@@ -137,7 +137,7 @@ class Footprints:
         if path not in self.known:
             is_link = self.names.before.get(path) == "l"
             if path not in self.names.before and not os.path.lexists(path) and path not in self.written:
-                self.gone.add(path)
+                self.gone.add(path)  # guard: temporaries-of-others
             self.known[path] = path in self.written or not os.path.isdir(path) and not is_link and not FIXED.search(path)
             if is_link and not self.known[path]:
                 self.seen.looks.add(path)

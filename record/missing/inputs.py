@@ -53,15 +53,15 @@ def write_missing(out: Path, record: Record, builds: List[Build], names: Names, 
             holes.append("statements of ninja are not looked at: %s in %s" % (build.words or "ninja", build.folder))
         elif later is not None:
             holes += ["a later build is another one, where nothing is edited: " + why for why in Anew(build, later, names).holes()]
-            if asks(build) or id(build) in turned.reads:
+            if asks(build) or id(build) in turned.reads:  # guard: phony-recipes
                 judged += write_old_tree(out / "builds" / number, OldTree(build, names, later, premises, str(out), turned.reads.get(id(build), {})))
             else:
                 count_always(build, premises)
-    for kind, paths in (("not-run", made_elsewhere(makes, turned)), ("called", called(makes, turned)), ("again", turned.again)):
+    for kind, paths in (("not-run", made_elsewhere(makes, turned)), ("called", called(makes, turned)), ("again", turned.again)):  # guard: what-another-recipe-made
         for path in sorted(paths):
             premises.add(kind, relative(record.folder, path))
     holes += ["a later build finds %s otherwise, where nothing is edited: %s looks for it, and it changes behind that" % (relative(record.folder, path), who)
-              for path, who in turned.holes.items()]
+              for path, who in turned.holes.items()]  # guard: what-nobody-orders
     holes += ["the time of %s lies in the future, so no edit is newer, and make does not make it again" % relative(record.folder, path) for path in ahead(builds)]
     holes += ["what make knows in a later build is not known: " + why for why in laters.faults.values()]
     found = [{"kind": a.kind, "count": a.count, "example": shown(a.example), "text": a.text()} for a in premises.all()]
@@ -71,7 +71,7 @@ def write_missing(out: Path, record: Record, builds: List[Build], names: Names, 
 def ahead(builds: List[Build]) -> List[str]:
     """Targets that have been given a time which has not come."""
     paths = {task.node.path for build in builds for task in build.tasks if task.kind == "recipe"}
-    return sorted(path for path in paths if os.path.isfile(path) and os.path.getmtime(path) > time.time() + SLACK)
+    return sorted(path for path in paths if os.path.isfile(path) and os.path.getmtime(path) > time.time() + SLACK)  # guard: times-that-have-not-come
 
 
 def made_elsewhere(makes: List[MakeBuild], turned: Turned) -> Set[str]:
@@ -177,7 +177,7 @@ def read_answer(lines: List[str], labels: Dict[str, str], loose: Set[str]) -> It
         elif add and last:
             file = unshown(add.group(2))
             is_loose = (last[0].path if file.startswith(KEPT + "/") else file) in loose
-            last = [replace(last[0], add="" if is_loose else file, is_loose=is_loose)]
+            last = [replace(last[0], add="" if is_loose else file, is_loose=is_loose)]  # guard: lines-that-do-not-help
     yield from last
 
 

@@ -60,13 +60,13 @@ def makefiles_in(args: List[str]) -> List[str]:
 
 def taken_as_old(start: Start) -> List[str]:
     """The files whose ages a make does not ask for."""
-    return [name for words in (start.args, start.environment.get("MAKEFLAGS", "").split(" ")) for name in named_by(words, "o", ("--old-file", "--assume-old"))]
+    return [name for words in (start.args, start.environment.get("MAKEFLAGS", "").split(" ")) for name in named_by(words, "o", ("--old-file", "--assume-old"))]  # guard: files-that-make-inside
 
 
 def words_again(args: List[str], folder: str, stop: str) -> List[str]:
     """The words that let make read its makefiles and then the one that stops it."""
     named = makefiles_in(args)
-    if "-" in named:
+    if "-" in named:  # guard: makefile-from-standard-input
         raise Unknown("its makefile came from standard input")
     if not named:
         named = [name for name in DEFAULTS if os.path.exists(os.path.join(folder, name))][:1]
@@ -80,7 +80,7 @@ def words_again(args: List[str], folder: str, stop: str) -> List[str]:
 def ask(make: Make, spool: Path) -> Base:
     """The data base of a make as a later build has it."""
     start = make.words.start
-    for name in taken_as_old(start):
+    for name in taken_as_old(start):  # guard: files-that-make-takes-as-old
         raise Unknown("it is asked to take %s as old (-o), so what needs that is not made again" % name)
     stop = spool / "stop.mk"
     stop.write_text("$(error %s)\n" % STOP)
@@ -94,9 +94,9 @@ def ask(make: Make, spool: Path) -> Base:
     said = ran.stderr.decode("utf-8", "surrogateescape")
     if STOP not in said:
         raise Unknown("it cannot read its makefiles again: " + " ".join(said.split())[-200:])
-    found = read_base(ran.stdout.decode("utf-8", "surrogateescape").split("\n"))
+    found = read_base(ran.stdout.decode("utf-8", "surrogateescape").split("\n"))  # guard: lines-of-later-data-base
     found.phony.update(found.prerequisites.get(".PHONY", ()))  # it was stopped before make notes them
-    add_extra(found)
+    add_extra(found)  # guard: extra-prerequisites
     if any(name.endswith(OF_CMAKE) for name in makefiles(make.words)):
         add_headers(found, make.folder)
     return found
@@ -107,7 +107,7 @@ def add_extra(base: Base) -> None:
     own = {found.group(1): found.group(2) for found in map(OWN_EXTRA.match, base.bodies.get(EXTRA, ())) if found}
     for name, words in base.prerequisites.items():
         if not name.startswith(".") and (words or name in base.recipes):
-            words += [one for one in cut(own.get(name, base.values.get(EXTRA, ""))) if one != name and one not in words and "$" not in one]
+            words += [one for one in cut(own.get(name, base.values.get(EXTRA, ""))) if one != name and one not in words and "$" not in one]  # guard: extra-prerequisites-of-target
 
 
 def add_headers(base: Base, folder: str) -> None:
@@ -154,7 +154,7 @@ class Laters:
 
 def phony_of(*bases: Base) -> Set[str]:
     """The phony targets of some data bases. Not what `.PHONY` needs where make has ended: it puts `.EXTRA_PREREQS` there too."""
-    return {name for base in bases for name in base.phony}
+    return {name for base in bases for name in base.phony}  # guard: extra-prerequisites-are-not-phony
 
 
 def needs_of(name: str, first: Base, later: Base, vpath: Dict[str, str]) -> Optional[List[str]]:
@@ -163,10 +163,10 @@ def needs_of(name: str, first: Base, later: Base, vpath: Dict[str, str]) -> Opti
 
     What an implicit rule adds is known from the build itself: a make that was stopped did not search.
     """
-    then, now = first.prerequisites.get(name, []), later.prerequisites.get(name, [])
+    then, now = first.prerequisites.get(name, []), later.prerequisites.get(name, [])  # guard: what-make-knows-later
     spelled = {*now, *(vpath.get(one, one) for one in now)}
     is_searched = name in first.implicit or ".SECONDEXPANSION" in first.prerequisites
-    found = [one for one in dict.fromkeys([*then, *now]) if is_searched or one in spelled]
-    if len(found) < len({*then, *now}) and any(one.startswith("-l") for one in now):
+    found = [one for one in dict.fromkeys([*then, *now]) if is_searched or one in spelled]  # guard: graph-that-has-less-than-before
+    if len(found) < len({*then, *now}) and any(one.startswith("-l") for one in now):  # guard: paths-of-libraries
         return None
-    return found if all(one in first.prerequisites or one in later.prerequisites for one in found) else None
+    return found if all(one in first.prerequisites or one in later.prerequisites for one in found) else None  # guard: names-with-blanks

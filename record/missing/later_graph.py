@@ -44,7 +44,7 @@ def hands_on(texts: List[str], new: Set[str]) -> bool:
     for text in texts:
         for found in FILTERED.finditer(text):
             if any(fnmatchcase(name, one.replace("%", "*")) for name in new for one in found.group(1).split()):
-                return True
+                return True  # guard: prerequisites-that-pattern-fits
     return any(ALL.search(FILTERED.sub("", text)) for text in texts)
 
 
@@ -87,16 +87,16 @@ class Anew:
         reached = {name for text in recipes for name in self.known.reached(text)} if self.known.is_used else set()
         own = {one.name for text in [*recipes, *map(self.known.text_of, reached)] for one in evals(text)}
         found = {name for name in {*then, *now} if then.get(name) != now.get(name)}
-        found |= {name for name in {*self.first.bodies, *self.later.bodies} if self.first.bodies.get(name) != self.later.bodies.get(name)}
+        found |= {name for name in {*self.first.bodies, *self.later.bodies} if self.first.bodies.get(name) != self.later.bodies.get(name)}  # guard: macros-of-target-and-of-lines
         return found - OWN - own
 
     def other_recipe(self, node: Node, changed: Set[str]) -> Iterator[str]:
         """Where the recipe of a target has another text, or a macro in it another value."""
         lines = self.first.recipes.get(node.name, [])
-        if node.name in self.later.recipes and self.later.recipes[node.name] != lines:
+        if node.name in self.later.recipes and self.later.recipes[node.name] != lines:  # guard: another-recipe
             yield "the recipe of %s is another one" % node.name
         asked = self.asked("\n".join(lines)) if changed else set()
-        other = sorted(name for name in changed if name in asked or self.known.is_named_in_export(name))
+        other = sorted(name for name in changed if name in asked or self.known.is_named_in_export(name))  # guard: other-macros
         for name in other[:1]:
             yield "the macro %s is another one in the recipe of %s" % (name, node.name)
 
@@ -111,7 +111,7 @@ class Anew:
         for part in texts:
             for one in named_in(part):
                 for name in (matching({*values, *self.later.values, *self.first.bodies, *self.later.bodies}, one) if "*" in one else [one]):
-                    texts += [values.get(name, ""), *self.first.bodies.get(name, ())] if name not in found else []
+                    texts += [values.get(name, ""), *self.first.bodies.get(name, ())] if name not in found else []  # guard: values-that-were-worked-out
                     found.add(name)
         return found, texts
 
@@ -126,17 +126,17 @@ class Anew:
         counted = set(self.first.prerequisites.get(name, ()))
         plain = [one for one in self.later.prerequisites.get(name, ()) if one in spelled and not counted & {one, self.vpath.get(one, one)}]
         new = [one for one in now if one not in known]
-        for one in gone[:1]:
+        for one in gone[:1]:  # guard: what-is-needed-no-more
             yield "%s does not need %s any more" % (name, one)
         texts = texts_of(name, self.known) if plain or then != now else []
-        if plain and hands_on(texts, set(plain)):
+        if plain and hands_on(texts, set(plain)):  # guard: all-prerequisites
             yield "the recipe of %s is handed %s too" % (name, plain[0])
-        if hands_all(texts) and in_order(then, now) != in_order(now, then):
+        if hands_all(texts) and in_order(then, now) != in_order(now, then):  # guard: order-of-prerequisites
             yield "the recipe of %s is handed its prerequisites in another order" % name
         first, second = ([self.vpath.get(one, one) for one in base.prerequisites.get(name, [])[:1]] for base in (self.first, self.later))
-        if not is_searched and first and first != second and any(FIRST.search(text) for text in texts):
+        if not is_searched and first and first != second and any(FIRST.search(text) for text in texts):  # guard: first-prerequisite
             yield "the first prerequisite of %s is %s" % (name, " ".join(second))
-        for one in new:
+        for one in new:  # guard: what-is-needed-too
             is_made = self.is_new(self.path_of(one))  # another make has made it
             if one not in self.build.graph.round.nodes and not is_made and (self.has_recipe(one) or name in self.phony and not self.is_there(one)):
                 yield "%s needs %s too" % (name, one)
@@ -167,25 +167,25 @@ class Anew:
     def other_files(self, node: Node) -> Iterator[str]:
         """Where make finds another file for a name, or another rule for a target, since the build has made it."""
         name = node.name
-        if name in self.vpath or not (name in self.phony or name.startswith("/") or self.is_there(name)):  # else its own file comes first
+        if name in self.vpath or not (name in self.phony or name.startswith("/") or self.is_there(name)):  # else its own file comes first  # guard: target-in-search-path
             found = [name, *(os.path.join(folder, name) for folder in self.searched_folders())]
             for one in found:
-                if one != self.vpath.get(name) and self.is_new(self.path_of(one)):
+                if one != self.vpath.get(name) and self.is_new(self.path_of(one)):  # guard: another-file
                     yield "make finds %s for %s" % (one, name)
                     return
         if name in self.first.implicit and name not in self.phony:
-            for one in (place for asked in (*self.searched_first(name), *self.by_other_files(node)) for place in self.places(asked)):
+            for one in (place for asked in (*self.searched_first(name), *self.by_other_files(node)) for place in self.places(asked)):  # guard: searches-by-way-of-other-files
                 if one not in self.first.prerequisites.get(name, ()) and self.is_new(self.path_of(one)):
                     yield "make finds another rule for %s, as %s is there" % (name, one)
                     return
-        if ".SECONDEXPANSION" in self.first.prerequisites and self.looks_again(name):
+        if ".SECONDEXPANSION" in self.first.prerequisites and self.looks_again(name):  # guard: second-expansions
             yield "make looks at files where it expands the prerequisites of %s a second time" % name
 
     def places(self, name: str) -> List[str]:
         """A name, the same in the folders of search paths, and all that fit where it is a pattern."""
-        if MAGIC.search(name):
+        if MAGIC.search(name):  # guard: patterns-of-names
             return [os.path.relpath(path, self.build.folder) for path in glob.glob(os.path.join(self.build.folder, name))]
-        return [name, *(os.path.join(folder, name) for folder in self.searched_folders() if not name.startswith("/"))]
+        return [name, *(os.path.join(folder, name) for folder in self.searched_folders() if not name.startswith("/"))]  # guard: searches-in-search-paths
 
     def by_other_files(self, node: Node) -> Set[str]:
         """What the search for an implicit rule looks for by way of other files, and has not found."""
@@ -197,13 +197,13 @@ class Anew:
     def looks_again(self, name: str) -> bool:
         """Whether a second expansion of the prerequisites of a target may look at files."""
         own = [*self.later.prerequisites.get(name, ()), *self.later.order_only.get(name, ())]
-        words = [own, *(asked for targets, asked in self.first.patterns if name in self.first.implicit and any(stems(targets, name)))]
+        words = [own, *(asked for targets, asked in self.first.patterns if name in self.first.implicit and any(stems(targets, name)))]  # guard: second-expansions-of-rules
         texts = [text for text in map(" ".join, words) if "$" in text]
-        return any(LOOKS.search(one) for text in texts for one in (text, *map(self.known.text_of, self.known.reached(text))))
+        return any(LOOKS.search(one) for text in texts for one in (text, *map(self.known.text_of, self.known.reached(text))))  # guard: second-expansions-that-look-at-nothing
 
     def searched_folders(self) -> Set[str]:
         """The folders that `VPATH` and `vpath` name."""
-        texts = [self.first.values.get("VPATH", ""), *(filled(found.group(1), "", self.first.values) for found in SEARCH.finditer(self.known.text))]
+        texts = [self.first.values.get("VPATH", ""), *(filled(found.group(1), "", self.first.values) for found in SEARCH.finditer(self.known.text))]  # guard: folders-of-pattern
         return {folder for text in texts for folder in re.split(r"[:\s]+", text) if folder}
 
     def searched_first(self, name: str) -> Iterator[str]:
@@ -212,15 +212,15 @@ class Anew:
         ended: Set[str] = set()  # patterns of targets whose rule was found
         for targets, prerequisites in self.first.patterns:
             for target, stem, folder in stems(targets, name):
-                words = [placed(one, stem, folder) for one in prerequisites]
+                words = [placed(one, stem, folder) for one in prerequisites]  # guard: names-without-stem
                 if words and needs.issuperset(words):
                     ended.add(target)
-                elif target not in ended:
-                    yield from (one for one in words if one not in needs and one != name and not self.is_ruled(one))
+                elif target not in ended:  # guard: another-rule
+                    yield from (one for one in words if one not in needs and one != name and not self.is_ruled(one))  # guard: rules-that-need-target
 
     def is_ruled(self, name: str) -> bool:
         """Whether a rule of its own, with a recipe, makes a name: the search for an implicit rule takes it for one that is there, in each build."""
-        return bool(self.first.recipes.get(name)) and name not in self.first.implicit
+        return bool(self.first.recipes.get(name)) and name not in self.first.implicit  # guard: rules-that-need-what-rule-of-patterns-makes
 
 
 def stems(targets: List[str], name: str) -> Iterator[Tuple[str, str, str]]:

@@ -22,7 +22,7 @@ from record.trace.lists import fits
 from record.trace.lives import Key, Life
 from record.trace.names import Names
 
-MODULES = (".py", ".pyc", ".so")
+MODULES = (".py", ".pyc", ".so")  # guard: modules
 BUILDER = "cmake"  # it keeps its own account of what compilers read, which counts as it is at the end
 
 
@@ -101,17 +101,17 @@ class Turned:
         for (kind, path), place in events.items():
             if kind in "NSR" and path in self.changes and self.differs(kind, path):
                 self.compare(life, mine, path, place)
-            elif kind == "L":
+            elif kind == "L":  # guard: what-later-recipes-list
                 folder, _, pattern = path.partition("\0")
                 for name in self.below(folder, shell_text(life.argv) == ""):
-                    if self.is_there(name) != self.was_there(name, place) and name.endswith(ends) and fits(pattern, name, self.names, not os.path.isfile(name)):
+                    if self.is_there(name) != self.was_there(name, place) and name.endswith(ends) and fits(pattern, name, self.names, not os.path.isfile(name)):  # guard: later-build
                         self.compare(life, mine, name, place)
 
     def below(self, folder: str, deep: bool) -> Iterator[str]:
         """The names that change in a folder; `deep`: those in new folders below it too, which a program finds as well."""
         yield from self.folders.get(folder, ())
         for one in self.folders if deep else ():
-            if one != folder and is_below(one, folder) and one not in self.names.before:
+            if one != folder and is_below(one, folder) and one not in self.names.before:  # guard: new-folders
                 yield from self.folders[one]
 
     def note_expanding(self, build: MakeBuild) -> None:
@@ -122,8 +122,8 @@ class Turned:
         for task in build.tasks:
             if task.works and task.node.rule == 0:
                 acts = make.acts.get((build.graph.number, task.node.name))
-                events = {event: place for event, place in acts.events.items() if event in seen} if acts is not None else {}
-                events.update(self.expanded_lists(build, known, task))
+                events = {event: place for event, place in acts.events.items() if event in seen} if acts is not None else {}  # guard: processes-in-recipes
+                events.update(self.expanded_lists(build, known, task))  # guard: lists-in-recipes
                 self.note_looks(make.life, [*self.chain(make.life), task.works[0]], events)
 
     def expanded_lists(self, build: MakeBuild, known: Macros, task: Task) -> Iterator[Tuple[Key, int]]:
@@ -138,11 +138,11 @@ class Turned:
                 if asked is None or folder in asked:
                     yield from ((("L", folder + "\0" + pattern), place) for pattern in make.patterns_in(folder))
             for path in {self.names.find(make.folder, word, True).path for word in words_said([text, *values, known.text]) if not MAGIC.search(word)}:
-                yield ("S" if self.was_there(path, born) else "N", path), born
+                yield ("S" if self.was_there(path, born) else "N", path), born  # guard: names-in-recipes
 
     def differs(self, kind: str, path: str) -> bool:
         """Whether a look has another answer at the end; what was read, and is there, may have changed."""
-        return self.is_there(path) == (kind in "NR")
+        return self.is_there(path) == (kind in "NR")  # guard: what-later-recipes-remove
 
     def is_there(self, path: str) -> bool:
         """Whether a name is there at the end."""
@@ -159,10 +159,10 @@ class Turned:
         later = [self.chain(other) for last, other in self.changes[path] if last > place]
         if any(same(chain, mine) for chain in later):
             if self.is_there(path) and not self.was_there(path, place) and place < self.calls.get(innermost(mine), 0):
-                self.again[path] = None
+                self.again[path] = None  # guard: looks-of-who-calls-make
             return
         for chain in later:
-            task = None if os.path.isdir(path) else self.task_apart(mine, chain)
+            task = None if os.path.isdir(path) else self.task_apart(mine, chain)  # guard: what-later-recipes-make
             if task is None:
                 self.holes[path] = " ".join(life.argv)[:60]
             else:

@@ -23,7 +23,7 @@ def keeps(task: Task, path: str, base: Base, is_forced: bool) -> bool:
     """Whether a recipe may leave its target alone. One that runs in each build compares if it looks at
     a file before it writes it."""
     return (any(work.makes or work.ninjas for work in task.works) or compares(task, base)
-            or os.path.isdir(path) and not renews(task, path) or is_forced and looks_first(task))
+            or os.path.isdir(path) and not renews(task, path) or is_forced and looks_first(task))  # guard: recipe-that-looks-first
 
 
 def compares(task: Task, base: Base) -> bool:
@@ -52,7 +52,7 @@ def looks_first(task: Task) -> bool:
                 written[path] = min(place, written.get(path, place))
         for life in work.lives:
             is_plain = bool(life.argv) and os.path.basename(life.argv[0]) in PLAIN
-            if not is_plain and any(kind in "RSN" and path in written and place < written[path] + (kind == "R") for (kind, path), place in life.events.items()):
+            if not is_plain and any(kind in "RSN" and path in written and place < written[path] + (kind == "R") for (kind, path), place in life.events.items()):  # guard: files-that-are-opened
                 return True
     return False
 
@@ -60,7 +60,7 @@ def looks_first(task: Task) -> bool:
 def asks_what_is_newer(name: str, known: Macros) -> bool:
     """Whether a recipe is expanded by which prerequisites are newer: it does nothing where none of them is."""
     text = "\n".join(known.base.recipes.get(name, ()))
-    return any(NEWER.search(one.replace("$$", "  ")) for one in (text, *map(known.text_of, known.reached(text))))
+    return any(NEWER.search(one.replace("$$", "  ")) for one in (text, *map(known.text_of, known.reached(text))))  # guard: canned-recipes
 
 
 def expands_by_files(task: Task, known: Macros, acts: Optional[Work]) -> bool:
@@ -70,4 +70,4 @@ def expands_by_files(task: Task, known: Macros, acts: Optional[Work]) -> bool:
     values = known.base.values
     texts = [text, *(one for name in known.reached(text) for one in (values.get(name, ""), *known.base.bodies.get(name, ())))]
     written = {path for work in task.works for kind, path in work.events if kind in "CW"}
-    return any(FILES.search(one) for one in texts) or acts is not None and any(kind in "RSN" and path in written for kind, path in acts.events)
+    return any(FILES.search(one) for one in texts) or acts is not None and any(kind in "RSN" and path in written for kind, path in acts.events)  # guard: functions-that-look-for-files

@@ -81,7 +81,7 @@ class OldTree:
         self.needs = {at: self.needs[at] for at in self.makes}
         own = {path for at, needs in self.needs.items() for path in self.foot.both[at].difference(needs)}
         for path in sorted(own):
-            self.premises.add("own", relative(self.build.folder, path))
+            self.premises.add("own", relative(self.build.folder, path))  # guard: sources-that-are-changed
 
     def why_not(self, at: int, path: str, needs: Optional[List[str]]) -> str:
         """Why a task has no file that says when it runs: the premise that counts it, or nothing."""
@@ -96,7 +96,7 @@ class OldTree:
 
     def is_there(self, name: str, path: str) -> bool:
         """Whether a target has a file when the build has ended; an intermediate one is removed by make alone."""
-        return os.path.lexists(path) or name in self.first.intermediate
+        return os.path.lexists(path) or name in self.first.intermediate  # guard: intermediate-files
 
     def stand_in(self, kind: str, name: str) -> str:
         """A name that no file has, in the place of another."""
@@ -110,7 +110,7 @@ class OldTree:
         acts = self.build.make.acts.get((self.build.graph.number, task.node.name))
         if asks:
             self.premises.add("newer", task.node.name)
-        if asks and is_forced:
+        if asks and is_forced:  # guard: what-is-newer
             self.needs[at] = [one for one in self.needs[at] if not one.startswith(never)]
         if asks and is_forced or keeps(task, path, self.first, is_forced) or is_forced and expands_by_files(task, self.known, acts):
             self.kept.add(at)
@@ -122,7 +122,7 @@ class OldTree:
         found: Dict[str, None] = {}
         for name in (node.name, *self.first.also.get(node.name, [])):
             needs = needs_of(name, self.first, self.later, self.build.graph.round.vpath)
-            if needs is None or any(self.is_lost(one) for one in needs):
+            if needs is None or any(self.is_lost(one) for one in needs):  # guard: names-that-are-searched
                 return None
             for one in needs:
                 if one not in self.paths:
@@ -135,7 +135,7 @@ class OldTree:
         if name.startswith("-l") and name not in self.build.graph.round.vpath:
             return
         paths = [self.names.find(self.build.folder, self.spelled(name), follow).path for follow in (False, True)]
-        if name in self.phony or not self.is_there(name, paths[0]):
+        if name in self.phony or not self.is_there(name, paths[0]):  # guard: phony-prerequisites
             yield self.stand_in(NEVER, name)
         else:
             yield from (path for path in dict.fromkeys(paths) if self.foot.is_inside(path) and self.is_behind(name, path))
@@ -161,10 +161,10 @@ class OldTree:
             one = todo.pop()
             if one in writers or self.first.recipes.get(one) in [text for text in map(self.first.recipes.get, writers) if text]:
                 return True  # its own recipe, or one of `a b: c`
-            if one not in seen and any(one in base.recipes or one in base.places for base in (self.first, self.later)):
+            if one not in seen and any(one in base.recipes or one in base.places for base in (self.first, self.later)):  # guard: rules-without-recipe
                 todo += [*self.first.prerequisites.get(one, ()), *self.later.prerequisites.get(one, ())]
             seen.add(one)
-        return not writers
+        return not writers  # guard: second-outputs-without-rule
 
     # ---------------------------------------------------------------- one maker for each name
     def lend_names(self) -> None:
@@ -174,12 +174,12 @@ class OldTree:
             writers = [at for at in writing.get(path, ()) if makers.get(path) != at]
             for at in writers:
                 self.tasks[at].writes.discard(path)
-                if path in makers and path in self.foot.changes[at]:
+                if path in makers and path in self.foot.changes[at]:  # guard: files-that-are-changed
                     self.tasks[at].reads.add(path)
             also = [at for at in writers if path in makers or path in self.needs.get(at, ())]
             if also:
                 self.premises.add("rewritten", relative(self.build.folder, path))
-            if len(writers) > len(also):
+            if len(writers) > len(also):  # guard: other-outputs
                 self.lend(path, [at for at in writers if at not in also])
 
     def writing(self) -> Dict[str, List[int]]:
@@ -256,7 +256,7 @@ class OldTree:
             if names:
                 example = min(names, key=lambda path: (os.path.isdir(path) and not os.path.islink(path), not os.path.lexists(path), path))
                 self.premises.add(kind, relative(self.build.folder, example), len(names))
-        timed = self.foot.set_back & {*self.makes.values(), *(one for needs in self.needs.values() for one in needs)}
+        timed = self.foot.set_back & {*self.makes.values(), *(one for needs in self.needs.values() for one in needs)}  # guard: times-of-goals
         for path in sorted(timed):
             self.premises.add("times", relative(self.build.folder, path))
 

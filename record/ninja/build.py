@@ -87,14 +87,14 @@ class NinjaBuilder(Builder):
         jobs = {job.edge.number: job for job in self.stage.jobs if job.edge is not None}
         kept = self.taking_part(jobs)
         place = {edge.number: at for at, edge in enumerate(kept)}
-        after = [{place[m.number] for m in manifest.makers_of(edge) if m.number in place} for edge in kept]
-        first = self.first()
+        after = [{place[m.number] for m in manifest.makers_of(edge) if m.number in place} for edge in kept]  # guard: header-that-log-knows-is-no-input
+        first = self.first()  # guard: what-manifest-needs-comes-first
         for edge, before in zip(kept, after):
             before |= {place[number] for number in first} if edge.number in jobs.keys() - first else set()
         keys = [(jobs[edge.number].life.died if edge.number in jobs else 0, edge.number) for edge in kept]
         order, dropped = order_tasks([Task(e.label, Node(e.label, e.label, 0, 0), "group") for e in kept], after, keys)
         if dropped:
-            self.holes.append("build statements of %s wait for each other in a cycle" % self.ninja.file)
+            self.holes.append("build statements of %s wait for each other in a cycle" % self.ninja.file)  # guard: cycle
         number = {old: new for new, old in enumerate(order)}
         for old in order:
             edge = kept[old]
@@ -113,7 +113,7 @@ class NinjaBuilder(Builder):
         had to run then, as an output was absent or an input is never up to date."""
         below, found = self.ninja.below_manifest(self.number), set()
         for job in sorted(self.stage.jobs, key=lambda job: job.life.born):
-            if job.edge is None or job.edge.number not in below or not self.must_run(job.edge):
+            if job.edge is None or job.edge.number not in below or not self.must_run(job.edge):  # guard: only-what-had-to-run-then-comes-first
                 break
             found.add(job.edge.number)
         return found
@@ -140,7 +140,7 @@ class NinjaBuilder(Builder):
                 if user.number not in above:
                     above.add(user.number)
                     todo.append(user)
-        return [edge for edge in manifest.edges if edge.number in above]
+        return [edge for edge in manifest.edges if edge.number in above]  # guard: through-phony-ones
 
     def check_order(self) -> None:
         """The recorded run is one of those that the tasks allow."""
@@ -148,7 +148,7 @@ class NinjaBuilder(Builder):
         for at, task in enumerate(tasks):
             lives = [work.lives[0] for work in task.works if work.lives]
             ready = max((ended[a] for a in task.after), default=0)
-            if lives and lives[0].born < ready:
+            if lives and lives[0].born < ready:  # guard: order-of-trace
                 self.holes.append("the order of the trace is not that of the manifest: " + task.label)
             ended[at] = max([ready] + [life.died for life in lives if life.died < NEVER])
 
@@ -162,21 +162,21 @@ class NinjaBuilder(Builder):
         work, begin, end = job.work, job.life.born, job.life.died
         for path in edge.makes():
             folder = self.full(os.path.dirname(path) or ".")
-            self.add_folder(work, folder, begin)
-            if edge.is_restat or edge.is_generator or edge.value("deps"):
+            self.add_folder(work, folder, begin)  # guard: folders-of-outputs
+            if edge.is_restat or edge.is_generator or edge.value("deps"):  # guard: looks-after-restat
                 work.add("S", join(folder, os.path.basename(path)), end)
         response, found = edge.path("rspfile"), edge.path("depfile")
         folder = self.full(os.path.dirname(found) or ".")
         if found and ("M", folder) in self.ninja.life.events:  # later ninjas make it too
             self.add_folder(work, folder, begin)
-        if response:
+        if response:  # guard: response-files
             for kind in "CWRD":
                 work.add(kind, self.full(response), begin)
-        if found and edge.value("deps") == "gcc":
+        if found and edge.value("deps") == "gcc":  # guard: depfiles
             for kind in "RD":
                 work.add(kind, self.full(found), end)
         for path in edge.makes():
-            self.add_loaded(work, path, end)
+            self.add_loaded(work, path, end)  # guard: looks-for-inputs-that-dyndep-file-adds
         dyndep = edge.path("dyndep")
         if dyndep:
             for path in [dyndep] + edge.waits() + edge.makes():
@@ -202,7 +202,7 @@ class NinjaBuilder(Builder):
         """Ninja makes a folder, and those above it, if they are not there."""
         for above in [folder] + parents(folder):
             if self.is_known(above) and (self.before.get(above) != "d" or above in self.removed):
-                work.add("T", above, place)
+                work.add("T", above, place)  # guard: its-folders-are-made-quietly
 
     def check_folders(self) -> None:
         """Each folder that ninja made while commands ran is one of a statement."""
@@ -211,7 +211,7 @@ class NinjaBuilder(Builder):
         owned = {path for job in self.stage.jobs for kind, path in job.work.events if kind == "T"}
         for (kind, path), place in self.ninja.life.events.items():
             if kind in "MT" and begin < place < end and path not in owned and self.is_known(path):
-                self.holes.append("ninja made the folder %s, and no statement needs it" % path)
+                self.holes.append("ninja made the folder %s, and no statement needs it" % path)  # guard: folder-of-no-statement
 
     # ---------------------------------------------------------------- footprints
     def fill(self) -> None:
@@ -219,12 +219,12 @@ class NinjaBuilder(Builder):
         created = self.created()
         for at, task in enumerate(self.build.tasks):
             self.add_events(at, self.events(task), created)
-        add_inner(self, created)
+        add_inner(self, created)  # guard: names-that-are-searched
         find_askers(self, created)
         count_listings(self, created)
-        self.add_logs()
+        self.add_logs()  # guard: its-log
         add_folders(self)
-        self.add_files_of_dyndep()
+        self.add_files_of_dyndep()  # guard: outputs-that-dyndep-file-adds
         note_sources(self)
         for at, task in enumerate(self.build.tasks):
             for work in task.works:
@@ -232,7 +232,7 @@ class NinjaBuilder(Builder):
                 ages_by_words(self, at, work)
                 ages_in_archives(self, at, work)
         add_elsewhere(self, created)
-        pass_locks(self)
+        pass_locks(self)  # guard: ninja
         drop_lonely(self.build.tasks, set())
 
     def add_logs(self) -> None:
@@ -240,21 +240,21 @@ class NinjaBuilder(Builder):
         asks for its age, sees whether the first one has ended, as ninja makes its logs then."""
         tasks, folder = self.build.tasks, self.full(self.stage.manifest.top.value("builddir") or ".")
         ran = {at for at, task in enumerate(tasks) if task.works}
-        for name, makers in (LOG, ran), (DEPS, {at for at in ran if self.build.edges[at].value("deps")}):
+        for name, makers in (LOG, ran), (DEPS, {at for at in ran if self.build.edges[at].value("deps")}):  # guard: its-log-of-headers-among-names
             path = join(folder, name)
-            is_new = self.ninja.life.events.get(("C", path), -1) > self.stage.opened
-            if is_new and folder in self.timed:
+            is_new = self.ninja.life.events.get(("C", path), -1) > self.stage.opened  # guard: ninjas-own-log
+            if is_new and folder in self.timed:  # guard: its-log-and-age-of-folder
                 self.timers.setdefault(folder, set()).update(makers)
             for at in sorted(ran):
                 if any(kind in "RSN" and found == path for kind, found in self.events(tasks[at])):
                     apart(self, path + "/@output", "which commands stand in the log of ninja", at, ran - {at})
-                elif is_new and self.lists(at, path) and not any(self.build.is_before(maker, at) for maker in makers):
+                elif is_new and self.lists(at, path) and not any(self.build.is_before(maker, at) for maker in makers):  # guard: its-log-among-names
                     apart(self, path + "/@output", "that the log of ninja is there", at, makers - {at})
 
     def lists(self, at: int, path: str) -> bool:
         """Whether a task lists the folder of a path for such names."""
         found = (name.split("\0") for kind, name in self.events(self.build.tasks[at]) if kind == "L")
-        return any(folder == os.path.dirname(path) and fits(pattern, path, self.names) for folder, pattern in found)
+        return any(folder == os.path.dirname(path) and fits(pattern, path, self.names) for folder, pattern in found)  # guard: log-that-does-not-fit
 
     def put_makers_first(self) -> None:
         """Lists who makes a declared output before who reads it, where nothing orders the two: a fix then lets the reader wait."""

@@ -32,7 +32,7 @@ def import_ninjas(ninjas: List[Ninja], lives: List[Life], elsewhere: Elsewhere, 
     removed = removed_names(lives) if ninjas else set()
     stages = [(stage, ninja, number) for ninja in ninjas for number, stage in enumerate(ninja.stages) if stage.jobs and stage.is_read]
     for stage, ninja, number in sorted(stages, key=lambda found: found[0].opened):
-        builder = NinjaBuilder(ninja, number, past.until(stage.opened), removed, names, assumed)
+        builder = NinjaBuilder(ninja, number, past.until(stage.opened), removed, names, assumed)  # guard: folders-that-were-there-when-it-began
         builder.elsewhere = elsewhere
         builds.append(builder.run())
         holes += builder.holes
@@ -55,7 +55,7 @@ def beside(ninjas: List[Ninja], builds: List[Build], names: Names) -> "Tuple[int
         for one in sorted(missing or (), key=lambda m: (m.user, m.path)):
             found += 1
             is_said = any(is_race(build, one, names) for build in builds if isinstance(build, NinjaBuild) and build.folder == ninja.folder)
-            beyond += [] if is_said or is_of_nobody(ninja, one, builds, names) else [one]
+            beyond += [] if is_said or is_of_nobody(ninja, one, builds, names) else [one]  # guard: phony-ones
     return found, beyond
 
 
@@ -63,7 +63,7 @@ def is_of_nobody(ninja: Ninja, one: Missing, builds: List[Build], names: Names) 
     """Whether no statement makes a file and no task wrote it: CMake has phony ones without inputs for all that it reads itself, so that they may be absent."""
     edges = [stage.manifest.makers.get(one.path) for stage in ninja.stages]
     path = names.find(ninja.folder, one.path, True).path
-    return all(edge is not None and edge.is_phony and not edge.waits() for edge in edges) and not any(path in build.writers for build in builds)
+    return all(edge is not None and edge.is_phony and not edge.waits() for edge in edges) and not any(path in build.writers for build in builds)  # guard: phony-ones-that-are-written
 
 
 def is_race(build: NinjaBuild, one: Missing, names: Names) -> bool:

@@ -48,7 +48,7 @@ def has_ninja(words: List[str]) -> bool:
 def saved_names(folder: str) -> Iterator[str]:
     """The names that a folder may have meanwhile: beside itself, or beside a folder that it is in."""
     yield folder + SAVED
-    yield from (saved_beside(str(top), folder) for top in Path(folder).parents if top.name)
+    yield from (saved_beside(str(top), folder) for top in Path(folder).parents if top.name)  # guard: one-that-was-left-beside-project
 
 
 def saved_beside(top: str, folder: str) -> str:
@@ -61,7 +61,7 @@ def saved_name(folder: str, tops: List[str]) -> str:
     top = next((top for top in tops if folder.startswith(top.rstrip("/") + "/")), "/")
     above = os.path.dirname(top)
     can_move = top != "/" and os.access(above, os.W_OK) and os.stat(above).st_dev == os.stat(os.path.dirname(folder)).st_dev
-    return saved_beside(top, folder) if can_move else folder + SAVED
+    return saved_beside(top, folder) if can_move else folder + SAVED  # guard: folder-itself-is-not-below-project
 
 
 def left_over(folder: str, kept: str) -> str:
@@ -109,7 +109,7 @@ def with_folders(paths: List[str], here: str) -> List[str]:
     while todo:
         folder = todo.pop()
         names = {os.path.join(folder, name) for name in os.listdir(folder)}
-        if names <= found and not (here + "/").startswith(folder + "/"):
+        if names <= found and not (here + "/").startswith(folder + "/"):  # guard: folders-outside-that-hold-something
             found = (found - names) | {folder}
             todo.add(os.path.dirname(folder))
     return sorted(found)
@@ -136,7 +136,7 @@ def remove(folder: str) -> None:
     """Removes a folder, also where folders in it may not be written. What stays all the same gets another name: nothing may stand in the place."""
     shutil.rmtree(folder, ignore_errors=True)
     if os.path.isdir(folder):
-        let_write(folder)
+        let_write(folder)  # guard: folders-that-may-not-be-written-go
         shutil.rmtree(folder, ignore_errors=True)
     if os.path.lexists(folder):
         left = os.path.join(tempfile.mkdtemp(prefix=os.path.basename(folder) + ".race-left-", dir=os.path.dirname(folder)), "copy")
@@ -164,8 +164,8 @@ class Copier:
         """One file, for `shutil.copytree`."""
         found = os.stat(source)
         key = found.st_dev, found.st_ino
-        self.names[key] = self.names.get(key, found.st_nlink) - 1
-        if key in self.copies:
+        self.names[key] = self.names.get(key, found.st_nlink) - 1  # guard: name-outside-of-file-that-nobody-writes
+        if key in self.copies:  # guard: two-names-of-file
             os.link(self.copies[key], target)
             return target
         self.copies[key] = target
@@ -195,11 +195,11 @@ def clean(folder: str, manifest: Manifest) -> None:
     if ninja is None:
         raise CannotClean("ninja is missing (Debian: apt-get install ninja-build): --fresh cleans by `ninja -t clean`")
     ran = subprocess.run([ninja, "-C", folder, "-t", "clean"], capture_output=True, text=True, errors="replace", stdin=subprocess.DEVNULL, check=False)
-    if ran.returncode and not all(FULL.fullmatch(line) for line in ran.stderr.splitlines()):
+    if ran.returncode and not all(FULL.fullmatch(line) for line in ran.stderr.splitlines()):  # guard: folder-that-holds-something
         raise CannotClean("ninja -C %s -t clean ended with %d: %s" % (folder, ran.returncode, (ran.stdout + ran.stderr)[-300:].strip()))
     logs = os.path.join(folder, manifest.top.value("builddir"))
     for name in (".ninja_log", ".ninja_deps"):
-        Path(logs, name).unlink(missing_ok=True)
+        Path(logs, name).unlink(missing_ok=True)  # guard: logs-of-earlier-builds-go
     for place in sorted(before, key=len, reverse=True):
         if place != folder and not os.listdir(place):
             os.rmdir(place)
@@ -210,7 +210,7 @@ def cold_copy(folder: str, saved: str) -> Iterator[List[str]]:
     """Works on a clean copy in the place of a folder, which is kept under another name; it comes back, whatever happens. Gives the copies of files
     that have names outside of the folder too."""
     here = os.path.realpath(".")
-    check_kinds(folder)
+    check_kinds(folder)  # guard: nothing-that-cannot-be-copied
     move_away(folder, saved)
     kept: List[str] = []
     copier = Copier()
@@ -221,7 +221,7 @@ def cold_copy(folder: str, saved: str) -> Iterator[List[str]]:
             os.chdir(here)
             step = "cleaned"
             manifest = read_manifest(folder, "build.ninja", lambda path: Path(path).read_bytes().decode("utf-8", "surrogateescape"))
-            set_aside(with_folders(outside(folder, manifest), here), kept)
+            set_aside(with_folders(outside(folder, manifest), here), kept)  # guard: outputs-outside-are-kept
             clean(folder, manifest)
         except (Unreadable, OSError) as fault:
             raise CannotClean("%s cannot be %s: %s" % (folder, step, reason(fault) if isinstance(fault, OSError) else fault)) from None
@@ -230,4 +230,4 @@ def cold_copy(folder: str, saved: str) -> Iterator[List[str]]:
         remove(folder)
         os.rename(saved, folder)
         os.chdir(here)
-        put_back(kept)
+        put_back(kept)  # guard: outputs-outside-come-back

@@ -32,7 +32,7 @@ def cmake_target(edge: Edge, manifest: Manifest) -> str:
         if match:
             return match.group(1) or match.group(match.lastindex or 1)
     link = CMAKE_LINK.match(edge.rule)
-    return link.group(1) if link else next(iter(cmake_users(edge, manifest, 1)), "")
+    return link.group(1) if link else next(iter(cmake_users(edge, manifest, 1)), "")  # guard: target-of-cmake-that-was-made-for-file
 
 
 def cmake_users(edge: Edge, manifest: Manifest, group: int) -> List[str]:
@@ -88,7 +88,7 @@ def owner(labels: Dict[str, Any], label: str) -> Owner:
 def pool_text(labels: Dict[str, Any], first: str, second: str) -> str:
     """Where both are in one pool, what that pool promises."""
     one, two = labels.get(first, {}), labels.get(second, {})
-    if not one.get("pool") or one.get("pool") != two.get("pool"):
+    if not one.get("pool") or one.get("pool") != two.get("pool"):  # guard: pools-are-named
         return ""
     if one.get("depth") == "1":
         return "both are in the pool %s, which runs one at a time, in an order that nothing promises" % one["pool"]

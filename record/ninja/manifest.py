@@ -114,7 +114,7 @@ class Edge:
 
     def waits(self) -> List[str]:
         """All that must be there before the command starts."""
-        return self.inputs + self.implicit + self.order_only
+        return self.inputs + self.implicit + self.order_only  # guard: validations-give-none
 
     def value(self, name: str, escape: bool = True, busy: Tuple[str, ...] = ()) -> str:
         """A binding of this statement; `escape`: paths as a command needs them."""
@@ -229,7 +229,7 @@ class Manifest:
     def aged(self, edge: Edge) -> List[str]:
         """The files whose ages ninja compares with those of a statement's outputs: through phony ones too, and those that its depfile names."""
         found: Dict[str, None] = {}
-        todo = edge.inputs + edge.implicit + self.named(edge)
+        todo = edge.inputs + edge.implicit + self.named(edge)  # guard: ages-of-what-depfile-names
         while todo:
             path = todo.pop()
             if path not in found:
@@ -241,7 +241,7 @@ class Manifest:
     def named(self, edge: Edge) -> List[str]:
         """The inputs that a depfile names: one that ninja leaves where it is, or that it keeps in its log of headers."""
         if edge.value("deps"):
-            return [name for path in edge.makes() for name in self.deps.get(path, ())]
+            return [name for path in edge.makes() for name in self.deps.get(path, ())]  # guard: ages-of-what-its-log-of-headers-names
         path = edge.path("depfile")
         return [canonical(name) for name in depfile_inputs(os.path.join(self.folder, path))] if path else []
 

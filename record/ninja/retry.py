@@ -137,7 +137,7 @@ def hints(ninjas: "List[Ninja]", names: Names) -> List[str]:
                     maker = made.get(path)
                     if maker is not None and kind in "RSN" and is_loose(stage.manifest, maker, job.edge, below):
                         text = "%s looks for %s, which %s makes, and does not wait for it" % (job.edge.label, os.path.relpath(path, ninja.folder), maker.label)
-                        found[text] = min(found.get(text, 2), 0 if kind == "N" else 1)
+                        found[text] = min(found.get(text, 2), 0 if kind == "N" else 1)  # guard: absent-files-first
     return sorted(found, key=lambda text: (found[text], text))[:HINTS]
 
 
@@ -152,7 +152,7 @@ def is_loose(manifest: "Manifest", first: "Edge", second: "Edge", below: Dict[in
     for edge in (first, second):
         if edge.number not in below:
             below[edge.number] = manifest.below([edge])
-    return first is not second and first.number not in below[second.number] and second.number not in below[first.number]
+    return first is not second and first.number not in below[second.number] and second.number not in below[first.number]  # guard: none-where-it-waits
 
 
 def undo(names: Names, lives: "List[Life]", kept: Kept) -> List[str]:
@@ -166,7 +166,7 @@ def undo(names: Names, lives: "List[Life]", kept: Kept) -> List[str]:
                 continue
             if kind in "CWMT" and path not in names.before:
                 made.add(path)
-            elif kind in "WDX" and path in names.before and os.path.basename(path) not in OWN:
+            elif kind in "WDX" and path in names.before and os.path.basename(path) not in OWN:  # guard: words-where-nothing-was-undone
                 lost.add(path)
     if lost:
         return sorted(lost)

@@ -74,7 +74,7 @@ class Ninja(Tool):
             return []
         manifest = self.stages[-1].manifest
         goals = manifest.goals(self.goals)
-        numbers = manifest.below(goals) if goals is not None else {edge.number for edge in manifest.edges}
+        numbers = manifest.below(goals) if goals is not None else {edge.number for edge in manifest.edges}  # guard: all-below-goals
         return [edge for edge in manifest.edges if edge.number in numbers]
 
     def below_manifest(self, number: int = -1) -> Set[int]:
@@ -123,7 +123,7 @@ class Runs:
         for life in lives:
             if life.is_ninja:
                 self.add(life)
-            elif is_unknown(life):
+            elif is_unknown(life):  # guard: ninja-of-another-name
                 self.holes.append("a ninja of another name ran past the recorder: " + " ".join(life.argv)[:100])
         for log in dict.fromkeys(ninja.log for ninja in self.ninjas):
             self.attribute(log)
@@ -135,7 +135,7 @@ class Runs:
         works = [work for make in self.owners.makes for work in make.work.values()]
         works += [job.work for ninja in self.ninjas for stage in ninja.stages for job in stage.jobs]
         for work in works if by_life else []:
-            work.ninjas = [by_life[id(life)] for life in work.lives if id(life) in by_life]
+            work.ninjas = [by_life[id(life)] for life in work.lives if id(life) in by_life]  # guard: ninja-below-command
 
     # ---------------------------------------------------------------- processes
     def add(self, life: Life) -> None:
@@ -143,7 +143,7 @@ class Runs:
         asked = options_of(life.argv)
         if asked is None:
             if "-t" not in life.argv and any(self.job_of(child) for child in life.children if child.born > life.starts[-1][0]):
-                self.holes.append("ninja ran commands, and its words cannot be read: " + " ".join(life.argv)[:100])
+                self.holes.append("ninja ran commands, and its words cannot be read: " + " ".join(life.argv)[:100])  # guard: words-that-cannot-be-read
             return
         options, goals = asked
         file = options.get("-f", "build.ninja")
@@ -153,7 +153,7 @@ class Runs:
         for start, end in zip(opened, opened[1:] + [NEVER]):
             self.add_stage(ninja, start, end)
         if not opened:
-            self.holes.append("a ninja read no manifest: " + " ".join(life.argv)[:100])
+            self.holes.append("a ninja read no manifest: " + " ".join(life.argv)[:100])  # guard: no-manifest
         else:
             ninja.log = self.names.find(folder, os.path.join(ninja.stages[-1].manifest.top.value("builddir"), ".ninja_log"), True).path
 
@@ -166,7 +166,7 @@ class Runs:
             if act.place > begin and act.kind == "U" and not places:
                 folder = act.path
                 target = self.names.find(folder, file, True).path
-            elif act.place > begin and act.kind == "R" and act.path == target:
+            elif act.place > begin and act.kind == "R" and act.path == target:  # guard: manifest-that-is-remade-begins-again
                 places.append(act.place)
         return folder, places
 
@@ -177,12 +177,12 @@ class Runs:
         ninja.stages.append(stage)
         try:
             stage.manifest = read_manifest(ninja.folder, ninja.file, self.texts_at(start))
-            self.read_dyndeps(stage.manifest, self.reads(ninja.life, start, end))
+            self.read_dyndeps(stage.manifest, self.reads(ninja.life, start, end))  # guard: what-dyndep-file-adds
         except Unreadable as fault:
             stage.is_read = False
-            ninja.is_tried = is_tried(ninja)
+            ninja.is_tried = is_tried(ninja)  # guard: manifest-that-is-gone
             if jobs and not ninja.is_tried:
-                self.holes.append("the manifest that ninja read cannot be read again: %s" % fault)
+                self.holes.append("the manifest that ninja read cannot be read again: %s" % fault)  # guard: manifest-that-cannot-be-read
 
     def job_of(self, life: Life) -> Optional[Job]:
         """The command that a child of ninja runs."""
@@ -190,7 +190,7 @@ class Runs:
             return None
         first = life.ran[0]
         if len(first) != 3 or os.path.basename(first[0]) != "sh" or first[1] != "-c":
-            self.holes.append("ninja started what is no command: " + " ".join(first)[:100])
+            self.holes.append("ninja started what is no command: " + " ".join(first)[:100])  # guard: child-that-is-no-command
             return None
         return Job(life, first[2])
 
@@ -201,9 +201,9 @@ class Runs:
         def text(path: str) -> str:
             path = self.names.find("/", path, True).path
             first, last = self.changes(path)
-            if last < place:
+            if last < place:  # guard: manifest-that-changed-since
                 return text_of(path)
-            if path in self.kept.texts and first > place:
+            if path in self.kept.texts and first > place:  # guard: manifest-that-changed-before
                 return self.kept.texts[path]
             raise Unreadable("nobody kept %s as it was when ninja read it" % path)
 
@@ -212,7 +212,7 @@ class Runs:
     def changes(self, path: str) -> Tuple[int, int]:
         """Where in the trace a file was first changed, and where last."""
         firsts = [life.events.get((kind, path), NEVER) for life in self.lives for kind in "WCD"]
-        return min(firsts, default=NEVER), max((life.changed.get(path, -1) for life in self.lives), default=-1)
+        return min(firsts, default=NEVER), max((life.changed.get(path, -1) for life in self.lives), default=-1)  # guard: manifest-that-one-process-changed-twice
 
     @staticmethod
     def reads(life: Life, start: int, end: int) -> Dict[str, int]:
@@ -228,8 +228,8 @@ class Runs:
             if not name or real not in reads and not machine.isfile(path):
                 continue
             try:
-                for one in read_dyndep(self.texts_at(reads.get(real, NEVER - 1))(path)):
-                    if manifest.makers.get(one.output) is edge:
+                for one in read_dyndep(self.texts_at(reads.get(real, NEVER - 1))(path)):  # guard: dyndep-file-that-changed-since
+                    if manifest.makers.get(one.output) is edge:  # guard: dyndep-file-adds-to-its-statement-alone
                         manifest.add_found(edge, name, one)
             except Unreadable as fault:
                 self.holes.append("%s: %s" % (path, fault))
@@ -258,7 +258,7 @@ class Runs:
             return new_outputs(self.kept.texts.get(log, ""), text_of(log))
         except OSError:
             if self.has_ended:
-                self.holes.append("ninja left no log: " + log)
+                self.holes.append("ninja left no log: " + log)  # guard: no-log
                 return None
             return []
 
@@ -272,16 +272,16 @@ class Runs:
             groups.setdefault(job.text, []).append(job)
         for text, jobs in sorted(groups.items()):
             edges = by_text.get(text, [])
-            if not edges or any(job.life.cut for job in jobs):
-                self.holes.append("ninja ran a command that no build statement has: " + text[:200])
+            if not edges or any(job.life.cut for job in jobs):  # guard: command-that-is-cut
+                self.holes.append("ninja ran a command that no build statement has: " + text[:200])  # guard: command-of-nobody
             elif len(edges) == 1 and len(jobs) == 1:
                 jobs[0].edge = edges[0]
             else:
                 self.break_tie(text, jobs, edges, logged)
         for job in stage.jobs:
-            self.owners.take(job.work, job.life)
+            self.owners.take(job.work, job.life)  # guard: processes-of-command
         for text, jobs in sorted(groups.items()):
-            self.check_tie(text, jobs)
+            self.check_tie(text, jobs)  # guard: two-of-one-command-at-once
 
     def break_tie(self, text: str, jobs: List[Job], edges: List[Edge], logged: Optional[List[str]]) -> None:
         """Statements with one command: the log names them in the order in which they ended."""
@@ -289,12 +289,12 @@ class Runs:
         found = sorted((e for e in edges if place.get(e.label, (0, 0))[1] == 1), key=lambda e: place[e.label])
         if len(jobs) == len(edges) == 1:
             found = edges
-        if len(found) != len(jobs):
+        if len(found) != len(jobs):  # guard: log-must-say
             self.holes.append("several build statements have one command, and the log of ninja does not say which ran: " + text[:200])
             return
-        for job, edge in zip(sorted(jobs, key=lambda j: j.life.died), found):
+        for job, edge in zip(sorted(jobs, key=lambda j: j.life.died), found):  # guard: log-says-which-of-two
             job.edge = edge
-        self.ties.append(text)
+        self.ties.append(text)  # guard: said-that-log-decided
 
     def check_tie(self, text: str, jobs: List[Job]) -> None:
         """Where two with one command, which nothing distinguishes, ran at once, it must not matter which was which."""
@@ -308,9 +308,9 @@ class Runs:
         """Each statement that ran has its lines in the log, and each line a statement that ran."""
         ran = Counter(path for ninja in ninjas for stage in ninja.stages for edge in stage.ran() for path in edge.makes())
         counted = Counter(logged)
-        for path in sorted((counted - ran).keys())[:3]:
+        for path in sorted((counted - ran).keys())[:3]:  # guard: line-of-log-too-many
             self.holes.append("the log of ninja names %s, and no process of the trace made it" % path)
-        for path in sorted((ran - counted).keys())[:3]:
+        for path in sorted((ran - counted).keys())[:3]:  # guard: line-of-log-less
             self.holes.append("a command ran for %s, and the log of ninja does not name it" % path)
 
 

@@ -22,13 +22,13 @@ NO_NAMES = re.compile(r"\bset\s+(?:-\S+\s+)*[-+](?:\w*f|o)|\bnoglob\b")
 def accounted(one: Listed, lists: Sequence[Listed], script: Script, values: Values) -> Optional[Set[Asked]]:
     """The patterns of the commands to one of which a list belongs; None where it may be that of another. `lists`: all that the same process did."""
     first, last, program = window(one)
-    if program is None or os.path.basename(program.name) in SHELLS or program.folder != one.folder or sum(first < other.place < last and other.folder == one.folder and other.is_end for other in lists) != 1:
+    if program is None or os.path.basename(program.name) in SHELLS or program.folder != one.folder or sum(first < other.place < last and other.folder == one.folder and other.is_end for other in lists) != 1:  # guard: one-alone
         return None
     commands = [command for command in script.commands if may_run(command, program, values)]
     found: Set[Asked] = set()
     for command in commands:
         fields = [values.expanded(word) for word in command if all(piece.quoted or piece.kind != "command" for piece in word.pieces)]
-        if len(fields) != len(command) or not any(surely_asks(word, values) for word in command[1:]):
+        if len(fields) != len(command) or not any(surely_asks(word, values) for word in command[1:]):  # guard: patterns-in-each
             return None
         found.update(asked for words in fields for field in words for asked in parts_of(field))
     return found if commands else None
@@ -43,7 +43,7 @@ def window(one: Listed) -> Tuple[int, int, Optional[Program]]:
     if starts is None:
         return before, after, None
     program = next((program for program in starts.programs if program.place >= after), None)
-    if program is not None and starts is not life and is_busy(starts, program):
+    if program is not None and starts is not life and is_busy(starts, program):  # guard: same-process
         program = None
     return before, after, program
 
@@ -55,7 +55,7 @@ def is_busy(life: Life, program: Program) -> bool:
 
 def may_run(command: List[Word], program: Program, values: Values) -> bool:
     """Whether a command may run a program, by its name."""
-    name = os.path.basename(program.name)
+    name = os.path.basename(program.name)  # guard: its-name
     for word in command:
         names = [one.split()[:1] for one in values.alternatives(word)]
         if any(found and (os.path.basename(found[0]) == name or re.search(HIDDEN, found[0])) for found in names):
@@ -73,5 +73,5 @@ def surely_asks(word: Word, values: Values) -> bool:
 
 def may_be_read(script: Script, text: str) -> bool:
     """Whether its commands list folders wherever they have patterns."""
-    return not NO_NAMES.search(text) and not script.functions
+    return not NO_NAMES.search(text) and not script.functions  # guard: names-are-found
 

@@ -46,7 +46,7 @@ class Background:
         """Whether a process that the shell starts may be in the background; of a process that runs no program the name is empty. `is_inner`: a process
         of the shell starts it that has begun no program."""
         if is_inner:
-            return self.is_any or name in self.inner or not name and bool(self.inner)
+            return self.is_any or name in self.inner or not name and bool(self.inner)  # guard: what-brackets-start-beside
         return self.is_any or name in self.names or not name and self.is_shell
 
 
@@ -115,7 +115,7 @@ class Reader:
             raise Unread
         self.end_row(False)
         after = self.after if self.after is not None and self.jobs else set()
-        return Background(frozenset(self.jobs), bool(self.jobs & {*ANY}), self.is_shell, frozenset(after - self.before), self.after is not None, self.after is not None and self.is_quiet,
+        return Background(frozenset(self.jobs), bool(self.jobs & {*ANY}), self.is_shell, frozenset(after - self.before), self.after is not None, self.after is not None and self.is_quiet,  # guard: texts-that-run-others
                           frozenset(self.inner))
 
     def look_into(self, pieces: List[Piece]) -> None:
@@ -149,7 +149,7 @@ class Reader:
             self.frames[-1].row.is_plain = False
             if operator == "|":
                 self.frames[-1].row.is_piped = True
-                self.lose(self.closed.started if self.closed is not None else set())
+                self.lose(self.closed.started if self.closed is not None else set())  # guard: pipelines
         elif operator == "(":
             if not is_start:
                 raise Unread  # a function
@@ -171,19 +171,19 @@ class Reader:
         frame.names += row.names
         if is_job and (row.names or not row.is_plain):
             self.add_job(row, frame)
-        elif any(one.jobs or one.end == "done" for one in self.frames):
+        elif any(one.jobs or one.end == "done" for one in self.frames):  # guard: loops-that-do-more
             frame.count += row.count
 
     def add_job(self, row: Row, frame: Frame) -> None:
         """A list in the background."""
         self.jobs |= {*row.names}
-        self.is_shell = self.is_shell or not row.is_plain or row.names[0] in PLAIN or row.names[0] in ANY
-        self.after = None
+        self.is_shell = self.is_shell or not row.is_plain or row.names[0] in PLAIN or row.names[0] in ANY  # guard: brackets
+        self.after = None  # guard: after-another
         frame.jobs += 1
         frame.started |= {*row.names}
-        self.lose(row.jobs)
+        self.lose(row.jobs)  # guard: background
         if frame.is_job or any(one.end == ")" for one in self.frames):
-            self.lose({*row.names})
+            self.lose({*row.names})  # guard: what-brackets-start
 
     def close(self, end: str) -> None:
         """A bracket or a loop ends."""
@@ -197,8 +197,8 @@ class Reader:
         above.row.count += frame.count
         above.row.jobs |= frame.started
         above.started |= frame.started
-        self.lose(frame.started if above.row.is_piped else set())
-        above.jobs += frame.jobs * (MANY if end == "done" else 1)
+        self.lose(frame.started if above.row.is_piped else set())  # guard: at-end-of-pipeline
+        above.jobs += frame.jobs * (MANY if end == "done" else 1)  # guard: loops
         if frame.is_job:
             self.add_job(Row(frame.names, False), frame)
         self.closed = frame
@@ -224,7 +224,7 @@ class Reader:
         self.frames[-1].row.count += name != "wait"
         (self.before if self.after is None else self.after).add(name)
         self.may_leave = self.may_leave or name in LEAVES and bool(self.jobs)
-        self.jobs |= {""} if name == "coproc" else set()
+        self.jobs |= {""} if name == "coproc" else set()  # guard: coproc
         if name == "wait":
             self.wait(tokens, at + 1, last)
         return at + 1, name in ("exec", "command")
@@ -246,11 +246,11 @@ class Reader:
         while at < len(tokens) and not tokens[at][0]:
             words.append("".join(piece.kind + piece.text for piece in tokens[at][1]))
             at += 1
-        is_sure = len(self.frames) == 1 and last in (";", "\n", "&") and not (self.is_lost or self.may_leave)
+        is_sure = len(self.frames) == 1 and last in (";", "\n", "&") and not (self.is_lost or self.may_leave)  # guard: waits-that-may-not-come
         self.waited |= {*words} if is_sure else set()
-        if is_sure and (not words or len(self.waited) >= self.frames[0].jobs):
-            self.after = set()
-            self.is_quiet = self.is_quiet and not (self.frames[0].count or self.frames[0].row.count)
+        if is_sure and (not words or len(self.waited) >= self.frames[0].jobs):  # guard: waits-for-all
+            self.after = set()  # guard: waits
+            self.is_quiet = self.is_quiet and not (self.frames[0].count or self.frames[0].row.count)  # guard: its-own-shell-meanwhile
 
 
 def plain(pieces: List[Piece]) -> Optional[str]:
@@ -264,12 +264,12 @@ def background(text: str) -> Optional[Background]:
     if "&" not in text and "<(" not in text and "coproc" not in text:
         return None
     for pattern, other in OTHER_OPERATORS:
-        text = pattern.sub(other, text)
+        text = pattern.sub(other, text)  # guard: operators-of-bash
     try:
         found = Reader().read(ScriptCutter(text).tokens())
     except (Unread, RecursionError):
-        return by_lines(QUOTED.sub("''", DOCUMENTS.sub("\n", text)))
-    if EVALS.search(text) and not (found.names or found.is_shell):
+        return by_lines(QUOTED.sub("''", DOCUMENTS.sub("\n", text)))  # guard: texts-that-are-not-read
+    if EVALS.search(text) and not (found.names or found.is_shell):  # guard: texts-that-shell-puts-together
         return ALL
     return found if found.names or found.is_shell else None
 
@@ -282,7 +282,7 @@ def by_lines(text: str) -> Optional[Background]:
         line = re.split(r"(?<!\\)\n", text[:mark.start()][-LONG:])[-1].replace("\\\n", " ")
         found = {os.path.basename(name) for name in COMMANDS.findall(line)}
         is_known = found and not found & functions and line.count("(") == line.count(")") and line.count("{") == line.count("}") and not CLOSES.search(line)
-        if not is_known or "coproc" in found or any("$" in name or "`" in name or "'" in name or name in ANY for name in found):
+        if not is_known or "coproc" in found or any("$" in name or "`" in name or "'" in name or name in ANY for name in found):  # guard: lines-of-texts-that-are-not-read
             return ALL
         names |= found
     return Background(frozenset(names), is_shell=bool(names & {*PLAIN}), inner=frozenset(names)) if names else None

@@ -27,9 +27,9 @@ GIT_ASKS = r"\S+ (?:-[Cc] \S+ |--[\w-]+(?:=\S+)? |-p )*(?:describe|diff|diff-fil
 
 
 KEEPERS = (
-    Keeper(re.compile(r"ccache"), re.compile(r"(/.+?)/(?:tmp/\.cleaned|(?:[0-9a-f]/){1,2}(?:stats|CACHEDIR\.TAG))"), re.compile("(?!ccache -)")),
+    Keeper(re.compile(r"ccache"), re.compile(r"(/.+?)/(?:tmp/\.cleaned|(?:[0-9a-f]/){1,2}(?:stats|CACHEDIR\.TAG))"), re.compile("(?!ccache -)")),  # guard: ccache-that-says-what-it-keeps
     Keeper(re.compile(r"cargo"), re.compile(r"(/.+/\.(?:global-cache(?:-journal)?|package-cache(?:-mutate)?))")),
-    Keeper(re.compile(r"go"), re.compile(r"(/.+?)/[0-9a-f]{2}/[0-9a-f]{64}-[ad]|(/.+/go/telemetry)/local/.+"), re.compile(r"(?!.* -(?:v|x|n|json)(?: |$))")),
+    Keeper(re.compile(r"go"), re.compile(r"(/.+?)/[0-9a-f]{2}/[0-9a-f]{64}-[ad]|(/.+/go/telemetry)/local/.+"), re.compile(r"(?!.* -(?:v|x|n|json)(?: |$))")),  # guard: go-that-says-what
     Keeper(re.compile(r"git"), re.compile(r"(/.+/\.git/(?:.+/)?index(?:\.lock)?)"), re.compile(GIT_ASKS)),
     Keeper(re.compile(r"np[mx]-cli\.js"), re.compile(r"(/.+/_logs)/[^/]+\.log|(/.+/_cacache)/.+|(/.+/_update-notifier-last-checked)")),
     Keeper(re.compile(r"guile(?:-[\d.]+)?"), re.compile(r"(/.+/guile/ccache)/.+\.go(?:\..+)?")),
@@ -59,7 +59,7 @@ def runs(program: Program, keeper: Keeper, tops: Sequence[str]) -> bool:
     """Whether a program is the one of that name, or was called by it. One of the project is not known to be it."""
     is_named = any(keeper.programs.fullmatch(os.path.basename(name)) for name in (program.file, program.name))
     words = " ".join([os.path.basename(program.name), *program.argv[1:]])
-    return is_named and keeper.words.match(words) is not None and not any(is_in(program.file, top) for top in tops)
+    return is_named and keeper.words.match(words) is not None and not any(is_in(program.file, top) for top in tops)  # guard: ccache-of-project
 
 
 def below(life: Life, place: int) -> Dict[Life, int]:
@@ -78,7 +78,7 @@ def own_folders(keeper: Keeper, lives: Sequence[Life], known: Dict[Life, int]) -
     matches = [match for life in known for _, path in life.events for match in [keeper.kept.fullmatch(path)] if match is not None]
     folders = {next(filter(None, match.groups())) for match in matches}
     for life in lives if folders else ():
-        others = [path for (_, path), place in life.events.items() if life not in known or place < known[life]]
+        others = [path for (_, path), place in life.events.items() if life not in known or place < known[life]]  # guard: who-else
         folders = {folder for folder in folders if not any(is_in(path, folder) for path in others)}
     return folders
 
@@ -90,11 +90,11 @@ def is_in(path: str, folder: str) -> bool:
 
 def leave_out(life: Life, folders: Set[str], made: Set[str]) -> None:
     """Takes out what a process did in these folders. Each that is there makes them, and those above, if they are not there."""
-    within = [(kind, path) for kind, path in life.events if any(is_in(path, folder) for folder in folders)]
+    within = [(kind, path) for kind, path in life.events if any(is_in(path, folder) for folder in folders)]  # guard: files
     first = min((life.events[event] for event in within), default=0)
     for kind, path in within:
-        if path.rstrip("/") not in made or kind in LOOKS:
+        if path.rstrip("/") not in made or kind in LOOKS:  # guard: name-of-folder
             del life.events[kind, path]
     for path in made if within else ():
         places = [place for place in (life.events.pop((kind, path), None) for kind in LOOKS) if place is not None]
-        life.events.setdefault((MADE_QUIETLY, path), min([first, *places]))
+        life.events.setdefault((MADE_QUIETLY, path), min([first, *places]))  # guard: who-makes-folder

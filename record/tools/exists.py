@@ -41,7 +41,7 @@ def settle_exists(lives: List[Life], logs: Iterable[Words]) -> Markers:
                 users.setdefault(path, []).append(life)
     bases = [one.base for words in logs for one in words.rounds if one.base is not None] if users else []
     listed = {os.path.dirname(path) for path in users} & {path.partition("\0")[0] for life in lives if users for kind, path in life.events if kind == LISTED}
-    plain = {path for path in users if os.path.dirname(path) not in listed and all(is_plain(base, path) for base in bases)}
+    plain = {path for path in users if os.path.dirname(path) not in listed and all(is_plain(base, path) for base in bases)}  # guard: folders-that-are-listed
     found = {path for path in plain if all(is_marker(life, path) for life in users[path])}
     looks: Dict[Tuple[int, str], int] = {}
     for life in lives if found else ():
@@ -58,7 +58,7 @@ def credit_makes(owners: Owners, markers: Markers) -> None:
             for name in [name for name in one.nodes if name.endswith(NAME) and name not in one.must]:
                 path = next((path for path in markers.paths if is_name(name, path)), "")
                 place, folder = markers.looks.get((id(make.life), path), -1), os.path.dirname(path)
-                if place >= 0 and all(waits(one, job.target, name) for job in one.jobs if is_used(make.work.get(id(job)), folder)):
+                if place >= 0 and all(waits(one, job.target, name) for job in one.jobs if is_used(make.work.get(id(job)), folder)):  # guard: who-waits-for-rule
                     for work in (work for above in owners.makes for work in above.work.values() if make in work.makes):
                         work.add(MAKER_SEEN, folder, place)
 
@@ -83,9 +83,9 @@ def is_marker(life: Life, path: str) -> bool:
     """Whether a process does no more with such a file than to touch it, or is a make that looks at it, by no function."""
     if life.is_make:
         is_read = {(READ, path), (WRITTEN, path), (REMOVED, path)} & life.events.keys()
-        return not is_read and not any(asks(contents(one)) for kind, one in life.events if kind == READ)
+        return not is_read and not any(asks(contents(one)) for kind, one in life.events if kind == READ)  # guard: looks-of-functions
     name = os.path.basename("".join(life.argv[:1]))
-    is_touch = name == "perl" and life.argv[1:5] == TOUCHES or name == "touch" and len(life.argv) == 2
+    is_touch = name == "perl" and life.argv[1:5] == TOUCHES or name == "touch" and len(life.argv) == 2  # guard: who-reads
     return is_touch and (REMOVED, path) not in life.events
 
 
@@ -99,7 +99,7 @@ def is_plain(base: Base, path: str) -> bool:
     for name, lines in base.recipes.items():
         if is_name(name, path) and not all(LINE.fullmatch(line) for line in lines):
             return False
-    return not any(target not in base.phony and any(is_name(one, path) for one in names) for target, names in base.prerequisites.items())
+    return not any(target not in base.phony and any(is_name(one, path) for one in names) for target, names in base.prerequisites.items())  # guard: ages
 
 
 def is_name(name: str, path: str) -> bool:

@@ -58,14 +58,14 @@ class Expression:
         while self.word() in ALTERNATIVES:
             self.take()
             rows.append(self.row())
-        return Part(all(one.is_narrow for one in rows), all(one.is_of_folders for one in rows), any(one.acts for one in rows), any(one.is_open for one in rows))
+        return Part(all(one.is_narrow for one in rows), all(one.is_of_folders for one in rows), any(one.acts for one in rows), any(one.is_open for one in rows))  # guard: one-of-several-tests
 
     def row(self) -> Part:
         """Terms of which all have to be true, from the left: what stands behind a pattern is done for its names alone."""
         found, before = Part(), self.is_of_folders
         while self.word() not in ("", ")", *ALTERNATIVES):
             one = self.term()
-            is_open = found.is_open or one.is_open and not found.is_narrow
+            is_open = found.is_open or one.is_open and not found.is_narrow  # guard: what-is-done-for-any-name
             found = Part(found.is_narrow or one.is_narrow, found.is_of_folders or one.is_of_folders, found.acts or one.acts, is_open)
             self.is_of_folders = self.is_of_folders or one.is_of_folders
         self.is_of_folders = before
@@ -78,7 +78,7 @@ class Expression:
             return Part()
         if word in NEGATES:
             one = self.term()
-            return Part(acts=one.acts, is_open=one.is_open)
+            return Part(acts=one.acts, is_open=one.is_open)  # guard: tests-that-are-turned-round
         if word == "(":
             found = self.alternatives()
             if self.take() != ")":
@@ -99,7 +99,7 @@ class Expression:
         """A test of a name, of its kind, or of something else."""
         if word not in VALUED:
             raise Unread
-        self.depth = value if word == "-maxdepth" else self.depth
+        self.depth = value if word == "-maxdepth" else self.depth  # guard: how-deep-another-one-goes
         if word == "-type" and value == "d":
             self.patterns.add(FOLDERS)
             return Part(True, True)
@@ -110,7 +110,7 @@ class Expression:
 
 def in_any_case(pattern: str) -> str:
     """A pattern for names with letters of either case. Where a letter is not of ASCII, the other case may have another length."""
-    return re.sub(r"[^\x00-\x7f]+", "*", re.sub("[A-Za-z]", "?", pattern))
+    return re.sub(r"[^\x00-\x7f]+", "*", re.sub("[A-Za-z]", "?", pattern))  # guard: letters-that-are-not-of-ascii
 
 
 def expression_of(argv: List[str]) -> List[str]:
@@ -124,7 +124,7 @@ def find_patterns(life: Life) -> List[str]:
 
     It goes into each folder, so those count too, except where it lists the first folder alone.
     """
-    if base_name(life.argv) != "find" or not PROGRAM.match(life.program):
+    if base_name(life.argv) != "find" or not PROGRAM.match(life.program):  # guard: other-programs
         return []
     reader = Expression(expression_of(life.argv))
     try:
@@ -133,4 +133,4 @@ def find_patterns(life: Life) -> List[str]:
         return []
     if reader.word() or found.is_open or not (found.is_narrow or found.acts):
         return []
-    return sorted(reader.patterns | (set() if reader.depth == "1" else {FOLDERS}))
+    return sorted(reader.patterns | (set() if reader.depth == "1" else {FOLDERS}))  # guard: folders-that-are-made

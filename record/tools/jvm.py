@@ -22,9 +22,9 @@ def settle_machines(lives: List[Life]) -> None:
         return
     machines = [part for life in lives if life.ran for part in machine_of(life)]
     known = {id(part) for part in machines}
-    if any(os.path.basename(argv[0]) in READERS for life in lives for argv in life.ran if argv):
+    if any(os.path.basename(argv[0]) in READERS for life in lives for argv in life.ran if argv):  # guard: who-shows
         return
-    if any(path.startswith(PLACE) and KEPT.match(path) for life in lives if id(life) not in known for _, path in life.events):
+    if any(path.startswith(PLACE) and KEPT.match(path) for life in lives if id(life) not in known for _, path in life.events):  # guard: who-looks
         return
     for part in machines:
         for key in [key for key in part.events if KEPT.match(key[1])]:

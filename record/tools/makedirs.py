@@ -53,13 +53,13 @@ def forms_of(text: str) -> Forms:
         if is_first and token.type == tokenize.NAME:
             in_import = token.string in ("from", "import")
         is_first = token.type in (tokenize.NEWLINE, tokenize.INDENT, tokenize.DEDENT) or token.string == ";" or is_first and token.type != tokenize.NAME
-        if token.type == tokenize.NAME and token.string in MAKERS and not (in_import and is_plain(tokens[at + 1].string)):
+        if token.type == tokenize.NAME and token.string in MAKERS and not (in_import and is_plain(tokens[at + 1].string)):  # guard: folders-names-for-makers
             call = words_of(tokens[at + 1:])
-            forms.is_quiet = forms.is_quiet and has(call, "exist_ok")
+            forms.is_quiet = forms.is_quiet and has(call, "exist_ok")  # guard: folders
             forms.is_deep = forms.is_deep and (token.string == "makedirs" or has(call, "parents"))
         elif token.type == tokenize.NAME:
-            forms.is_quiet = forms.is_quiet and token.string not in OTHERS and not is_hidden([one.string for one in tokens[at:at + 3]])
-            forms.looks = forms.looks or token.string in LOOKS or catches(token.string, tokens[at + 1].string) or [one.string for one in tokens[at:at + 3]] == ["sys", ".", "path"]
+            forms.is_quiet = forms.is_quiet and token.string not in OTHERS and not is_hidden([one.string for one in tokens[at:at + 3]])  # guard: folders-texts-that-nobody-has-read
+            forms.looks = forms.looks or token.string in LOOKS or catches(token.string, tokens[at + 1].string) or [one.string for one in tokens[at:at + 3]] == ["sys", ".", "path"]  # guard: folders-other-looks
         elif not (token.type in (tokenize.OP, tokenize.NUMBER)):
             forms.is_quiet = forms.is_quiet and not any(word in token.string for word in MAKERS)
     return forms
@@ -98,7 +98,7 @@ def words_of(tokens: List[tokenize.TokenInfo]) -> List[str]:
 
 def has(call: List[str], word: str) -> bool:
     """Whether a call has `word=True` among its words, and nothing that depends on more."""
-    return any(call[at:at + 3] == [word, "=", "True"] and call[at + 3:at + 4] in ([","], [")"]) for at in range(len(call)))
+    return any(call[at:at + 3] == [word, "=", "True"] and call[at + 3:at + 4] in ([","], [")"]) for at in range(len(call)))  # guard: folders-words-that-depend-on-more
 
 
 @lru_cache(KEPT)
@@ -134,7 +134,7 @@ def settle_made(life: Life, sources: List[str], begun: int, written: Dict[str, i
     """Says of folders that such a program makes, or finds made, that it made them quietly. Before it has read its script, it looks
     for modules. `written`: when its texts were last written; one that was written later may have said something else. Whether there
     are such folders."""
-    if any(written.get(path, 0) > begun for path in sources):
+    if any(written.get(path, 0) > begun for path in sources):  # guard: folders-texts-that-are-changed
         return False
     made = {path: place for (kind, path), place in sorted(life.events.items(), key=lambda event: -event[1]) if kind in STRICT and place > begun}
     forms = all_forms(life, sources) if made else Forms(False)
@@ -145,7 +145,7 @@ def settle_made(life: Life, sources: List[str], begun: int, written: Dict[str, i
         for kind in STRICT:
             life.events.pop((kind, path), None)
         life.events.setdefault((MADE_QUIETLY, path), place)
-        for folder in (path, *above(path, life.folder)) if forms.is_deep else (path,):
+        for folder in (path, *above(path, life.folder)) if forms.is_deep else (path,):  # guard: python-folders
             ask(life, folder, place, begun, forms.looks)
     return bool(made) and forms.is_quiet
 

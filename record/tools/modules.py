@@ -28,7 +28,7 @@ MODULES = (".cmi", ".cmx")
 LIBRARIES = (".cma", ".cmxa")
 COMPILED, COMPRESSED = (".cmi", ".cmx", ".cmo"), b"\x84\x95\xa6\xbd"
 LINKED = (".cmo", ".cma", ".cmx", ".cmxa", ".cmxs", ".o", ".a", ".so")
-OCAML_PARTS = re.compile(rb"""(?P<name>[A-Za-z_][\w']*)|\"(?:\\.|[^"\\])*\"|'(?:\\[^\n]{1,4}?|[^'\\\n])'|\{(?P<mark>[a-z_]*)\|.*?\|(?P=mark)\}|\(\*|\*\)""", re.S)
+OCAML_PARTS = re.compile(rb"""(?P<name>[A-Za-z_][\w']*)|\"(?:\\.|[^"\\])*\"|'(?:\\[^\n]{1,4}?|[^'\\\n])'|\{(?P<mark>[a-z_]*)\|.*?\|(?P=mark)\}|\(\*|\*\)""", re.S)  # guard: names-with-quotes
 JAVA_PARTS = re.compile(rb"""\"{3}(?:\\.|[^\\])*?\"{3}|\"(?:\\.|[^"\\\n])*\"|'(?:\\.|[^'\\\n])+'|//[^\n]*|/\*.*?\*/""", re.S)
 LETTER = re.compile(rb"\\u+00([4-7][0-9a-fA-F])")  # a letter as Java may spell it
 SOURCES = (".ml", ".mli", ".mll", ".mly", ".java")
@@ -80,7 +80,7 @@ def settle_modules(lives: List[Life]) -> Iterator[Tuple[str, str]]:
     for life in found:
         parts = list(parts_of(life))
         texts = read_by(parts, disk)
-        if all(machine.isfile(text) for text in texts) and not (kind_of(life) == "java" and is_open(life, parts)):
+        if all(machine.isfile(text) for text in texts) and not (kind_of(life) == "java" and is_open(life, parts)):  # guard: files-that-are-gone
             listed = {path.partition("\0")[0] for part in parts for kind, path in part.events if kind == LISTED}
             lists = whole_lists(parts)
             for part in parts:
@@ -102,7 +102,7 @@ def settle_lists(life: Life, part: Life, texts: List[str], disk: Disk) -> None:
 def look_for(life: Life, part: Life, folder: str, place: int, texts: List[str], disk: Disk) -> None:
     """A compiler looks for modules in a folder."""
     for name in sorted(disk.names.get(folder, ())):
-        if may_ask(life, name, texts) or kind_of(life) == "java" and (takes_jars(life) and name.lower().endswith(PACKED) or fills(folder, texts, disk)):
+        if may_ask(life, name, texts) or kind_of(life) == "java" and (takes_jars(life) and name.lower().endswith(PACKED) or fills(folder, texts, disk)):  # guard: names-that-were-read
             part.events.setdefault((LISTED, folder + "\0" + glob.escape(name)), place)
 
 
@@ -132,18 +132,18 @@ def words_of(life: Life) -> Optional[List[str]]:
 
 def takes_jars(life: Life) -> bool:
     """Whether javac takes each jar in a folder, which a class path asks for by a star (`-cp "lib/*"`)."""
-    return any("*" in word for word in words_of(life) or ["*"])
+    return any("*" in word for word in words_of(life) or ["*"])  # guard: jars-that-file-of-words-asks
 
 
 def is_open(life: Life, parts: List[Life]) -> bool:
     """Whether javac may do more than its sources say: by its words, or by processors of annotations."""
     words = words_of(life)
-    if words is None or any(OPEN.match(word) for word in words):
+    if words is None or any(OPEN.match(word) for word in words):  # guard: words-that-let-javac-find-more
         return True
     read = {path for part in parts for kind, path in part.events if kind == READ}
     home = os.path.dirname(os.path.dirname(machine.realpath(life.program or "/")))
     packed = [path for path in read if path.lower().endswith(PACKED) and not path.startswith(home + "/")]
-    return "-proc:none" not in words and (any(path.endswith(SERVICE) for path in read) or any(holds(path, SERVICE, False) for path in packed))
+    return "-proc:none" not in words and (any(path.endswith(SERVICE) for path in read) or any(holds(path, SERVICE, False) for path in packed))  # guard: processors-of-annotations
 
 
 def settle_packages(life: Life, part: Life, texts: List[str], disk: Disk, listed: Set[str]) -> None:
@@ -154,11 +154,11 @@ def settle_packages(life: Life, part: Life, texts: List[str], disk: Disk, listed
     for (kind, path), place in list(part.events.items()):
         if kind in (SEEN, AGE_UNKNOWN, AGE_SEEN) and os.path.dirname(path) in listed and not may_ask(life, os.path.basename(path), texts):
             del part.events[kind, path]
-        elif path in disk.made and path not in given and place > life.begun and kind in FOLDER_ASKS:
+        elif path in disk.made and path not in given and place > life.begun and kind in FOLDER_ASKS:  # guard: folders-that-must
             del part.events[kind, path]
             if kind in STRICT or path in filled:
                 part.events[(MADE_QUIETLY, path)] = min(place, part.events.get((MADE_QUIETLY, path), place))
-            if kind in (SEEN, ABSENT):
+            if kind in (SEEN, ABSENT):  # guard: folders-that-are-absent
                 look_for(life, part, path, place, texts, disk)
 
 
@@ -172,7 +172,7 @@ def kind_of(life: Life) -> str:
     """Which compiler a process runs, if any."""
     if life.cut:
         return ""
-    found = "ocaml" if OCAML.match(program_of(life)) else "java" if JAVA.match(program_of(life)) else ""
+    found = "ocaml" if OCAML.match(program_of(life)) else "java" if JAVA.match(program_of(life)) else ""  # guard: compilers-alone
     return found if not found or not life.program or is_compiler(machine.realpath(life.program), found) else ""
 
 
@@ -184,7 +184,7 @@ def is_compiler(path: str, kind: str) -> bool:
         return is_machine(os.path.dirname(os.path.dirname(path)))
     try:
         with open(path, "rb") as file:
-            return b"caml" in file.read()
+            return b"caml" in file.read()  # guard: programs-of-that-name
     except OSError:
         return False
 
@@ -208,17 +208,17 @@ def parts_of(life: Life) -> Iterator[Life]:
 def read_by(parts: List[Life], disk: Disk) -> List[str]:
     """The files that a compiler read and has not made itself, where they are as they were then; else a name that no file has."""
     known = {id(part) for part in parts}
-    own = {path for part in parts for kind, path in part.events if kind == CREATED and disk.writers.get(path, known) <= known}
+    own = {path for part in parts for kind, path in part.events if kind == CREATED and disk.writers.get(path, known) <= known}  # guard: texts-that-others-make
     links = {path for part in parts for kind, path in part.events if kind == READ and machine.islink(path)}
     found = {path: place for part in parts for (kind, path), place in part.events.items() if kind == READ and path not in own | links and may_name(path)}
     is_same = all(disk.written.get(path, 0) <= place for path, place in found.items())
-    return sorted(found) if is_same else [""]
+    return sorted(found) if is_same else [""]  # guard: files-that-are-changed
 
 
 def may_name(path: str) -> bool:
     """Whether a file may name a module of a project. So do OCaml's own: a module of the project that has the name of one in the standard
     library hides that, whether or not a source names it, and what is compiled then says so."""
-    return not (OF_SYSTEM.match(path) or OF_COMPILER.match(path)) or path.endswith(COMPILED)
+    return not (OF_SYSTEM.match(path) or OF_COMPILER.match(path)) or path.endswith(COMPILED)  # guard: standard-library
 
 
 def may_ask(life: Life, name: str, texts: List[str]) -> bool:
@@ -229,22 +229,22 @@ def may_ask(life: Life, name: str, texts: List[str]) -> bool:
 def asks_java(life: Life, name: str, texts: List[str]) -> bool:
     """The same of Java's: a class is looked for by its name, or by that of the class around it."""
     stem = name.split(".")[0].split("$")[0] or name
-    has_docs = any("doc" in word for word in life.ran[-1])  # then comments name classes too
+    has_docs = any("doc" in word for word in life.ran[-1])  # then comments name classes too  # guard: comments-that-count
     return stem in OWN or is_word(stem, " ".join(life.argv[1:]).encode("utf-8", "surrogateescape")) or any(holds(text, stem, not has_docs) for text in texts)
 
 
 def asks_ocaml(life: Life, name: str, texts: List[str]) -> bool:
     """The same of OCaml's: a module is looked for by its name with a large letter, and what is linked by words and by libraries."""
     stem, suffix = name.split(".")[0] or name, os.path.splitext(name)[1]
-    module = stem[:1].upper() + stem[1:]
+    module = stem[:1].upper() + stem[1:]  # guard: large-letters
     spelled = {stem, module, stem[:1].lower() + stem[1:], *([stem[3:]] if stem.startswith(("lib", "dll")) else [])}
     words = life.argv[1:]
-    if name in {os.path.basename(word) for word in words} or BUILT_IN.fullmatch(stem):
+    if name in {os.path.basename(word) for word in words} or BUILT_IN.fullmatch(stem):  # guard: what-each-compiler-looks
         return True
     program = program_of(life).replace(".opt", "")
     if suffix in LINKED and suffix not in MODULES:
         linked = {os.path.splitext(os.path.basename(word))[0] for word in words if word.endswith(LINKED)} | {word[2:] for word in words if word.startswith("-l")}
-        return not linked.isdisjoint(spelled) or any(holds(text, one, False) for text in texts if text.endswith(LIBRARIES) or not text.endswith(KINDS) for one in spelled)
+        return not linked.isdisjoint(spelled) or any(holds(text, one, False) for text in texts if text.endswith(LIBRARIES) or not text.endswith(KINDS) for one in spelled)  # guard: words-of-compiler
     wanted = SOURCES if "dep" in program else MODULES if "opt" in program else MODULES[:1]
     return suffix in wanted and (any(holds(text, one, False) for text in texts if not text.endswith(KINDS) for one in spelled) or any(is_word(one, " ".join(words).encode("utf-8", "surrogateescape")) for one in spelled) or any(holds(text, module, True) for text in texts))
 
@@ -258,7 +258,7 @@ def is_word(name: str, text: bytes) -> bool:
 def contents(path: str, is_bare: bool) -> bytes:
     """The bytes of a file, those of a source without its comments if these say nothing."""
     text = machine.read(path, LARGE + 1)
-    if path.endswith(".java"):
+    if path.endswith(".java"):  # guard: letters-that-are-spelled-out
         text = LETTER.sub(lambda found: bytes([int(found.group(1), 16)]), text)
     if not is_bare or not path.endswith(SOURCES) or b"\\u" in text:
         return text
@@ -284,7 +284,7 @@ def holds(path: str, name: str, is_bare: bool) -> bool:
         return True
     word = name.encode("utf-8", "surrogateescape")
     if len(text) > LARGE or word not in text:
-        return len(text) > LARGE or COMPRESSED in text
+        return len(text) > LARGE or COMPRESSED in text  # guard: compressed-ones
     if path.endswith(COMPILED):  # a text stands behind its length
-        return COMPRESSED in text or len(word) > 31 or bytes([32 + len(word)]) + word in text
+        return COMPRESSED in text or len(word) > 31 or bytes([32 + len(word)]) + word in text  # guard: compiled-ones
     return not path.endswith(SOURCES) or is_word(name, text)

@@ -14,7 +14,7 @@ from record.tools.pynames import LARGE, STANDARD, modules_of, tree_of
 
 # Words by which a text gets ages or numbers of files, or another text or a name that nobody has read.
 ASKS = re.compile(r"stats?\b|stat_|\bst_\w|[acm]time|birthtime|inode|archive|getattr|attrgetter|methodcaller|Formatter|get_field|importlib|importer|meta_path|path_hooks|breakpoint"
-                  r"|globals|locals|builtins|frame|\bimport\s*\*|get_type_hints|ForwardRef|singledispatch|read_(?:file|module)|(?<!\bre\.)\bcompile\b|\b(?:exec|eval|vars|modules)\b"
+                  r"|globals|locals|builtins|frame|\bimport\s*\*|get_type_hints|ForwardRef|singledispatch|read_(?:file|module)|(?<!\bre\.)\bcompile\b|\b(?:exec|eval|vars|modules)\b"  # guard: ages-all-that-module
                   r"|__(?!(?:name|main|file|init|doc|future|str|repr|enter|exit|eq|hash|lt|len|iter|next|version|author)__)\w+__")
 COOKIE = re.compile(r"(?:.*\n)?[ \t\f]*#.*?coding[:=](?![ \t]*utf-?8\b)")  # a line that says that a text is not what it looks like
 # Modules of Python itself of which none asks for an age by other names than these.
@@ -27,7 +27,7 @@ AGELESS = frozenset("""__future__ abc argparse array ast base64 binascii bisect 
 def may_ask(texts: Iterable[str], paths: Iterable[str]) -> bool:
     """Whether one of these texts, or of the modules in these files, may ask for an age."""
     own = frozenset(map(name_of, paths))
-    return any(asks(text, own) for text in texts) or any(asks_in(path, own) for path in paths)
+    return any(asks(text, own) for text in texts) or any(asks_in(path, own) for path in paths)  # guard: ages-modules-of-project
 
 
 def name_of(path: str) -> str:
@@ -39,7 +39,7 @@ def name_of(path: str) -> str:
 def asks(text: str, own: FrozenSet[str]) -> bool:
     """Whether a text has such a word, or takes in a module that is neither one of the project's `own`, which is read too, nor ageless. Python takes other
     letters than those of ASCII for these; a large text may have any word."""
-    if len(text) >= LARGE or not text.isascii() or COOKIE.match(text) or ASKS.search(text):
+    if len(text) >= LARGE or not text.isascii() or COOKIE.match(text) or ASKS.search(text):  # guard: ages-words
         return True
     tree = tree_of(text)
     return tree is None or not all(is_ageless(name, own) for name in modules_of(tree))
@@ -49,7 +49,7 @@ def asks(text: str, own: FrozenSet[str]) -> bool:
 def asks_in(path: str, own: FrozenSet[str]) -> bool:
     """Whether a module does so; one that is no text, or that is gone, may."""
     try:
-        return not path.endswith(".py") or asks(text_of(path, LARGE), own)
+        return not path.endswith(".py") or asks(text_of(path, LARGE), own)  # guard: ages-modules-that-are-no-texts
     except OSError:
         return True
 
@@ -57,4 +57,4 @@ def asks_in(path: str, own: FrozenSet[str]) -> bool:
 def is_ageless(name: str, own: FrozenSet[str]) -> bool:
     """Whether a module asks for no ages, or is one that is read itself."""
     first = name.partition(".")[0]
-    return name in AGELESS or bool(STANDARD) and first not in STANDARD and first in own
+    return name in AGELESS or bool(STANDARD) and first not in STANDARD and first in own  # guard: ages-its-own-modules

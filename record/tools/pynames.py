@@ -56,15 +56,15 @@ def may_be(name: str, names: FrozenSet[str]) -> bool:
     """Whether a file or a folder may be a module that some statements name, or Python itself."""
     stem, dot, _ = name.partition(".")
     if dot and not name.endswith(ENDS):
-        return name.endswith(SITE)
-    is_own = stem in STANDARD or stem in BESIDE or stem.startswith("_") and name != CACHE
-    return is_own or stem in names or not stem.isascii()
+        return name.endswith(SITE)  # guard: files-of-names-that-site-takes
+    is_own = stem in STANDARD or stem in BESIDE or stem.startswith("_") and name != CACHE  # guard: names-that-its-own-modules-look
+    return is_own or stem in names or not stem.isascii()  # guard: names-that-statements-take
 
 
 def names_in(life: Life, given: str, paths: Sequence[str]) -> Optional[FrozenSet[str]]:
     """The names in statements of all texts of a program; None where it may take in modules by others."""
     before = life.argv[1:next((at for at, word in enumerate(life.argv[1:], 1) if not word.startswith("-")), 1)]
-    if not STANDARD or not PROGRAM.match(life.program) or life.cut or not all(map(PLAIN.fullmatch, before)):
+    if not STANDARD or not PROGRAM.match(life.program) or life.cut or not all(map(PLAIN.fullmatch, before)):  # guard: modules-that-options-take
         return None
     found = [said_in(given), *map(said_by, paths)]
     known = [text for text in found if text is not None]
@@ -77,8 +77,8 @@ def is_known(module: str, paths: Sequence[str]) -> bool:
     """Whether it is known what a module takes in: one of Python itself that takes in no other, or one whose text was read."""
     top = module.split(".")[0]
     if top in STANDARD:
-        return module in FIXED
-    return any(path.endswith("/%s.py" % top) or "/%s/" % top in path for path in paths)
+        return module in FIXED  # guard: modules-of-its-own-that-take-in-others
+    return any(path.endswith("/%s.py" % top) or "/%s/" % top in path for path in paths)  # guard: modules-whose-texts-were-not-read
 
 
 @lru_cache(KEPT)
@@ -92,7 +92,7 @@ def said_by(path: str) -> Optional[Text]:
 
 def said_in(text: str) -> Optional[Text]:
     """The same of a text itself."""
-    if len(text) >= LARGE or MADE.search(text) or any(map(CODING.search, text.split("\n", 2)[:2])):
+    if len(text) >= LARGE or MADE.search(text) or any(map(CODING.search, text.split("\n", 2)[:2])):  # guard: names-that-texts-make
         return None
     tree = tree_of(text)
     return None if tree is None else Text(frozenset(modules_of(tree)), frozenset(part for name in names_of(tree) for part in name.split(".")))
@@ -132,7 +132,7 @@ def changed_in(lives: Sequence[Life]) -> Dict[str, Set[str]]:
     found: Dict[str, Set[str]] = {}
     for life in lives:
         for kind, path in life.events:
-            if kind in TREE_CHANGES + FOLDER_KEPT:
+            if kind in TREE_CHANGES + FOLDER_KEPT:  # guard: names-that-would-go
                 folder, name = os.path.split(path.rstrip("/"))
                 found.setdefault(folder, set()).add(name)
     return found

@@ -24,17 +24,17 @@ PATTERNS = [name + end for name in OWN for end in ("", ".*")]
 def patterns(program: str, argv: Sequence[str], text: str) -> List[str]:
     """The patterns of names for which it lists the folder that it is in; none where the text may take in more."""
     words: Tuple[str, ...] = tuple(argv[1:argv.index(text)]) if text in argv[1:] else ("?",)
-    is_known = VERSION.match(program) is not None and all(map(PLAIN.fullmatch, words)) and is_alone(text)
+    is_known = VERSION.match(program) is not None and all(map(PLAIN.fullmatch, words)) and is_alone(text)  # guard: options-by-which-it-takes-in-more
     return PATTERNS if is_known else []
 
 
 @lru_cache(1024)
 def is_alone(text: str) -> bool:
     """Whether a text takes in no module but those which are there anyway."""
-    tree = tree_of(text) if not MORE.search(text) else None
+    tree = tree_of(text) if not MORE.search(text) else None  # guard: texts-that-take-in-more-by-other-words
     if tree is None:
         return False
     nodes = [*ast.walk(tree)]
     named = [one.name for node in nodes if isinstance(node, ast.Import) for one in node.names]
     named += [node.module or "" for node in nodes if isinstance(node, ast.ImportFrom)]
-    return LOADED.issuperset(named)
+    return LOADED.issuperset(named)  # guard: texts-with-imports

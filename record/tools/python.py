@@ -20,20 +20,20 @@ from record.trace.lives import Life
 PYTHON = re.compile(r"(?:.*/)?python[\d.]*$")
 CACHE = "__pycache__"
 BYTE_CODE = re.compile(r"(.*/)__pycache__/([^/.]+)\.[^/]*$", re.S)
-LISTS = re.compile(r"listdir|scandir|glob|walk|iterdir|\bPath\b|pathlib|\bexec(?:file)?\b|\beval\b|__import__|importlib|pkgutil|runpy|copytree|rmtree|archive|zip|tarfile"
+LISTS = re.compile(r"listdir|scandir|glob|walk|iterdir|\bPath\b|pathlib|\bexec(?:file)?\b|\beval\b|__import__|importlib|pkgutil|runpy|copytree|rmtree|archive|zip|tarfile"  # guard: scripts-that-python-2
                    r"|filecmp|mailbox|tabnanny|modulefinder|pydoc|lib2to3|addsitedir|logging.handlers|compileall|unittest|pytest|setuptools|distutils|pkg_resources|metadata|ctypes|\bstat\b|getmtime"
-                   r"|pickle|marshal|shelve|timeit|doctest|zoneinfo|codeop|Interactive|\bvars\b|__dict__|__builtins__|getattr\(\s*(?:os|posix|sys)\b")
+                   r"|pickle|marshal|shelve|timeit|doctest|zoneinfo|codeop|Interactive|\bvars\b|__dict__|__builtins__|getattr\(\s*(?:os|posix|sys)\b")  # guard: lists-under-other-names
 SYSTEM = re.compile(r"/etc/|(?:/usr)?/lib(?:32|64)?/(?!python)")
 PACKAGES = re.compile(r"/(?:site|dist)-packages/(?!_distutils_hack/|apport_python_hook\.)")  # the exceptions are what setuptools and Ubuntu run at each start
-TEXTS = (".py", ".pyc", ".so", ".zip", ".egg", ".whl", ".pyz")  # how the names of files end that modules may come from
+TEXTS = (".py", ".pyc", ".so", ".zip", ".egg", ".whl", ".pyz")  # how the names of files end that modules may come from  # guard: packed-modules
 OPTIONS, VALUED = re.compile(r"-[bBdEhiIOPqRsSuvVx]*([cm])"), ("-W", "-X", "--check-hash-based-pycs")  # how `-c` and `-m` are given; options with a value of their own
 QUIET = ("base64", "calendar", "gzip", "json.tool", "py_compile", "tokenize", "uuid")  # modules of Python itself that list no folder where `-m` runs them
-MODULES = ("*.py", "*.pyc", "*.so", "*.pth", IMPORTED)  # what an import, or the start of Python, looks for in a list
+MODULES = ("*.py", "*.pyc", "*.so", "*.pth", IMPORTED)  # what an import, or the start of Python, looks for in a list  # guard: what-it-looks-for-when-it-starts
 
 
 def is_python(life: Life) -> bool:
     """Whether a life ends as Python. What it did as another program, such as a script that finds Python, stays as it is."""
-    return bool(life.ran and life.ran[-1] and PYTHON.match(life.ran[-1][0]))
+    return bool(life.ran and life.ran[-1] and PYTHON.match(life.ran[-1][0]))  # guard: scripts-that-begin
 
 
 def settle(lives: List[Life], tops: Sequence[str] = ()) -> Iterator[Tuple[str, str]]:
@@ -46,15 +46,15 @@ def settle(lives: List[Life], tops: Sequence[str] = ()) -> Iterator[Tuple[str, s
     others = {cache_of(path) for life in lives if not is_python(life) for _, path in life.events if CACHE in path}
     changed = pynames.changed_in(lives) if known else {}
     for life in known:
-        names = [path for _, path in life.events if CACHE in path and cache_of(path) not in others and not is_of_system(path, tops)]
+        names = [path for _, path in life.events if CACHE in path and cache_of(path) not in others and not is_of_system(path, tops)]  # guard: byte-code-of-system
         sources = sources_of(life)
         own = own_sources(life, sources)
         settle_lists(life, sources, own, written, changed)
         settle_code(life, others)
-        texts = own if sources else sorted(modules_of(life))
-        if sources or given_text(life):
+        texts = own if sources else sorted(modules_of(life))  # guard: folders-modules-of-text
+        if sources or given_text(life):  # guard: ages-texts-from-its-input
             settle_looks(life, texts, read_at(life, sources), written)
-        is_quiet = settle_made(life, texts, read_at(life, sources), written)
+        is_quiet = settle_made(life, texts, read_at(life, sources), written)  # guard: folders
         if names:
             yield "bytecode", "%s: %s" % (" ".join(life.argv)[:60], names[0])
         if is_quiet:
@@ -77,7 +77,7 @@ def settle_code(life: Life, others: Set[str]) -> None:
         match = BYTE_CODE.match(path)
         source = match.group(1) + match.group(2) + ".py" if match is not None else ""
         is_cache = os.path.basename(path) == CACHE
-        if cache_of(path) in others or place <= life.begun:
+        if cache_of(path) in others or place <= life.begun:  # guard: byte-code-that-others-read
             continue
         if kind in (READ, SEEN, ABSENT, AGE_SEEN) and ({(SEEN, source), (READ, source)} & life.events.keys() or is_cache) or kind == WAY_ABSENT and is_cache:
             del life.events[kind, path]
@@ -117,9 +117,9 @@ def modules_of(life: Life) -> Dict[str, int]:
     """The modules that it reads, except those that come with Python itself, with when it did."""
     library = library_of(life)
     found: Dict[str, int] = {}
-    events = (event for one in life.threads or (life,) for event in one.events.items())
+    events = (event for one in life.threads or (life,) for event in one.events.items())  # guard: modules-that-threads-take
     for (kind, path), place in events:
-        source = BYTE_CODE.sub(r"\1\2.py", path)
+        source = BYTE_CODE.sub(r"\1\2.py", path)  # guard: modules-that-list
         if kind == READ and source.endswith(TEXTS) and not is_of_python(source, library):
             found[source] = min(place, found.get(source, place))
     return found
@@ -135,7 +135,7 @@ def own_sources(life: Life, sources: Dict[str, int]) -> List[str]:
     begun = read_at(life, sources)
     texts = [shelltext.contents(path) for path, place in sources.items() if place >= begun]
     is_whole = all(len(text) < shelltext.LARGE for text in texts)
-    return [path for path, place in sources.items() if place >= begun or not is_whole or is_named(path, " ".join(texts))]
+    return [path for path, place in sources.items() if place >= begun or not is_whole or is_named(path, " ".join(texts))]  # guard: what-site-starts
 
 
 def is_named(path: str, texts: str) -> bool:
@@ -151,17 +151,17 @@ def settle_lists(life: Life, sources: Dict[str, int], own: List[str], written: D
     begun, text = read_at(life, sources), given_text(life)
     if text:
         sources, own = modules_of(life), [*modules_of(life)]
-    lists = {path: place for (kind, path), place in life.events.items() if kind == LISTED and path.endswith("\0*") and place > life.begun}
-    if not lists or not (sources or text) or LISTS.search(text) or any(lists_folders(path) or written.get(path, 0) > begun for path in own):
+    lists = {path: place for (kind, path), place in life.events.items() if kind == LISTED and path.endswith("\0*") and place > life.begun}  # guard: lists-of-script-that-begins
+    if not lists or not (sources or text) or LISTS.search(text) or any(lists_folders(path) or written.get(path, 0) > begun for path in own):  # guard: scripts-that-list
         return
     is_all = not any(lists_folders(path) for path in sources if path not in own)
     wanted = pystart.patterns(life.program, life.argv, text) if text and not sources else []
     for path, place in lists.items():
         folder = path.partition("\0")[0]
-        if (place > begun or is_all) and (way_of(life)[0] and folder == life.folder or any(os.path.dirname(source) == folder for source in sources)):
+        if (place > begun or is_all) and (way_of(life)[0] and folder == life.folder or any(os.path.dirname(source) == folder for source in sources)):  # guard: texts-in-words
             del life.events[LISTED, path]
             is_asked = changed is None or way_of(life)[0] == "m" and not text or pynames.may_take_in(life, text, own, changed.get(folder, set()))
-            for pattern in wanted or (MODULES if is_asked else ()):
+            for pattern in wanted or (MODULES if is_asked else ()):  # guard: what-text-looks
                 life.events.setdefault((LISTED, folder + "\0" + pattern), place)
 
 
@@ -169,7 +169,7 @@ def settle_looks(life: Life, texts: List[str], begun: int, written: Dict[str, in
     """Looks of a program whose texts ask for no age; those of Python 2 have other words for that."""
     text = given_text(life)
     looks = [(kind, path) for (kind, path), place in life.events.items() if kind == AGE_SEEN and place > begun]
-    if not looks or not pynames.PROGRAM.match(life.program) or any(written.get(path, 0) > begun for path in texts) or pyages.may_ask([text], texts):
+    if not looks or not pynames.PROGRAM.match(life.program) or any(written.get(path, 0) > begun for path in texts) or pyages.may_ask([text], texts):  # guard: texts-that-ask-for-no-age
         return
     for event in looks:
         del life.events[event]
@@ -182,7 +182,7 @@ def library_of(life: Life) -> str:
 
 def is_of_python(path: str, library: str) -> bool:
     """Whether a file comes with the system or with Python itself, and is of no package that was added: the text of one may list folders."""
-    return bool(SYSTEM.match(path)) or path.startswith(library) and not PACKAGES.search(path)
+    return bool(SYSTEM.match(path)) or path.startswith(library) and not PACKAGES.search(path)  # guard: packages-that-list
 
 
 def is_script(path: str, life: Life) -> bool:
@@ -190,7 +190,7 @@ def is_script(path: str, life: Life) -> bool:
     way, what = way_of(life)
     if way == "m":
         module = "/" + what.replace(".", "/")
-        return path.endswith((module + ".py", module + "/__main__.py"))
+        return path.endswith((module + ".py", module + "/__main__.py"))  # guard: modules-that-its-words-name
     return not way and os.path.basename(path) == script_of(life)
 
 

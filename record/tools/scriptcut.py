@@ -89,7 +89,7 @@ class ScriptCutter(Cutter):
             goes_on = not document.is_text and (len(line) - len(line.rstrip("\\"))) % 2 == 1
             lines.append(line + "\n")
         if goes_on:
-            raise Unread  # shells differ in whether this line ends it
+            raise Unread  # shells differ in whether this line ends it  # guard: line-behind-backslash
         if not document.is_text:
             document.pieces += body_pieces("".join(lines))
 
@@ -153,7 +153,7 @@ class ScriptCutter(Cutter):
 def body_pieces(text: str) -> List[Piece]:
     """The pieces of a here-document whose macros and commands count."""
     if '\\"' in text and "`" in text:
-        raise Unread  # shells differ in what these are there
+        raise Unread  # shells differ in what these are there  # guard: quotes-in-here-document
     cutter = ScriptCutter(text)
     while cutter.at < len(text):
         cutter.inner(True)

@@ -58,7 +58,7 @@ class Scripts:
     def are_to_come(self, program: Program, names: Iterable[str], place: int) -> bool:
         """Whether a script had run none of some programs."""
         runs = self.first_runs(program)
-        return all(runs.get(name, place) >= place for name in names)
+        return all(runs.get(name, place) >= place for name in names)  # guard: programs-that-have-run
 
     def accounted(self, program: Program, one: Listed, lists: Sequence[Listed]) -> Optional[Set[Asked]]:
         """The patterns of a command to which a list surely belongs; None where it may be that of another."""
@@ -70,7 +70,7 @@ class Scripts:
             check(script, values)
             for piece in script.barring:
                 values.bar(piece.text)
-            return accounted(one, lists, script, values) if self.are_to_come(program, values.barred, one.place) else None
+            return accounted(one, lists, script, values) if self.are_to_come(program, values.barred, one.place) else None  # guard: lists-that-command-asks
         except (Unread, RecursionError):
             return None
 
@@ -78,10 +78,10 @@ class Scripts:
         """Whether a shell that is known runs the text of the script, and that alone, with no option that changes words."""
         script, name = shelltext.script_of(program.argv), shelltext.base_name(program.argv)
         options, shell = program.argv[1:program.argv.index(script, 1)], os.path.basename(program.shell)
-        if name not in READ_AS or shell not in KNOWN_SHELLS or not all(NO_CHANGE.fullmatch(word) for word in [*options, program.option or "-e"]):
+        if name not in READ_AS or shell not in KNOWN_SHELLS or not all(NO_CHANGE.fullmatch(word) for word in [*options, program.option or "-e"]):  # guard: options
             return False
         started = self.around.outside(program, "BASH_ENV") if name == "bash" else []
-        if self.has_traces or shell == "bash" and self.has_functions or started is None or {*started} - {"", UNSET}:
+        if self.has_traces or shell == "bash" and self.has_functions or started is None or {*started} - {"", UNSET}:  # guard: files-of-bash
             return False
         return (READ, program.script) in program.life.events
 

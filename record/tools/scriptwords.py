@@ -21,7 +21,7 @@ class ScriptReader(Reader):
     cutter = ScriptCutter
 
     def __init__(self, text: str) -> None:
-        if SPLIT.search(text):
+        if SPLIT.search(text):  # guard: names-that-go-on-in-next-line
             raise Unread
         super().__init__(text)
 
@@ -40,7 +40,7 @@ class ScriptReader(Reader):
     def text_word(self, state: State, pieces: List[Piece], tokens: List[Token], at: int) -> int:
         """A word: where it goes on."""
         if state.is_closed and not state.is_target:
-            raise Unread  # words of such a command behind a file that it reads
+            raise Unread  # words of such a command behind a file that it reads  # guard: words-behind-file
         return super().text_word(state, pieces, tokens, at)
 
     def word(self, pieces: List[Piece], blocks: List[int]) -> Word:
@@ -183,7 +183,7 @@ class ScriptReader(Reader):
         for word in words:
             if not NAME.fullmatch(word.plain()):
                 raise Unread
-            self.set(word.plain(), [Word([Piece("text", UNSET, False)], word.place, word.blocks)], tuple(state.blocks), False)
+            self.set(word.plain(), [Word([Piece("text", UNSET, False)], word.place, word.blocks)], tuple(state.blocks), False)  # guard: value-that-is-taken-away
 
     def on_read(self, words: List[Word], is_sure: bool, state: State) -> None:
         """`read NAME ..`: the value may be anything."""

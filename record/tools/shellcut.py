@@ -107,7 +107,7 @@ class Cutter:
             self.at += 2
         elif char == "`":
             end = self.find("`", self.at + 1)
-            self.add("command", re.sub(r'\\([$`\\"])' if quoted else r"\\([$`\\])", r"\1", self.text[self.at + 1:end]), quoted)
+            self.add("command", re.sub(r'\\([$`\\"])' if quoted else r"\\([$`\\])", r"\1", self.text[self.at + 1:end]), quoted)  # guard: quote-in-backticks
             self.at = end + 1
         elif char == "$":
             self.macro(quoted)
@@ -134,7 +134,7 @@ class Cutter:
         else:
             is_lone = not rest or rest[0] in SEPARATES + "\n"
             self.add("text" if is_lone else "unknown", "$", True if is_lone else quoted)
-            self.at += 2 if re.match(r"[@*\d-]", rest) else 1
+            self.at += 2 if re.match(r"[@*\d-]", rest) else 1  # guard: backslash-behind-dollar
 
     def find(self, mark: str, start: int) -> int:
         """Where a quote ends."""

@@ -43,7 +43,7 @@ def patterns_of(text: str) -> Optional[Tuple[FrozenSet[Asked], FrozenSet[str]]]:
     try:
         script = Reader(text).script
         values = Values(script)
-        if any(values.may_hide(command) for command in script.starts):
+        if any(values.may_hide(command) for command in script.starts):  # guard: commands-that-are-quoted
             return None
         return frozenset(one for word in script.words for field in values.expanded(word) for one in parts_of(field)), frozenset(values.barred)
     except (Unread, RecursionError):
@@ -56,20 +56,20 @@ def patterns_in(life: Life, where: str) -> List[str]:
     if not re.search(r"[$`]", text) or shelltext.OPTIONS.search(" ".join(life.argv)) or shelltext.base_name(life.argv) in ("ksh", "zsh"):
         return []
     found = patterns_of(text)
-    if found is None or found[1] and not found[1].isdisjoint(programs_of(life)):
+    if found is None or found[1] and not found[1].isdisjoint(programs_of(life)):  # guard: what-programs-print
         return []
     return parts_in(life, where, found[0])
 
 
 def parts_in(life: Life, where: str, asked: Iterable[Asked]) -> List[str]:
     """Those of some patterns that a shell may ask for in a folder."""
-    links = {os.path.basename(path) for kind, path in life.events if kind == READ and not OF_SYSTEM.match(path) and (machine.islink(path) or not machine.lexists(path))}
-    return sorted({one.part for one in asked if not one.folder or fnmatchcase(where, "*/" + one.folder) or goes_by(one.folder, links)})
+    links = {os.path.basename(path) for kind, path in life.events if kind == READ and not OF_SYSTEM.match(path) and (machine.islink(path) or not machine.lexists(path))}  # guard: folders-behind-links
+    return sorted({one.part for one in asked if not one.folder or fnmatchcase(where, "*/" + one.folder) or goes_by(one.folder, links)})  # guard: folders-of-patterns
 
 
 def goes_by(folder: str, links: Iterable[str]) -> bool:
     """Whether one of some names that are links, or may have been, is a part of a folder: it may lead to a folder of another name."""
-    return any(fnmatchcase(link, part) for link in links for part in folder.split("/"))
+    return any(fnmatchcase(link, part) for link in links for part in folder.split("/"))  # guard: folders-below-links
 
 
 def programs_of(life: Life) -> Set[str]:
@@ -78,7 +78,7 @@ def programs_of(life: Life) -> Set[str]:
     names: Set[str] = set()
     while todo:
         one = todo.pop()
-        names.update(os.path.basename(word) for argv in one.ran for word in argv[:3])  # a script stands behind its interpreter
+        names.update(os.path.basename(word) for argv in one.ran for word in argv[:3])  # a script stands behind its interpreter  # guard: scripts-that-print
         todo.extend(one.children)
     return names
 
@@ -91,17 +91,17 @@ def hides(name: str) -> bool:
 def parts_of(field: str) -> Iterator[Asked]:
     """The parts of a path that are patterns, with what stands before them. What braces or a tilde stand for may hold more parts."""
     if re.search(r"[{}]", field):
-        yield Asked("", "*")
+        yield Asked("", "*")  # guard: parts-in-braces
     before: List[str] = []
     parts = field.split("/")
     for at, part in enumerate(parts):
         pattern = "*" if re.search(r"[{}]", part) else shelltext.loose(re.sub(HIDDEN, "*", part.replace(ONE, "?")))
         if MAGIC.search(part):
-            folder = "" if field.startswith(("/", "~")) or ".." in before else "/".join(one for one in before if one not in (".", ""))
-            yield Asked("" if ANY in part else folder, pattern if at == len(parts) - 1 else shelltext.folders_of(pattern))
+            folder = "" if field.startswith(("/", "~")) or ".." in before else "/".join(one for one in before if one not in (".", ""))  # guard: slashes-in-row
+            yield Asked("" if ANY in part else folder, pattern if at == len(parts) - 1 else shelltext.folders_of(pattern))  # guard: script
             if ANY in part and pattern != "*":  # there may be a slash in what is not known
-                yield Asked("", shelltext.folders_of("*"))
-        before = [] if ANY in part or part.startswith(".") and MAGIC.search(part) else [*before, pattern]  # these may lead to the folder above
+                yield Asked("", shelltext.folders_of("*"))  # guard: slash-that-is-not-known
+        before = [] if ANY in part or part.startswith(".") and MAGIC.search(part) else [*before, pattern]  # these may lead to the folder above  # guard: folders-above
 
 
 class Values:
@@ -121,7 +121,7 @@ class Values:
         found = [""]
         for piece in word.pieces:
             if piece.kind == "command" and not piece.quoted:
-                self.bar(piece.text)  # nothing comes of it as long as this program has not run
+                self.bar(piece.text)  # nothing comes of it as long as this program has not run  # guard: program-that-prints-nothing
             else:
                 found = joined(found, self.pieces(piece, word))
         return found
@@ -129,7 +129,7 @@ class Values:
     def bar(self, text: str) -> None:
         """The program whose output a word holds: it has not run."""
         name = last_program(text, self.cutter)
-        if name in self.script.functions:
+        if name in self.script.functions:  # guard: functions-that-have-name-of-program
             raise Unread
         self.barred.add(name)
 
@@ -137,16 +137,16 @@ class Values:
         """Whether the name of a command may be one that sets macros; where a word comes to nothing the next one is the name."""
         for word in command:
             names = [one.split()[:1] for one in self.alternatives(word)]
-            if any(name and hides(name[0]) for name in names):
+            if any(name and hides(name[0]) for name in names):  # guard: each-name-of-command
                 return True
-            if all(names) and not any(piece.kind == "command" for piece in word.pieces):
+            if all(names) and not any(piece.kind == "command" for piece in word.pieces):  # guard: name-that-is-no-word
                 return False
         return False
 
     def pieces(self, piece: Piece, word: Word) -> List[str]:
         """The texts that a piece may stand for in a word."""
         if piece.kind == "text":
-            return [quoted(piece.text) if piece.quoted else piece.text]
+            return [quoted(piece.text) if piece.quoted else piece.text]  # guard: quoted-signs
         if piece.kind == "number":
             return [number(piece)]
         if piece.text == "@" and piece.kind == "macro" and piece.quoted and "@" not in self.script.settings:
@@ -154,7 +154,7 @@ class Values:
         if piece.quoted:
             return [quoted(one) for one in self.of_piece(piece, word) or [ANY]]
         texts = self.known(self.of_piece(piece, word))
-        if any(ODD.search(one) for one in texts):
+        if any(ODD.search(one) for one in texts):  # guard: backslashes-in-values
             raise Unread
         return [one.replace(BLANK, " ") for one in texts]
 
@@ -166,7 +166,7 @@ class Values:
             return as_texts(self.values(piece.text, word))
         if piece.kind == "part":
             values = self.values(piece.text, word)
-            return None if values is None or any(NAMES.search(one) for one in values) else [ANY]
+            return None if values is None or any(NAMES.search(one) for one in values) else [ANY]  # guard: parts-of-pattern
         default = DEFAULT.fullmatch("{%s}" % piece.text) if piece.kind == "default" else None
         if default is None:
             return None
@@ -192,10 +192,10 @@ class Values:
     def values(self, name: str, word: Word) -> Optional[List[str]]:
         """The values of a macro where a word asks for it; None where they are not known."""
         is_word = POSITION.fullmatch(name) is not None
-        if is_word and not self.script.bodies.isdisjoint(word.blocks):
+        if is_word and not self.script.bodies.isdisjoint(word.blocks):  # guard: words-of-function
             return None
         settings = self.script.settings.get("@" if is_word else name, [])
-        found = [] if any(is_set(one, word) for one in settings) else self.outside("@" if is_word and settings else name)
+        found = [] if any(is_set(one, word) for one in settings) else self.outside("@" if is_word and settings else name)  # guard: macros-of-environment
         if found is None or self.depth >= DEPTH:
             return self.known(None) if found is not None else None
         self.depth += 1
@@ -203,7 +203,7 @@ class Values:
             more = [texts for setting in settings for texts in self.given(setting)]
         finally:
             self.depth -= 1
-        found = None if None in more else list(dict.fromkeys([*found, *(one for texts in more for one in texts or []), *([""] if is_word and settings else [])]))
+        found = None if None in more else list(dict.fromkeys([*found, *(one for texts in more for one in texts or []), *([""] if is_word and settings else [])]))  # guard: words
         if found is not None and len(found) > LIMIT:
             raise Unread
         return found
@@ -237,7 +237,7 @@ def is_set(setting: Setting, word: Word) -> bool:
     if not setting.is_sure or setting.place >= word.place and not setting.is_loop:
         return False
     blocks = (*setting.blocks, setting.place) if setting.is_loop else setting.blocks
-    return word.blocks[:len(blocks)] == blocks and word.place > setting.place
+    return word.blocks[:len(blocks)] == blocks and word.place > setting.place  # guard: where-macro-surely-has-value
 
 
 def joined(found: List[str], more: Iterable[str]) -> List[str]:
@@ -271,7 +271,7 @@ def quoted(text: str) -> str:
 def cut(texts: List[str]) -> List[str]:
     """The words of a loop: each pattern, and the names that it may find."""
     words = [word.replace(BLANK, " ") for one in texts for word in one.split()]
-    return words + [shelltext.loose(word).replace("?", ONE).replace("*", ANY) for word in words if re.search(r"[*?\[{]", word)]
+    return words + [shelltext.loose(word).replace("?", ONE).replace("*", ANY) for word in words if re.search(r"[*?\[{]", word)]  # guard: folders-that-loop-finds
 
 
 def last_program(text: str, cutter: Type[Cutter] = Cutter) -> str:
@@ -279,6 +279,6 @@ def last_program(text: str, cutter: Type[Cutter] = Cutter) -> str:
     tokens = cutter(text).tokens()
     last = max((at for at, (operator, _) in enumerate(tokens) if operator), default=-1) + 1
     name = Word(tokens[last][1]).plain() if last < len(tokens) else ""
-    if any(operator not in ("", "|") for operator, _ in tokens) or name in PLAIN | HIDES | RESERVED or not re.fullmatch(r"[\w.+-]+", name):
+    if any(operator not in ("", "|") for operator, _ in tokens) or name in PLAIN | HIDES | RESERVED or not re.fullmatch(r"[\w.+-]+", name):  # guard: builtins-that-print
         raise Unread
     return name

@@ -71,7 +71,7 @@ def keeps(plain: str, behind: List[Token]) -> bool:
 def may_be_option(pieces: List[Piece]) -> bool:
     """Whether a word begins like an option, or may do so."""
     first = next((piece for piece in pieces if piece.text or piece.kind != "text"), None)
-    return first is not None and (first.kind != "text" or first.text.startswith(("-", "+")))
+    return first is not None and (first.kind != "text" or first.text.startswith(("-", "+")))  # guard: option-of-printf
 
 
 @dataclass
@@ -112,8 +112,8 @@ class Reader:
             state.is_target = True
             return at
         behind = tokens[at][0] if at < len(tokens) else "\n"
-        state.blocks = self.bracket(operator, state.blocks, not state.is_start or state.has_assigned or behind == "(")
-        state.is_sure = operator in (";", "\n", "(", "&") or operator == "&&" and state.is_sure and state.is_start
+        state.blocks = self.bracket(operator, state.blocks, not state.is_start or state.has_assigned or behind == "(")  # guard: lists-and-sums-of-bash
+        state.is_sure = operator in (";", "\n", "(", "&") or operator == "&&" and state.is_sure and state.is_start  # guard: assignments-that-may-be-passed-over
         state.is_start, state.has_assigned, state.command = True, False, []
         return at
 
@@ -130,7 +130,7 @@ class Reader:
     def first(self, state: State, word: Word, tokens: List[Token], at: int) -> int:
         """The first word of a command, or one before it."""
         plain, behind = word.plain(), tokens[at][0] if at < len(tokens) else "\n"
-        if plain.isdigit() and behind[0:1] in ("<", ">"):
+        if plain.isdigit() and behind[0:1] in ("<", ">"):  # guard: numbers-of-descriptors
             return at  # the number of a descriptor
         if plain == "for":
             return self.loop(tokens, at, state.blocks)
@@ -138,7 +138,7 @@ class Reader:
             state.blocks = self.block(plain, state.blocks)
             state.is_sure = self.still(state.is_sure, tokens[at:at + 1]) if plain in RUN else True
         elif word.pieces[0].kind == "text" and not word.pieces[0].quoted and ASSIGNS.match(word.pieces[0].text):
-            self.assign(word, state.is_sure and behind in ENDS)
+            self.assign(word, state.is_sure and behind in ENDS)  # guard: assignments-for-one-command
             state.has_assigned = True
         else:
             return self.begin(state, word, tokens, at)
@@ -147,7 +147,7 @@ class Reader:
     def begin(self, state: State, word: Word, tokens: List[Token], at: int) -> int:
         """The name of a command."""
         plain = word.plain()
-        if plain in HIDES and not keeps(plain, tokens[at:]) or BASH.match(word.pieces[0].text):
+        if plain in HIDES and not keeps(plain, tokens[at:]) or BASH.match(word.pieces[0].text):  # guard: words-that-hide-something
             raise Unread
         state.is_start = state.is_sure = False
         state.command = [word]
@@ -173,7 +173,7 @@ class Reader:
     @staticmethod
     def still(is_sure: bool, behind: List[Token]) -> bool:
         """Whether what stands behind `command` and the like is sure; an option there, or a quoted name, may run anything."""
-        if behind and not behind[0][0] and Word(behind[0][1]).plain()[:1] in ("-", ""):
+        if behind and not behind[0][0] and Word(behind[0][1]).plain()[:1] in ("-", ""):  # guard: options-of-builtins
             raise Unread
         return is_sure
 
@@ -190,7 +190,7 @@ class Reader:
         if plain not in ("exit", "return") or at >= len(tokens) or tokens[at][0]:
             return at
         self.count += 1
-        self.word(tokens[at][1], state.blocks)
+        self.word(tokens[at][1], state.blocks)  # guard: command-behind-exit
         return at + 1
 
     def loop(self, tokens: List[Token], at: int, blocks: List[int]) -> int:

@@ -55,8 +55,8 @@ def check(script: Script, values: Values) -> None:
     fields = [one.split() for word in script.single for one in values.alternatives(word)]
     first = [one.split()[:1] for word in script.parameters for one in values.alternatives(word)]
     plain = [values.raw(word) for word in script.simple]
-    is_right = all(len(one) <= 1 for one in fields) and all(one and re.match(r"\w", one[0]) for one in first)
-    if not is_right or any(texts is None or not all(map(SIGNS.fullmatch, texts)) for texts in plain):
+    is_right = all(len(one) <= 1 for one in fields) and all(one and re.match(r"\w", one[0]) for one in first)  # guard: values-that-are-several-words
+    if not is_right or any(texts is None or not all(map(SIGNS.fullmatch, texts)) for texts in plain):  # guard: values-in-text-that-runs-later
         raise Unread
     if any(values.may_hide(command) for command in script.starts):
         raise Unread
@@ -85,8 +85,8 @@ class Surroundings:
         script = shelltext.script_of(program.argv)
         if not script or script not in program.argv[1:]:
             return None
-        words = [program.given or script, *program.argv[program.argv.index(script, 1) + 1:]]
-        return words[1:] if name == "@" else words[int(name):int(name) + 1] or [""]
+        words = [program.given or script, *program.argv[program.argv.index(script, 1) + 1:]]  # guard: its-own-name
+        return words[1:] if name == "@" else words[int(name):int(name) + 1] or [""]  # guard: words
 
     def inherited(self, program: Program, name: str) -> Optional[List[str]]:
         """The values that a macro may have in the environment of a program."""
@@ -115,14 +115,14 @@ class Surroundings:
             return []
         if base == "env":
             words = program.argv[1:]
-            return None if any(re.match(r"-\w*S|--s", word) for word in words) else [word.partition("=")[2] for word in words if word.startswith(name + "=")]
+            return None if any(re.match(r"-\w*S|--s", word) for word in words) else [word.partition("=")[2] for word in words if word.startswith(name + "=")]  # guard: values-of-env
         script = self.script(program) if base in READ_AS else None
         if script is None:
-            return None
+            return None  # guard: values-of-programs
         values = self.values(program, script)
         try:
             check(script, values)
-            texts = [text for setting in script.settings.get(name, []) for text in values.given(setting)]
+            texts = [text for setting in script.settings.get(name, []) for text in values.given(setting)]  # guard: values-of-shell
         except (Unread, RecursionError):
             return None
         return None if None in texts or script.barring else [text for one in texts for text in one or []]
@@ -135,7 +135,7 @@ class Surroundings:
         """What a shell runs, where it can be read: a text that something wrote in the build says nothing."""
         text = shelltext.shell_text(program.argv)
         if program.script:
-            text = "" if program.script in self.changed else whole_text(program.script)
+            text = "" if program.script in self.changed else whole_text(program.script)  # guard: texts-that-build-writes
         return script_of_text(text) if text else None
 
     # ---------------------------------------------------------------- makes
@@ -158,7 +158,7 @@ class Surroundings:
             text = None if base is None else expanded(base, name, changing)
             if text is None:
                 return None
-            found.append(text)
+            found.append(text)  # guard: values-of-makefile
         return list(dict.fromkeys(found))
 
     def changing(self, life: Life, words: Words) -> Set[str]:
@@ -182,23 +182,23 @@ def changed_in(text: str) -> Set[str]:
     """The macros that `eval` may set in the text of a makefile; a function whose name is a macro's value may be `eval`. Where a macro may have
     several lines, `eval` may get more than one by each reference."""
     plain = with_functions(text)
-    is_open = len(text) >= shelltext.LARGE or COMPUTED.search(plain) and (EVAL.search(plain) or any(composes(plain, one) for one in CHANGES))
+    is_open = len(text) >= shelltext.LARGE or COMPUTED.search(plain) and (EVAL.search(plain) or any(composes(plain, one) for one in CHANGES))  # guard: functions-that-run-others
     has_lines = LINES.search(plain) is not None
-    names = {ANY_MACRO if has_lines and "$" in plain[one.start + 2:one.end].replace("$$", "") else one.name for one in evals(plain)}
-    return {ANY_MACRO} if is_open else names
+    names = {ANY_MACRO if has_lines and "$" in plain[one.start + 2:one.end].replace("$$", "") else one.name for one in evals(plain)}  # guard: macros-of-several-lines
+    return {ANY_MACRO} if is_open else names  # guard: values-that-recipes-change
 
 
 def expanded(base: Base, name: str, changing: Set[str]) -> Optional[str]:
     """The text of a macro with the values of others in it; None where it asks for a function, or for a macro that has several values."""
-    several = changing | {*base.bodies}
-    values = {one: text for one, text in base.values.items() if one not in several}
+    several = changing | {*base.bodies}  # guard: values-of-one-target
+    values = {one: text for one, text in base.values.items() if one not in several}  # guard: values-in-value
 
     def value(found: "re.Match[str]") -> str:
         one = found.group(1) or found.group(2) or found.group(3)
         return found.group() if one in several or one in values else ""
 
     text = REFERENCE.sub(value, with_values(values.get(name, UNSET), values))
-    return None if name in several or "$" in text else text
+    return None if name in several or "$" in text else text  # guard: values-that-makefile-works-out
 
 
 def whole_text(path: str) -> str:

@@ -33,11 +33,11 @@ def settle_tex(lives: List[Life]) -> None:
 def settle_lists(life: Life, part: Life, parts: List[Life]) -> None:
     """Lists of whole folders by a process."""
     for (kind, path), place in list(part.events.items()):
-        if kind == LISTED and path.endswith("\0*") and place > life.begun:
+        if kind == LISTED and path.endswith("\0*") and place > life.begun:  # guard: what-ran-before
             del part.events[LISTED, path]
             folder = path.partition("\0")[0]
             sought = {os.path.basename(one) for other in parts for _, one in other.events if os.path.dirname(one) == folder and "\0" not in one}
-            for pattern in sorted({"*/", *map(in_any_letters, sought)}):
+            for pattern in sorted({"*/", *map(in_any_letters, sought)}):  # guard: names-in-other-letters
                 part.events.setdefault((LISTED, folder + "\0" + pattern), place)
 
 
@@ -49,7 +49,7 @@ def in_any_letters(name: str) -> str:
 def is_engine(life: Life) -> bool:
     """Whether a process runs such a program of the system."""
     program = machine.realpath(life.program) if life.program and not life.cut else ""
-    return bool(ENGINES.fullmatch(os.path.basename(program)) and OF_SYSTEM.match(program) and has_library(program))
+    return bool(ENGINES.fullmatch(os.path.basename(program)) and OF_SYSTEM.match(program) and has_library(program))  # guard: program-of-project
 
 
 @machine.asked

@@ -37,7 +37,7 @@ class Opening(NamedTuple):
 @remembered
 def spelled(args: str) -> Spelled:
     """What the arguments of an *at-call say of their first path."""
-    word = first_text(args) if NO_PATH.match(args) is None else None
+    word = first_text(args) if NO_PATH.match(args) is None else None  # guard: open-files-without-name
     where = folders(args.split('"', 1)[0])
     base = where[0] if where else ""
     folder = base if args.startswith("AT_FDCWD") else ""

@@ -27,16 +27,16 @@ from record.trace.strace import BARE, MAKES_PROCESS, Call, first_text, folders, 
 # Calls by what they do to the name that is their first path.
 LOOKS = {"stat", "lstat", "access", "getxattr", "lgetxattr", "listxattr", "llistxattr", "statfs", "newfstatat",
          "faccessat", "faccessat2", "name_to_handle_at", "statx", "fstatat64", "readlink", "readlinkat", "statfs64", "stat64", "lstat64",
-         "oldstat", "oldlstat", "getxattrat", "listxattrat", "file_getattr"}
+         "oldstat", "oldlstat", "getxattrat", "listxattrat", "file_getattr"}  # guard: old-names
 NOFOLLOW = {"lstat", "lstat64", "oldlstat", "lgetxattr", "llistxattr", "readlink", "readlinkat", "unlink", "rmdir", "lchown", "lchown32", "lsetxattr",
             "lremovexattr"}
-CHANGES = {"chmod", "chown", "lchown", "utime", "utimes", "truncate", "setxattr", "lsetxattr", "removexattr", "lremovexattr", "fchmodat",
+CHANGES = {"chmod", "chown", "lchown", "utime", "utimes", "truncate", "setxattr", "lsetxattr", "removexattr", "lremovexattr", "fchmodat",  # guard: attributes-of-their-own
            "fchmodat2", "fchownat", "utimensat", "futimesat", "fchmod", "fchown", "ftruncate", "fsetxattr", "fremovexattr",
-           "truncate64", "ftruncate64", "chown32", "lchown32", "fchown32", "utimensat_time64",
-           "setxattrat", "removexattrat", "file_setattr"}
+           "truncate64", "ftruncate64", "chown32", "lchown32", "fchown32", "utimensat_time64",  # guard: calls-of-32-bits
+           "setxattrat", "removexattrat", "file_setattr"}  # guard: new-names
 TIMES = {"utime", "utimes", "utimensat", "futimesat", "utimensat_time64"}
 BY_NUMBER = {"fchmod", "fchown", "fchown32", "ftruncate", "ftruncate64", "fsetxattr", "fremovexattr"}  # by a descriptor alone
-NUMBERED = {"umask", "kill", "tkill", "tgkill", "rt_sigqueueinfo", "rt_tgsigqueueinfo", "pidfd_open"}  # calls whose first number is no descriptor
+NUMBERED = {"umask", "kill", "tkill", "tgkill", "rt_sigqueueinfo", "rt_tgsigqueueinfo", "pidfd_open"}  # calls whose first number is no descriptor  # guard: no-descriptors
 THERE = ("EEXIST", "EISDIR", "ENXIO", "EACCES", "ENOTEMPTY")  # errors of an open that say that something has the name
 
 # Parts of arguments, as strace shows them.
@@ -59,31 +59,31 @@ class Calls(Started):
         handler = HANDLERS.get(name)
         if handler is not None:
             if ok and call.args[:1].isdigit() and name not in NUMBERED and BARE.match(call.args):
-                self.put_bare(life, call)
+                self.put_bare(life, call)  # guard: descriptors-without
             handler(self, life, call, ok)
-        elif name in SHARING and ok:
+        elif name in SHARING and ok:  # guard: memory-said
             self.sockets.append(" ".join(life.argv)[:100])
         else:
-            self.note_unfollowed(life, call)
+            self.note_unfollowed(life, call)  # guard: calls-after-which-names-are-unclear-hole
 
     def on_bind(self, life: Life, call: Call, ok: bool) -> None:
         """A socket with a name is a file: `bind` makes it, and who connects to it looks at it. One without a name of a file is no event."""
         path = SOCKET.search(call.args)
-        if "AF_UNIX" in call.args and (ok or path is None) or "AF_INET" in call.args and not ANY_PORT.search(call.args):
+        if "AF_UNIX" in call.args and (ok or path is None) or "AF_INET" in call.args and not ANY_PORT.search(call.args):  # guard: ports-said
             self.sockets.append(" ".join(life.argv)[:100])
         found = self.found(life, unescape(path.group(1)), True) if path is not None else None
         if found is not None and call.name == "bind" and ok:
-            self.write(life, found)
-        elif found is not None and call.name == "bind":
+            self.write(life, found)  # guard: their-names
+        elif found is not None and call.name == "bind":  # guard: sockets
             self.put_absent(life, found, ABSENT if call.error in ("ENOENT", "ENOTDIR") else READ)
         elif found is not None:
             self.put_look(life, found, call.error not in ("ENOENT", "ENOTDIR"), READ)
 
     def on_flock(self, life: Life, call: Call, ok: bool) -> None:
         """Who waits for a lock does the same whoever has it; who does not wait sees whether another has it."""
-        waits = "LOCK_NB" not in call.args and not TIMED.search(" ".join(life.argv))
+        waits = "LOCK_NB" not in call.args and not TIMED.search(" ".join(life.argv))  # guard: for-while
         if not (ok and (waits or "LOCK_UN" in call.args)):
-            self.locks.append("%s locks %s" % (" ".join(life.argv)[:60], "".join(folders(call.args)[:1])))
+            self.locks.append("%s locks %s" % (" ".join(life.argv)[:60], "".join(folders(call.args)[:1])))  # guard: said
         elif "LOCK_UN" not in call.args:
             self.wait_for_lock(life, call)
 
@@ -102,43 +102,43 @@ class Calls(Started):
         if not path or is_open:
             return
         if path.startswith("/proc/"):
-            self.note_watcher(life, path)
+            self.note_watcher(life, path)  # guard: looks
         follow = not at_link and call.name not in NOFOLLOW
         plain = path if call.name == "stat" or (call.name == "newfstatat" and follow and not path.startswith("/")) else ""
         link = call.name.startswith("readlink") and ok
         found = self.look(life, path, ok or call.error == "EINVAL", follow, READ if link else SEEN, base, plain)
         self.note_search(life, path, ok)
-        is_begin = path == "." and life.looks == 0 and (life.last_look == found.path or self.is_place(life, life.last_look))  # as shells do when they start
+        is_begin = path == "." and life.looks == 0 and (life.last_look == found.path or self.is_place(life, life.last_look))  # as shells do when they start  # guard: looks-of-shell
         life.looks, life.last_look = life.looks + (path == "."), found.path if path.startswith("/") else ""
         traits = life.traits()
         if traits.looks_at_links:
             self.put(life, LINKS_SEEN, found.path)
-        if traits.is_tool and not life.is_query:
+        if traits.is_tool and not life.is_query:  # guard: compare-no-ages
             return
-        if life.is_query or traits.is_interpreter and not (traits.makes_folders and shelltext.makes(life.argv, found.path)) or self.ages(life):
+        if life.is_query or traits.is_interpreter and not (traits.makes_folders and shelltext.makes(life.argv, found.path)) or self.ages(life):  # guard: queries
             is_folder = found.inode is not None and found.inode.kind == "d"
             is_of_text = path == "." and not is_begin and traits.is_shell and shellages.is_unread(life.argv, life.folder)
             if not is_folder or is_of_text or not self.is_own(life, path, found) or shelltext.names_here(life.argv):
-                life.sought = found.path if path == "." and (AGE_SEEN, found.path) not in life.events else ""
+                life.sought = found.path if path == "." and (AGE_SEEN, found.path) not in life.events else ""  # guard: ages-of-folder-before
                 self.put(life, AGE_SEEN, found.path)
-        elif traits.asks_size and found.inode is not None and found.inode.kind == "d":
+        elif traits.asks_size and found.inode is not None and found.inode.kind == "d":  # guard: how-large
             self.put(life, AGE_SEEN, found.path)
-        elif self.is_unknown(life) and "access" not in call.name and "readlink" not in call.name and (found.path not in TEMPORARY or self.is_inside(found.path)):
+        elif self.is_unknown(life) and "access" not in call.name and "readlink" not in call.name and (found.path not in TEMPORARY or self.is_inside(found.path)):  # guard: folders-for-what
             self.put(life, AGE_UNKNOWN, found.path)
 
     @staticmethod
     def is_own(life: Life, path: str, found: Found) -> bool:
         """Whether a process looks at the folder that it is in, or at one above, as shells do by themselves; interpreters also at those
         in which they look for modules. A shell does so before it opens a script: what comes later may be of that."""
-        if life.compares_here:
+        if life.compares_here:  # guard: ages-of-folder-of-script
             return False
         above = life.traits().is_interpreter or (life.folder.rstrip("/") + "/").startswith(found.path.rstrip("/") + "/")
-        return path == "." or path.startswith("/") and above
+        return path == "." or path.startswith("/") and above  # guard: folders-by-whole-names
 
     def on_chdir(self, life: Life, call: Call, ok: bool) -> None:
         """A process looks at a folder and enters it, with its threads."""
         path = first_text(call.args) or ""
-        if not path:  # none that the process can read
+        if not path:  # none that the process can read  # guard: folder-without-name
             return
         found = self.look(life, path, ok, True)
         if ok:
@@ -156,32 +156,32 @@ class Calls(Started):
         base, path, folder, flags, changes, follow = asked = opening(call.args)
         if folder:
             life.folder = folder
-        if ok and changes and SETTINGS.match(call.opened or path):
+        if ok and changes and SETTINGS.match(call.opened or path):  # guard: files
             self.put_unfollowed(life, "the change of " + path)
         if self.said and path.startswith(self.said):
             self.open_words(life, path[len(self.said):], ok)
             return
         if ok and DEVICES.match(path):
             if not call.opened.startswith("/") or DEVICES.match(call.opened) and not self.is_inside(call.opened):
-                self.note_watcher(life, path)
+                self.note_watcher(life, path)  # guard: others-said
                 return  # a pipe, a terminal or the like
-            if "/.." in path:
+            if "/.." in path:  # guard: way-of-proc
                 self.put_left(life, plain_path(life, path, self.lives), life.folder)
-            base, path = "", call.opened
-        if not ok and "RESOLVE_IN_ROOT" in call.args:
+            base, path = "", call.opened  # guard: file-by-its-descriptor
+        if not ok and "RESOLVE_IN_ROOT" in call.args:  # guard: names-below-another-root
             self.holes.append("files that are opened after openat2 (RESOLVE_IN_ROOT) are not seen: " + " ".join(life.argv)[:100])
         if not path:
             return
         if "O_TMPFILE" in flags:  # a file without a name, in a folder that must be there
-            self.look(life, path, ok, follow, base=base)
+            self.look(life, path, ok, follow, base=base)  # guard: files-without-name
             return
         if not ok:
             self.fail_to_open(life, call, asked)
             return
         found = self.found(life, path, follow, base)
-        if call.opened.startswith("/") and call.opened not in (found.path, found.path + GONE) and not DEVICES.match(call.opened):
-            self.holes.append("a name leads to another file than the record says: %s is %s, and not %s" % (path, call.opened, found.path))
-        life.handle = (call.result, found.path) if "O_PATH" in flags else (-1, "")
+        if call.opened.startswith("/") and call.opened not in (found.path, found.path + GONE) and not DEVICES.match(call.opened):  # guard: names-that-are-gone
+            self.holes.append("a name leads to another file than the record says: %s is %s, and not %s" % (path, call.opened, found.path))  # guard: hole
+        life.handle = (call.result, found.path) if "O_PATH" in flags else (-1, "")  # guard: numbers-of-open-files
         if "O_TRUNC" not in flags and life.traits().is_shell and path != shelltext.script_of(life.argv):
             life.opened.add(found.path)
         self.note_stand_in(life, found.path)
@@ -192,11 +192,11 @@ class Calls(Started):
 
     def fail_to_open(self, life: Life, call: Call, asked: Opening) -> None:
         """Nothing was opened: the process sees that something has the name, or that nothing has it. Who wants to create a file sees also which folder is absent."""
-        if call.error == "ENOTDIR" and "O_DIRECTORY" in asked.flags and life.traits().is_shell:
+        if call.error == "ENOTDIR" and "O_DIRECTORY" in asked.flags and life.traits().is_shell:  # guard: folders-in-pattern-files
             self.look_for_folder(life, asked.path, asked.base)
             return
         found = self.found(life, asked.path, asked.follow, asked.base)
-        if self.makes_way(life, asked.flags, found.missing):
+        if self.makes_way(life, asked.flags, found.missing):  # guard: file-that-it-opens-first
             return
         self.put_look(life, found, call.error in THERE, SEEN)
         if (asked.changes or call.name == "creat") and call.error == "ENOENT" and found.missing != found.path:
@@ -221,7 +221,7 @@ class Calls(Started):
         or a link of this name counts, and no file."""
         found = self.found(life, path, True, base)
         folder, _, name = (found.path if found.inode is not None else found.missing or found.path).rpartition("/")
-        self.put(life, LISTED, "%s\0%s/" % (folder or "/", re.sub(r"[*?\[]", "?", name)))
+        self.put(life, LISTED, "%s\0%s/" % (folder or "/", re.sub(r"[*?\[]", "?", name)))  # guard: files-that-become-folders
 
     def note_watcher(self, life: Life, path: str) -> None:
         """What the kernel shows of another process, or of all of them."""
@@ -231,7 +231,7 @@ class Calls(Started):
 
     def on_watch(self, life: Life, call: Call, ok: bool) -> None:
         """Who waits for changes of a name looks at it, and sees what runs beside it."""
-        self.look(life, "".join(texts(call.args)[:1]), ok, True)
+        self.look(life, "".join(texts(call.args)[:1]), ok, True)  # guard: changes-that-they-wait
         self.watchers.append(" ".join(life.argv)[:100])
 
     def take_in(self, life: Life, found: Found) -> None:
@@ -247,12 +247,12 @@ class Calls(Started):
         if is_folder or life.is_query:
             return
         if life.is_make:
-            self.is_open_shell = self.is_open_shell or shelltext.sets_options_in(found.path)
+            self.is_open_shell = self.is_open_shell or shelltext.sets_options_in(found.path)  # guard: options-in-environment
         elif traits.is_shell:
-            life.taken += (found.path,) if shelltext.takes_in(life.argv, found.path) else ()
+            life.taken += (found.path,) if shelltext.takes_in(life.argv, found.path) else ()  # guard: what-they-read-first
             life.compares_here = life.compares_here or shellages.tests_newer(found.path, tuple(life.argv), life.folder)
-        elif not traits.is_interpreter and (self.ages(life) or self.is_unknown(life)):
-            self.put(life, AGE_SEEN if self.ages(life) else AGE_UNKNOWN, found.path)
+        elif not traits.is_interpreter and (self.ages(life) or self.is_unknown(life)):  # guard: what-unknown-program-opens
+            self.put(life, AGE_SEEN if self.ages(life) else AGE_UNKNOWN, found.path)  # guard: what-is-opened
 
     def on_list(self, life: Life, call: Call, ok: bool) -> None:
         """A folder is listed: the event says for which names, and whether their order counts. Make remembers what it lists."""
@@ -261,10 +261,10 @@ class Calls(Started):
             return
         if life.is_make:
             self.put(life, MAKE_LISTED, where[0])
-        elif where[0] == "/proc":
+        elif where[0] == "/proc":  # guard: listed-said
             self.watchers.append(" ".join(life.argv)[:100])
         else:
-            self.put_lists(life, where[0], self.patterns(life, where[0]), call.result == 0)
+            self.put_lists(life, where[0], self.patterns(life, where[0]), call.result == 0)  # guard: listings-of-interpreters-count
             if not self.is_in_order(life):
                 self.put(life, ORDER_SEEN, where[0])
 
@@ -280,10 +280,10 @@ class Calls(Started):
         """A folder is made, or is there already: with a word where the program shows who was first, else quietly; and its mode."""
         base, path = self.base_and_path(life, call)
         found = self.found(life, path.rstrip("/") or "/", False, base)
-        quiet = shelltext.is_quiet_mkdir(life.argv) and not self.is_inside(life.program)
+        quiet = shelltext.is_quiet_mkdir(life.argv) and not self.is_inside(life.program)  # guard: quiet-makers
         script: List[str] = next((up.argv for up in life.up() if not up.is_make and shelltext.makes(up.argv, found.path)), [])
         if script and not quiet:
-            self.makers.append(" ".join(script)[:60])
+            self.makers.append(" ".join(script)[:60])  # guard: scripts-that-make-folders
             quiet = True
         if ok:
             self.fresh.add(found.path)
@@ -295,12 +295,12 @@ class Calls(Started):
             self.put(life, CREATED, found.path + "/")
         elif call.error == "EEXIST":
             self.put(life, MADE_QUIETLY if quiet else MADE_BEFORE, found.path)
-            if found.inode is None or found.inode.kind != "d":
+            if found.inode is None or found.inode.kind != "d":  # guard: whose-name-file
                 self.put_look(life, found, True, SEEN)  # a file, or a link, has the name
         if ok or call.error == "EEXIST":
             mode = MODE.search(call.args)
             given = self.given_by(life, found.path) or "%o" % (int(mode.group(1), 8) & ~life.mask if mode else -1)
-            self.put(life, MODE_GIVEN, found.path + "\0" + given)
+            self.put(life, MODE_GIVEN, found.path + "\0" + given)  # guard: modes-of-several-makers
             self.names.modes.setdefault(found.path, set()).add(given)
         else:
             self.look(life, path, False, False, base=base)
@@ -310,8 +310,8 @@ class Calls(Started):
     def given_by(self, life: Life, path: str) -> str:
         """The mode and the owner that a folder has when `install -d` has ended, which names it: who makes it, and in how many steps, makes no difference."""
         given, names = shelltext.given_by(tuple(life.argv))
-        begun = next((up.programs[-1].folder for up in life.up() if up.programs), life.folder)  # it may go into a folder on the way
-        return given if given and any(self.names.find(begun, name, True).path == path for name in names) else ""
+        begun = next((up.programs[-1].folder for up in life.up() if up.programs), life.folder)  # it may go into a folder on the way  # guard: from-where-they-are-named
+        return given if given and any(self.names.find(begun, name, True).path == path for name in names) else ""  # guard: those-above
 
     def on_mknod(self, life: Life, call: Call, ok: bool) -> None:
         """A file, a pipe with a name or a device is made: it counts as a file that is written."""
@@ -337,13 +337,13 @@ class Calls(Started):
         if found.folder is not None:
             self.names.take(found.folder, found.name)
         self.put(life, FOLDER_REMOVED if folder else REMOVED, found.path)
-        self.hard_links += others[:1]
+        self.hard_links += others[:1]  # guard: one-that-is-removed
         for other in others:
             self.put(life, LINKS_CHANGED, other)
 
     def on_change(self, life: Life, call: Call, ok: bool) -> None:
         """A file's length, mode, owner, time or attributes change: it is written. Of a folder the mode or the time changes."""
-        base, path = self.base_and_path(life, call) if call.name not in BY_NUMBER else ("", "")
+        base, path = self.base_and_path(life, call) if call.name not in BY_NUMBER else ("", "")  # guard: number-of-file
         path = path or next(iter(folders(call.args)), "")
         if not path or not path.startswith("/") and call.name in BY_NUMBER:
             return
@@ -352,10 +352,10 @@ class Calls(Started):
             return
         found = self.found(life, path, call.name not in NOFOLLOW and "NOFOLLOW" not in call.args, base)
         if call.name in TIMES and GIVEN_TIME.search(TEXT_END.sub("", call.args)):
-            self.put(life, AGE_TAKEN, found.path + "\0")
+            self.put(life, AGE_TAKEN, found.path + "\0")  # guard: that-are-set
         if found.inode is not None and found.inode.kind == "d":
-            mode = GIVEN_MODE.search(call.args) if "chmod" in call.name else None
-            given = self.given_by(life, found.path) or "%o" % (int(mode.group(1), 8) if mode else -1)
+            mode = GIVEN_MODE.search(call.args) if "chmod" in call.name else None  # guard: whose-owner-changes
+            given = self.given_by(life, found.path) or "%o" % (int(mode.group(1), 8) if mode else -1)  # guard: made-in-several-steps
             self.put(life, *((TIME_CHANGED, found.path) if call.name in TIMES else (MODE_CHANGED, "%s\0%s" % (found.path, given))))
         else:
             self.write(life, found)
@@ -363,12 +363,12 @@ class Calls(Started):
     def on_ioctl(self, life: Life, call: Call, ok: bool) -> None:
         """A request about an open file: it may change the file, or the names in a folder."""
         path, asked = "".join(folders(call.args)[:1]), requests(call.args)
-        if not ok or not path.startswith("/") or asked & READING or OF_KERNEL.match(path) and not self.is_inside(path):
+        if not ok or not path.startswith("/") or asked & READING or OF_KERNEL.match(path) and not self.is_inside(path):  # guard: who-reads
             return
-        if asked & CHANGING:
+        if asked & CHANGING:  # guard: flags-of-file
             self.on_change(life, call, ok)
         else:
-            self.put_unfollowed(life, "the request %s of ioctl, about %s," % (" or ".join(sorted(asked)), path))
+            self.put_unfollowed(life, "the request %s of ioctl, about %s," % (" or ".join(sorted(asked)), path))  # guard: requests-that-nobody-knows-hole
 
 
 Handler = Callable[[Calls, Life, Call, bool], None]

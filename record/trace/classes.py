@@ -52,7 +52,7 @@ LEFT_OUT = {name for names in REASONS.values() for name in names.split()}
 
 # After these, what a process opens is not what the trace names, or is not in the trace at all.
 HIDING = {"chroot", "pivot_root", "mount", "move_mount", "umount", "umount2", "oldumount", "setns", "open_by_handle_at", "io_uring_setup", "fsmount", "fspick",
-          "open_tree", "open_tree_attr", "mount_setattr"}
+          "open_tree", "open_tree_attr", "mount_setattr"}  # guard: new-ways-to-mount
 # What processes share that is no file.
 SHARING = {"shmget", "semget", "msgget", "mq_open", "mq_unlink", "add_key", "request_key", "keyctl", "process_vm_readv", "process_vm_writev"}
 # Known calls that nobody follows, since a build hardly needs them: they change files by other ways, files of others, the clock or the kernel.
@@ -71,10 +71,10 @@ SEVERAL = {"ipc", "socketcall", "signal"}
 
 def named(name: str) -> str:
     """The name of a call of which strace may know the number alone."""
-    return NEWER.get(int(name[len("syscall_"):], 16), name) if name.startswith("syscall_0x") else name
+    return NEWER.get(int(name[len("syscall_"):], 16), name) if name.startswith("syscall_0x") else name  # guard: calls-by-their-numbers
 
 
 def traced() -> str:
     """The calls that strace traces. It may know less names than these. Until the first of them it stops a process at all calls, and a child
     that make starts begins with `rt_sigprocmask`."""
-    return "!" + ",".join("?" + name for name in sorted(LEFT_OUT - {"rt_sigprocmask"}))
+    return "!" + ",".join("?" + name for name in sorted(LEFT_OUT - {"rt_sigprocmask"}))  # guard: are-traced

@@ -20,7 +20,7 @@ READING = set("""FIOCLEX FIONCLEX FIONBIO FIOASYNC FIONREAD FIOQSIZE FIGETBSZ FI
 # Requests that change a file, as `chmod` does, or what may be done with it (`chattr`).
 CHANGING = set("""FS_IOC_SETFLAGS FS_IOC32_SETFLAGS FS_IOC_SETVERSION FS_IOC32_SETVERSION FS_IOC_FSSETXATTR FS_IOC_ENABLE_VERITY FS_IOC_SET_ENCRYPTION_POLICY
     FAT_IOCTL_SET_ATTRIBUTES""".split())
-NO_WAIT = re.compile(r", F_(?:OFD_)?(?:GETLK|SETLK)(?:64)?, (?!\{l_type=F_UNLCK)")  # a lock that is asked for and not waited for
+NO_WAIT = re.compile(r", F_(?:OFD_)?(?:GETLK|SETLK)(?:64)?, (?!\{l_type=F_UNLCK)")  # a lock that is asked for and not waited for  # guard: not-where-they-are-given-back
 WAITS = re.compile(r", F_(?:OFD_)?SETLKW(?:64)?, (?!\{l_type=F_UNLCK)")  # one that is waited for
 LOCK_FILE = re.compile(r", O_RDONLY\|O_CREAT(?:\|O_(?:NOCTTY|CLOEXEC|LARGEFILE))*, 0666$")  # how `flock` opens it
 FOR_A_WHILE = re.compile(r"-\w*[nw]|--[nwt]")  # options of `flock`: `-n`, `-w SECONDS`
@@ -35,11 +35,11 @@ def waits(argv: List[str]) -> bool:
     """Whether the words of `flock` say that it waits for the lock, as long as it takes. Its own options stand in front of the file."""
     words = iter(argv[1:])
     for word in words:
-        if not word.startswith("-"):
+        if not word.startswith("-"):  # guard: words-of-command
             return True
         if FOR_A_WHILE.match(word):
             return False
-        if STATUS.fullmatch(word):
+        if STATUS.fullmatch(word):  # guard: options-with-word
             next(words, "")
     return True
 
@@ -55,11 +55,11 @@ class Opened(Processes):
 
     def on_fcntl(self, life: Life, call: Call, ok: bool) -> None:
         """Locks that are not waited for, and leases, by which a process sees that another one opens a file."""
-        if NO_WAIT.search(call.args):
+        if NO_WAIT.search(call.args):  # guard: said
             self.locks.append("%s locks %s" % (" ".join(life.argv)[:60], "".join(folders(call.args)[:1])))
         elif ok and WAITS.search(call.args):
             self.wait_for_lock(life, call)
-        elif ok and LEASE.search(call.args):
+        elif ok and LEASE.search(call.args):  # guard: leases-said
             self.watchers.append(" ".join(life.argv)[:100])
 
     def wait_for_lock(self, life: Life, call: Call) -> None:
@@ -67,14 +67,14 @@ class Opened(Processes):
         path = "".join(folders(call.args)[:1])
         recipe = next(one for one in life.up() if one.parent is None or one.parent.is_make or one.parent.is_ninja)
         taken = self.taken.setdefault(id(recipe), [])
-        if any(other != path for other in taken):
+        if any(other != path for other in taken):  # guard: two-locks-of-one-recipe
             self.locks.append("%s locks %s, and its recipe has locked %s" % (" ".join(life.argv)[:60], path, taken[0]))
         taken.append(path)
 
     def opens_to_lock(self, life: Life, flags: str) -> bool:
         """Whether it is `flock` that opens the file which its words name, and waits for the lock: it makes the file where it is not there, and does nothing
         else with it."""
-        return LOCK_FILE.match(flags) is not None and shelltext.base_name(life.argv) == "flock" and waits(life.argv) and not self.is_inside(life.program)
+        return LOCK_FILE.match(flags) is not None and shelltext.base_name(life.argv) == "flock" and waits(life.argv) and not self.is_inside(life.program)  # guard: how-it-is-opened
 
     def open_to_lock(self, life: Life, found: Found) -> None:
         """The file of a lock, and the bits without which it is made. What runs under the lock has it open, too."""
@@ -83,12 +83,12 @@ class Opened(Processes):
             self.names.put(found.folder, found.name, found.inode)
             self.put(life, CREATED, found.path)
         self.put(life, LOCKED, found.path)
-        self.put(life, MODE_GIVEN, "%s\0%o" % (found.path, life.mask))
-        life.opened.add(found.path)
+        self.put(life, MODE_GIVEN, "%s\0%o" % (found.path, life.mask))  # guard: modes-of-time
+        life.opened.add(found.path)  # guard: number-of-open-file
 
     def note_stand_in(self, life: Life, path: str) -> None:
         """Who opens a make as a file finds the copy that lies over it: it sees another file than without the recorder."""
-        if path in self.covered and not any(one.startswith(STAND_IN) for one in self.holes):
+        if path in self.covered and not any(one.startswith(STAND_IN) for one in self.holes):  # guard: make-that-is-read
             self.holes.append(STAND_IN + " ".join(life.argv)[:100])
 
     def makes_way(self, life: Life, flags: str, folder: str) -> bool:
@@ -100,21 +100,21 @@ class Opened(Processes):
 
     def on_socket(self, life: Life, call: Call, ok: bool) -> None:
         """Datagrams go to a server without a call that connects."""
-        if ok and LOOSE.search(call.args):
+        if ok and LOOSE.search(call.args):  # guard: datagrams-said
             self.sockets.append(" ".join(life.argv)[:100])
 
     def note_unfollowed(self, life: Life, call: Call) -> None:
         """A call without a handler. One that the kernel does not have did nothing, nor did one that is known and failed."""
         name = named(call.name)
-        if name in LEFT_OUT or call.error == "ENOSYS" or call.error and name in HIDING | SHARING | UNFOLLOWED:
+        if name in LEFT_OUT or call.error == "ENOSYS" or call.error and name in HIDING | SHARING | UNFOLLOWED:  # guard: not-where-kernel-has-none
             return
         if name in HIDING:
             self.holes.append("files that are opened after %s are not seen: %s" % (name, " ".join(life.argv)[:100]))
         else:
-            self.put_unfollowed(life, name)
+            self.put_unfollowed(life, name)  # guard: hole
 
     def put_unfollowed(self, life: Life, what: str) -> None:
         """Nobody knows what a call did to files."""
         hole = "a call that the recorder does not follow: %s of %s" % (what, " ".join(life.argv)[:100])
-        if hole not in self.holes:
+        if hole not in self.holes:  # guard: said-once
             self.holes.append(hole)

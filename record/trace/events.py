@@ -39,7 +39,7 @@ FOLDER_KEPT = "x"  # a folder could not be removed, since it held something
 
 LOOKS = READ + SEEN + ABSENT
 ASKS = LOOKS + WAY_ABSENT + MAKER_SEEN  # a process sees whether a name is there
-CHANGES = WRITTEN + CREATED + REMOVED + LOCKED
+CHANGES = WRITTEN + CREATED + REMOVED + LOCKED  # guard: removals-are-writes
 MAKES = MADE + MADE_QUIETLY
 STRICT = MADE + MADE_BEFORE  # it shows who was the first to make a folder
 TREE_CHANGES = CHANGES + MAKES + FOLDER_REMOVED

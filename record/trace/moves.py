@@ -17,7 +17,7 @@ class Moves(Replay):
         words = texts(call.args)
         where = folders(call.args)
         bases = where if len(where) == 2 else [life.folder, life.folder]
-        if not call.error and len(where) == 1:
+        if not call.error and len(where) == 1:  # guard: one-of-two-descriptors
             self.put_bare(life, call)
         follow = "AT_SYMLINK_FOLLOW" in call.args
         return (self.found(life, words[0].rstrip("/"), follow, bases[0]), self.found(life, words[1].rstrip("/"), False, bases[1]))
@@ -34,16 +34,16 @@ class Moves(Replay):
         if not ok:
             self.put(life, ABSENT if old.inode is None else SEEN, old.path)
             self.put_absent(life, new, ABSENT if new.inode is None else SEEN)
-            if call.error in ("ENOTEMPTY", "EEXIST"):
+            if call.error in ("ENOTEMPTY", "EEXIST"):  # guard: that-another-is-moved-over
                 self.put(life, FOLDER_KEPT, new.path)  # that it holds something counts
             return
         self.put(life, READ, old.path)
-        self.put(life, AGE_TAKEN, new.path + "\0" + old.path)
+        self.put(life, AGE_TAKEN, new.path + "\0" + old.path)  # guard: what-is-moved
         if "RENAME_EXCHANGE" in call.args:
-            self.holes.append("two names were exchanged in one step: " + old.path)
+            self.holes.append("two names were exchanged in one step: " + old.path)  # guard: two-names-in-one-step
         if old.folder is None or new.folder is None:
             return
-        if old.inode is not None and old.inode is new.inode:
+        if old.inode is not None and old.inode is new.inode:  # guard: two-of-one-file
             return  # two names of one file: nothing happens
         inode = self.names.take(old.folder, old.name) or Inode("f")
         gone = self.names.take(new.folder, new.name)
@@ -52,23 +52,23 @@ class Moves(Replay):
         self.put(life, WRITTEN, new.path)
         for other in self.names.aliases(gone):
             self.put(life, LINKS_CHANGED, other)
-        if inode.kind == "d":
-            self.move_folder(life, old.path, new.path)
+        if inode.kind == "d":  # guard: all-below-goes
+            self.move_folder(life, old.path, new.path)  # guard: come-and-go
             for name, child in self.names.below(inode, ""):
                 self.put(life, REMOVED, old.path + name)
                 self.put(life, CREATED, new.path + name)
                 self.put(life, WRITTEN, new.path + name)
-                self.names.links.update([new.path + name] if child.kind == "l" else ())
+                self.names.links.update([new.path + name] if child.kind == "l" else ())  # guard: links-that-move
                 if child.kind == "d":
-                    self.move_folder(life, old.path + name, new.path + name)
-        self.names.put(new.folder, new.name, inode)
+                    self.move_folder(life, old.path + name, new.path + name)  # guard: those-below
+        self.names.put(new.folder, new.name, inode)  # guard: new-name-holds-file
 
     def move_folder(self, life: Life, old: str, new: str) -> None:
         """A folder that is moved goes in one place and comes in another, and the processes that are in it go with it."""
         self.put(life, FOLDER_REMOVED, old)
         self.put(life, MADE, new)
         for one in self.lives.values():
-            one.folder = new if one.folder == old else one.folder
+            one.folder = new if one.folder == old else one.folder  # guard: folders-that-are-moved
 
     def on_link(self, life: Life, call: Call, ok: bool) -> None:
         """A file gets a second name: that is written, with the age of the first, and all names see one more."""
@@ -77,14 +77,14 @@ class Moves(Replay):
         old, new = self.two(life, call)
         self.put(life, READ if ok else SEEN if old.inode else ABSENT, old.path)
         if not ok:
-            self.put_absent(life, new, SEEN if call.error == "EEXIST" else ABSENT)
+            self.put_absent(life, new, SEEN if call.error == "EEXIST" else ABSENT)  # guard: links
             return
         inode = old.inode or Inode("f")
         self.fresh.add(new.path)
         self.put(life, CREATED, new.path)
         self.put(life, WRITTEN, new.path)
-        self.put(life, AGE_TAKEN, new.path + "\0" + old.path)
-        for other in self.names.aliases(inode):
+        self.put(life, AGE_TAKEN, new.path + "\0" + old.path)  # guard: second-name
+        for other in self.names.aliases(inode):  # guard: hard-links-are-counted
             self.put(life, LINKS_CHANGED, other)
         if new.folder is not None:
             self.names.put(new.folder, new.name, inode)
@@ -97,9 +97,9 @@ class Moves(Replay):
             return
         found = self.found(life, words[1].rstrip("/"), False, where[-1] if where else life.folder)
         if not ok:
-            self.put_absent(life, found, SEEN if call.error == "EEXIST" else ABSENT)
+            self.put_absent(life, found, SEEN if call.error == "EEXIST" else ABSENT)  # guard: symbolic-links
             return
-        if not where and BARE.search(TEXT.sub('""', call.args)):
+        if not where and BARE.search(TEXT.sub('""', call.args)):  # guard: folder-of-link
             self.put_bare(life, call)
         self.fresh.add(found.path)
         self.put(life, CREATED, found.path)

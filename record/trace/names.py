@@ -101,7 +101,7 @@ class Names:
         self.ends: Dict[str, Found] = {}  # by spelling, where it ends in a link: what was there; they hold as long
         self.before: Dict[str, str] = {}
         self.tops: List[str] = []
-        self.above = {"/tmp", "/var/tmp"}  # folders that are there before the build: those of the system, and those above the tops
+        self.above = {"/tmp", "/var/tmp"}  # folders that are there before the build: those of the system, and those above the tops  # guard: those-of-system
         self.links: Set[str] = set()  # names that were links at some time
         self.absent: Set[str] = set()  # names outside of the walked folders that were not there
         self.modes: Dict[str, Set[str]] = {}  # folders that were made: with which modes
@@ -116,12 +116,12 @@ class Names:
         """Takes in the tree below a real path, as it is now. A folder that is not there yet is empty, and made by the build."""
         self.tops.append(top)
         above = [str(path) for path in Path(top).parents][::-1]
-        self.above.update(path for path in above if machine.isdir(path))
-        if not machine.isdir(top):
+        self.above.update(path for path in above if machine.isdir(path))  # guard: those-above-project
+        if not machine.isdir(top):  # guard: tops
             self.absent.add(next(path for path in [*above, top] if not machine.isdir(path)))
             return
         node = self.folder(top)
-        self.folds = self.folds or has_two_names(top)
+        self.folds = self.folds or has_two_names(top)  # guard: folders-own
         todo = [(node, top)]
         self.before[top] = "d"
         while todo:
@@ -135,7 +135,7 @@ class Names:
                 if child.kind == "d":
                     self.note_number(join(path, name), found)
                     todo.append((child, join(path, name)))
-            self.folds = self.folds or folds(path, node.entries)
+            self.folds = self.folds or folds(path, node.entries)  # guard: its-files
 
     def entries_of(self, path: str) -> Iterator[Tuple[str, os.stat_result]]:
         """The names in a folder of the disk, and what stands there. What is too long to be asked for is noted; what the user may not see is left out."""
@@ -158,7 +158,7 @@ class Names:
     def note_number(self, path: str, found: os.stat_result) -> None:
         """A folder has one name, except where it is mounted a second time."""
         known = self.numbers.setdefault((found.st_dev, found.st_ino), path)
-        self.twice += [(known, path)] if known != path else []
+        self.twice += [(known, path)] if known != path else []  # guard: folders-with-two-names
 
     def too_long(self) -> List[str]:
         """What is wrong with paths that nobody can ask for."""
@@ -166,11 +166,11 @@ class Names:
 
     def mounted(self, mounts: Set[str]) -> List[str]:
         """What is wrong with names of which a mount has made two."""
-        twice = [pair for pair in self.twice if not mounts.isdisjoint(pair)]
+        twice = [pair for pair in self.twice if not mounts.isdisjoint(pair)]  # guard: folders-with-two-names-by-mount
         mounted = [path for path in sorted(mounts) if self.before.get(path) == "f"]
         numbers = {(found.st_dev, found.st_ino): path for path, found in map(number_of, mounted) if found is not None}
         others = (number_of(path) for path, kind in self.before.items() if numbers and kind == "f" and path not in mounts)
-        files = [(numbers[found.st_dev, found.st_ino], path) for path, found in others if found is not None and (found.st_dev, found.st_ino) in numbers]
+        files = [(numbers[found.st_dev, found.st_ino], path) for path, found in others if found is not None and (found.st_dev, found.st_ino) in numbers]  # guard: files-with-two-names
         return ["%s is mounted a second time, so its files have two names: %s and %s" % (what, *pair) for what, pairs in (("a folder", twice), ("a file", files)) for pair in pairs]
 
     def made_of(self, found: os.stat_result, path: str) -> Inode:
@@ -179,9 +179,9 @@ class Names:
             return Inode("d")
         if stat.S_ISLNK(found.st_mode):
             return Inode("l", machine.readlink(path))
-        if found.st_nlink > 1:
+        if found.st_nlink > 1:  # guard: hard-links-from-before-build
             key = (found.st_dev, found.st_ino)
-            if key not in self.files:
+            if key not in self.files:  # guard: elsewhere-that-is-written
                 self.files[key] = Inode("f")
                 self.files[key].unknown = found.st_nlink
             self.files[key].unknown -= 1
@@ -216,7 +216,7 @@ class Names:
         else:
             child.names.append((folder, name))
         if child.kind == "l":
-            self.links.add(join(folder.path(), name))
+            self.links.add(join(folder.path(), name))  # guard: links-for-while
 
     def is_link(self, path: str) -> bool:
         """Whether a name is a link, or was one at some time."""
@@ -246,7 +246,7 @@ class Names:
 
     def ask(self, folder: Inode, name: str, path: str) -> Optional[Inode]:
         """What the disk has under a name, now in the model."""
-        if path in self.absent:
+        if path in self.absent:  # guard: what
             return None
         try:
             child = self.made_of(machine.lstat(path), path)
@@ -327,7 +327,7 @@ class Names:
                 node = child
                 continue
             here = join(node.path(), part)
-            if child is not None and child.kind == "l" and (todo or follow) and hops < LINK_LIMIT:
+            if child is not None and child.kind == "l" and (todo or follow) and hops < LINK_LIMIT:  # guard: links-are-followed-when-they-are-met
                 hops += 1
                 links.append(here)
                 if child.target.startswith("/"):

@@ -45,7 +45,7 @@ class Pipe:
         with open(self.file, "ab", buffering=0) as file:
             while True:
                 is_last, data = bool(has_ended(0)), self.read()  # (asked before the read: what is written until then is read)
-                seen(data)
+                seen(data)  # guard: said
                 if data:
                     fault = fault or self.fault_of(file, data)
                 elif is_last:

@@ -35,13 +35,13 @@ def lends_rights(program: str, user: int) -> bool:
         found = machine.stat(program)
     except OSError:
         return False
-    return user != 0 and bool(found.st_mode & stat.S_ISUID and found.st_uid != user or found.st_mode & stat.S_ISGID and found.st_mode & stat.S_IXGRP)
+    return user != 0 and bool(found.st_mode & stat.S_ISUID and found.st_uid != user or found.st_mode & stat.S_ISGID and found.st_mode & stat.S_IXGRP)  # guard: not-of-root
 
 
 def sets_others(argv: List[str]) -> bool:
     """Whether a program sets limits of a process that runs, by its words: what that starts later gets them too."""
     name = shelltext.base_name(argv)
-    return name == "renice" or name in SETTERS and any(OTHER.match(word) for word in argv[1:])
+    return name == "renice" or name in SETTERS and any(OTHER.match(word) for word in argv[1:])  # guard: limits-of-their-own
 
 
 class Processes(Moves):
@@ -52,7 +52,7 @@ class Processes(Moves):
         if life.pid in self.begun:
             self.begun.remove(life.pid)
             self.sharing.discard(life.pid)
-        if ok and "CLONE_UNTRACED" in call.args:
+        if ok and "CLONE_UNTRACED" in call.args:  # guard: processes-that-run-unseen
             self.holes.append("a process runs unseen (CLONE_UNTRACED, as that of LeakSanitizer does): " + " ".join(life.argv)[:100])
         elif ok and call.result > 0:
             self.child(life, call.result, "CLONE_FS" in call.args)
@@ -63,7 +63,7 @@ class Processes(Moves):
 
     def on_ptrace(self, life: Life, call: Call, ok: bool) -> None:
         """A process is traced once, and here by the recorder: a debugger fails that works in a build by itself."""
-        if call.error == "EPERM":
+        if call.error == "EPERM":  # guard: programs-that-trace-others
             self.holes.append("a program traces another one (a debugger), which fails while a build is recorded: " + " ".join(life.argv)[:100])
 
     def note_rights(self, life: Life, program: str) -> None:
@@ -75,17 +75,17 @@ class Processes(Moves):
         """A signal, or the question whether a process is there: that of another recipe may have ended by then. Make ends its own children."""
         match = NUMBER.match(call.args)
         other = self.lives.get(int(match.group(1))) if match is not None else None
-        if not life.is_make and (other is None or first_of(other) is not first_of(life)):
-            self.watchers.append(" ".join(life.argv)[:100])
+        if not life.is_make and (other is None or first_of(other) is not first_of(life)):  # guard: signals-inside-of-recipe
+            self.watchers.append(" ".join(life.argv)[:100])  # guard: signals
 
     def on_umask(self, life: Life, call: Call, ok: bool) -> None:
         """The bits that a process makes names without, as in `umask(022) = 0`."""
-        life.set_mask(int(call.args, 8))
+        life.set_mask(int(call.args, 8))  # guard: masks
 
     def on_unshare(self, life: Life, call: Call, ok: bool) -> None:
         """A thread that asks for a folder of its own, or for what includes that."""
         if ok and re.search(r"CLONE_(?:FS|NEWNS|NEWUSER)\b", call.args):
-            life.leave_threads()
+            life.leave_threads()  # guard: folder-of-their-own
 
     def begin_program(self, life: Life, words: List[str], first: List[str]) -> None:
         """What a process runs from now on; which script, where it is a shell. `words`: the program, and the words that it is handed; `first`: the

@@ -65,14 +65,14 @@ class Replay:
     def life(self, pid: int) -> Life:
         """The life that has a process number now; a new one where it has none, of a parent that has begun to start a process, if that is clear."""
         life = self.lives.get(pid)
-        if life is None or life.died <= self.place:
+        if life is None or life.died <= self.place:  # guard: dead-process-is-another
             life = Life(pid, born=self.place, folder=self.first_folder)
             if self.all:
                 parents = [self.lives[p] for p in self.begun if p in self.lives and p != pid]
                 if parents:
                     self.inherit(life, parents[-1])
                     life.is_heir = True
-                    life.parent = parents[0] if len(parents) == 1 else None
+                    life.parent = parents[0] if len(parents) == 1 else None  # guard: what-is-above-one-that-is-seen-first
             else:
                 life.adopted, life.mask = True, self.mask
             self.lives[pid] = life
@@ -82,17 +82,17 @@ class Replay:
     def ages(self, life: Life) -> bool:
         """Whether the process may compare ages."""
         traits = life.traits()
-        if traits.is_shell and (self.is_open_shell or any(shellages.script_compares(path, life.folder) for path in life.taken)):
+        if traits.is_shell and (self.is_open_shell or any(shellages.script_compares(path, life.folder) for path in life.taken)):  # guard: ages-by-what-they-read-first
             return True
         if traits.ages is None:
-            key = "\0".join([life.folder, *life.argv])
+            key = "\0".join([life.folder, *life.argv])  # guard: scripts-of-one-name
             if key not in self.aged:
                 self.aged[key] = shellages.compares_ages(life.argv, life.folder)
             script = shelltext.script_of(life.argv)
             if not self.aged[key] and script:
                 self.scripts.setdefault(self.names.find(life.folder, script, True).path, self.place)
             above = life.parent
-            traits.ages = self.aged[key] and (above is None or not shellages.asks_where_it_leads(life.argv, above.argv, above.folder))
+            traits.ages = self.aged[key] and (above is None or not shellages.asks_where_it_leads(life.argv, above.argv, above.folder))  # guard: where-their-links-lead
         return traits.ages
 
     def rewritten(self) -> List[str]:
@@ -102,15 +102,15 @@ class Replay:
     def strays(self) -> List[str]:
         """Processes that did something, and of which nobody knows who started them: in a name space of its own a process has another number
         than in the trace. A thread may end with its process before the call that started it is finished."""
-        known = [" ".join(life.argv)[:100] for life in self.all[1:] if not life.adopted and (life.ran or life.events or life.children)]
-        return known + ["number %d" % pid for pid, events in self.waiting.items() if any(isinstance(event, Call) for event in events)]
+        known = [" ".join(life.argv)[:100] for life in self.all[1:] if not life.adopted and (life.ran or life.events or life.children)]  # guard: no-process
+        return known + ["number %d" % pid for pid, events in self.waiting.items() if any(isinstance(event, Call) for event in events)]  # guard: several
 
     @staticmethod
     def inherit(child: Life, parent: Life) -> None:
         """What a process has from who started it: its folder, its mask, and until it runs a program of its own the words."""
-        if not child.is_heir:  # else it may have changed these since
+        if not child.is_heir:  # else it may have changed these since  # guard: what-process-changed-before-its-start-is-finished
             child.folder, child.mask = parent.folder, parent.mask
-        child.cut, child.taken, child.compares_here, child.looks = parent.cut, parent.taken, parent.compares_here, parent.looks
+        child.cut, child.taken, child.compares_here, child.looks = parent.cut, parent.taken, parent.compares_here, parent.looks  # guard: ages-of-folder-in-part-of-script
         child.argv = child.argv or parent.argv
 
     def play(self, event: Event) -> None:
@@ -133,14 +133,14 @@ class Replay:
         if life is not None and life.died > self.place or not self.all:
             return False
         parents = [self.lives[p] for p in self.begun if p in self.lives and p != pid]
-        return not self.sharing.isdisjoint(self.begun) or len({(p.folder, p.mask) for p in parents}) > 1
+        return not self.sharing.isdisjoint(self.begun) or len({(p.folder, p.mask) for p in parents}) > 1  # guard: threads-wait-for-who-starts
 
     def take(self, event: Event) -> None:
         """One event of a process that is known."""
         if isinstance(event, Call):
             self.call(self.life(event.pid), event)
         elif isinstance(event, Unread):
-            self.holes.append("a line of the trace cannot be read: " + event.text[:200])
+            self.holes.append("a line of the trace cannot be read: " + event.text[:200])  # guard: hole
         elif isinstance(event, Begun):
             self.life(event.pid)
             self.begun.append(event.pid)
@@ -159,7 +159,7 @@ class Replay:
             self.inherit(child, parent)
         child.parent, child.adopted = parent, True
         parent.children.append(child)
-        if is_thread:
+        if is_thread:  # guard: threads-change-their-folder-together
             parent.join_threads(child)
         for event in self.waiting.pop(pid, []):
             self.take(event)
@@ -167,19 +167,19 @@ class Replay:
     # ---------------------------------------------------------------- events
     def put(self, life: Life, kind: str, path: str, word: str = "") -> None:
         """An event of a life, and an act of make where a make does it. `word`: the path as make spelled it. Devices and the recorder's own files have none."""
-        if path.startswith(KERNEL) and DEVICES.match(path) and not self.is_inside(path):
-            if is_hidden(kind, path):
+        if path.startswith(KERNEL) and DEVICES.match(path) and not self.is_inside(path):  # guard: devices-are-no-files
+            if is_hidden(kind, path):  # guard: numbers-hole
                 self.holes.append("a file is known by the number of its descriptor alone: %s of %s" % (path, " ".join(life.argv)[:100]))
-            for name in life.handed() if kind in (AGE_SEEN, AGE_UNKNOWN) and NUMBER.match(path) else ():
+            for name in life.handed() if kind in (AGE_SEEN, AGE_UNKNOWN) and NUMBER.match(path) else ():  # guard: files-that-are-open
                 self.put(life, kind, name)
             return
         if path.startswith(self.own):
             return
-        if PROGRESS in path and life.traits().shows_progress:
+        if PROGRESS in path and life.traits().shows_progress:  # guard: what-cmake-counts
             self.progress.append(path[:path.index(PROGRESS) + len(PROGRESS)])
             return
-        if kind in TREE_CHANGES and path.rstrip("/") not in self.fresh and not self.is_inside(path) and not (kind == MADE_QUIETLY and path in self.names.above):
-            self.outside[path.rstrip("/")] = None
+        if kind in TREE_CHANGES and path.rstrip("/") not in self.fresh and not self.is_inside(path) and not (kind == MADE_QUIETLY and path in self.names.above):  # guard: those-above
+            self.outside[path.rstrip("/")] = None  # guard: names-outside-of-project
         if life.is_make and life.number >= 0 or life.is_ninja and kind in (READ, ENTERED):
             life.acts.append(Act(self.place, kind, path, word))
         if (kind, path) not in life.events:
@@ -196,24 +196,24 @@ class Replay:
     def found(self, life: Life, path: str, follow: bool, base: str = "", word: str = "") -> Found:
         """Where a path leads a process, from its folder or from `base`; the links on the way are read. `follow`: also a link at the end."""
         if path.startswith(KERNEL):
-            path = plain_path(life, path, self.lives)
-            found = Found(path, None, None, "") if NUMBER.match(path) else self.names.find(base or life.folder, path, follow)
+            path = plain_path(life, path, self.lives)  # guard: processs-own-folder-in-proc
+            found = Found(path, None, None, "") if NUMBER.match(path) else self.names.find(base or life.folder, path, follow)  # guard: not-by-recorders-own-numbers
         else:
             found = self.names.find(base or life.folder, path, follow)
         if found.links:
             self.put_links(life, found, word)
-        if "/.." in path and (not OF_SYSTEM.match(path) or self.is_inside(os.path.normpath(path))):
+        if "/.." in path and (not OF_SYSTEM.match(path) or self.is_inside(os.path.normpath(path))):  # guard: folders-that-path-leaves-again
             self.put_left(life, path, base or life.folder)
         return found
 
     def put_left(self, life: Life, path: str, base: str) -> None:
         """Folders that a path enters and leaves again by `..`: `d/../f` is not there without d."""
-        if NUMBER.match(path):
+        if NUMBER.match(path):  # guard: number-of-descriptor
             self.holes.append("a file is known by the number of its descriptor alone: %s of %s" % (path, " ".join(life.argv)[:100]))
             return
         parts = [part for part in path.split("/") if part not in ("", ".")]
         for at, part in enumerate(parts[1:], 1):
-            if part == ".." != parts[at - 1]:
+            if part == ".." != parts[at - 1]:  # guard: last-folder-that-is-left
                 left = self.names.find("/" if path.startswith("/") else base, "/".join(parts[:at]), True)
                 if left.inode is not None and left.inode.kind == "d":
                     self.put(life, SEEN, left.path)
@@ -221,9 +221,9 @@ class Replay:
     def put_links(self, life: Life, found: Found, word: str = "") -> None:
         """Links on the way are read."""
         for link in found.links:
-            self.put(life, READ, link, word)
+            self.put(life, READ, link, word)  # guard: links-on-way-are-read
             inode = self.names.find("/", link, False).inode
-            if inode is not None and "/.." in inode.target:
+            if inode is not None and "/.." in inode.target:  # guard: what-link-says
                 self.put_left(life, inode.target, os.path.dirname(link))
 
     def look(self, life: Life, path: str, ok: bool, follow: bool, kind: str = SEEN, base: str = "", word: str = "") -> Found:
@@ -236,18 +236,18 @@ class Replay:
         """A look at what was found: an event of this kind where something is there (`ok`), else that it is absent, and the folder on the way too."""
         if ok and found.inode is None and found.folder is not None and self.names.is_walked(found.folder):
             self.names.put(found.folder, found.name, Inode("f"))
-        if kind == SEEN and not life.is_make and life.traits().makes_folders and shelltext.makes(life.argv, found.path):
-            for path in (found.path, *shelltext.above(life.argv, found.path)):
+        if kind == SEEN and not life.is_make and life.traits().makes_folders and shelltext.makes(life.argv, found.path):  # guard: scripts-that-make-folders-are-quiet
+            for path in (found.path, *shelltext.above(life.argv, found.path)):  # guard: extutils-of-perl-those-above
                 self.put(life, MAKER_SEEN, path)
         else:
             self.put(life, kind if ok else ABSENT, found.path, word)
         if not ok and found.missing and found.missing != found.path:
-            self.put(life, WAY_ABSENT if found.path.startswith(found.missing + "/") else ABSENT, found.missing)  # (`d/../f` is there where d is)
+            self.put(life, WAY_ABSENT if found.path.startswith(found.missing + "/") else ABSENT, found.missing)  # (`d/../f` is there where d is)  # guard: folders-that-are-absent-on-way
 
     def open_by_make(self, life: Life, path: str) -> None:
         """A make opens a folder, at which it looked right before: both are one question for the names there."""
         last = life.acts[-1] if life.acts else None
-        if last is not None and last.kind == SEEN and last.path == path:
+        if last is not None and last.kind == SEEN and last.path == path:  # guard: look-right-before-folder-is-opened
             last.kind = MAKE_OPENED
             if life.events.get((SEEN, path)) == last.place:
                 del life.events[SEEN, path]
@@ -256,7 +256,7 @@ class Replay:
     def put_absent(self, life: Life, found: Found, kind: str) -> None:
         """A name that could not be made: that its folder is absent counts too."""
         self.put(life, kind, found.path)
-        if found.missing and found.missing != found.path:
+        if found.missing and found.missing != found.path:  # guard: names-that-cannot-be-made
             self.put(life, ABSENT, found.missing)
 
     def write(self, life: Life, found: Found) -> None:
@@ -266,9 +266,9 @@ class Replay:
             self.names.put(found.folder, found.name, found.inode)
             self.put(life, CREATED, found.path)
         self.put(life, WRITTEN, found.path)
-        if found.inode is not None and found.inode.unknown > 0:
+        if found.inode is not None and found.inode.unknown > 0:  # guard: elsewhere
             self.hard_links.append(found.path)
-        if found.inode is not None and len(found.inode.names) > 1:
+        if found.inode is not None and len(found.inode.names) > 1:  # guard: write-is-of-all-names
             for other in self.names.aliases(found.inode):
                 self.put(life, WRITTEN, other)
 

@@ -14,7 +14,7 @@ from record.trace.strace import KEPT, unescape
 PIECE, WAIT = 1 << 18, 0.05  # bytes of a piece; seconds until more may be there
 SMALL = 1 << 16  # bytes that are read in a hundredth of a second
 SYSTEM = ["usr", "lib", "lib32", "lib64", "etc", "bin", "sbin"]
-AT = r"(?:AT_FDCWD(?:<[^>\n]*>|), |)"  # strace 5.10 names no folder there
+AT = r"(?:AT_FDCWD(?:<[^>\n]*>|), |)"  # strace 5.10 names no folder there  # guard: looks-are-sifted
 RESULT = r"(?:\d|-1 E(?:NO|INVAL))[^\n]*"
 # An open that can change nothing. Other flags may: a line that has them is read.
 READS = r", O_RDONLY(?:\|O_(?:CLOEXEC|NOCTTY|NONBLOCK|DIRECTORY|LARGEFILE|NOFOLLOW|NOATIME|PATH))*\) += "
@@ -22,10 +22,10 @@ READS = r", O_RDONLY(?:\|O_(?:CLOEXEC|NOCTTY|NONBLOCK|DIRECTORY|LARGEFILE|NOFOLL
 # tried before one with two; last, requests that say nothing of a file. What may be absent is an empty choice: Python is slower where it counts.
 LOOKING = (
     r"\n\d+ +(?:(?:readlink|openat|newfstatat|access|faccessat2|readlinkat|open|faccessat|stat|statx|lstat|statfs)\(" + AT + r'"(FOLDERS[^"\n]*)"'
-    r"(?:" + READS + r'|(?!, O_)[^"\n={]*(?:\{[^"\n]*\}[^"\n=]*|)= |, "[^"\n]*"[^"\n={]*= )' + RESULT
+    r"(?:" + READS + r'|(?!, O_)[^"\n={]*(?:\{[^"\n]*\}[^"\n=]*|)= |, "[^"\n]*"[^"\n={]*= )' + RESULT  # guard: opens-that-change-something
     + r'|newfstatat\(\d+<[^>\n]*>, "", [^"\n]* = 0(?=\n|$)'
     + r'|rt_sigprocmask\([^\n]*= 0(?=\n|$)'
-    + r'|(?:fcntl|ioctl)\(\d+(?:<[^>\n]*>|)(?:\(deleted\)|), (?:F_[GS]ETF[DL]|F_DUPFD(?:_CLOEXEC|)|FIOCLEX|TCGETS|TIOCG\w+)\b[^\n]*= ' + RESULT + ")")
+    + r'|(?:fcntl|ioctl)\(\d+(?:<[^>\n]*>|)(?:\(deleted\)|), (?:F_[GS]ETF[DL]|F_DUPFD(?:_CLOEXEC|)|FIOCLEX|TCGETS|TIOCG\w+)\b[^\n]*= ' + RESULT + ")")  # guard: not-sifted-where-they-say
 NAMES = r"(?:creat|rename\w*|unlink\w*|rmdir|mkdir\w*|mknod\w*|link\w*|symlink\w*|truncate|[fl]?ch(?:mod|own)\w*|utime\w*|futimesat)\("
 FLAGS = r"O_(?:WRONLY|RDWR|CREAT|TRUNC)"
 # A name may be relative to a folder of the system: strace shows which file was opened, and where a call with a folder starts from.
@@ -33,7 +33,7 @@ CHANGING = (
     r"\d+ +(?:open|openat2?)\(" + AT + r'"(?:(?:[^"\\]|\\.)*\.\.)?FOLDERS(?:[^"\\]|\\.)*", [^\n]*' + FLAGS + r"|\d+ +(?:open|openat2?)\([^\n]*" + FLAGS
     + r"[^\n]*= \d+<FOLDERS|\d+ +" + NAMES + r'[^\n]*(?:"(?:(?:[^"\\]|\\.)*\.\.)?|<)FOLDERS|\d+ +(?:chdir|fchdir)\([^\n]*(?:"(?:(?:[^"\\]|\\.)*\.\.)?|<)FOLDERS')
 # Texts of Python that do not come with it: python.py asks whether they list folders. Modules of OCaml: modules.py asks which names they hold.
-MODULES = re.compile(rb"(?!.*/lib(?:32|64)?/python[\d.]*/(?!(?:site|dist)-packages/)).*\.pyc?$|.*/(?:site|dist)-packages/.*\.so$|.*\.(?:zip|egg|whl|pyz|cm[iox])$", re.S)
+MODULES = re.compile(rb"(?!.*/lib(?:32|64)?/python[\d.]*/(?!(?:site|dist)-packages/)).*\.pyc?$|.*/(?:site|dist)-packages/.*\.so$|.*\.(?:zip|egg|whl|pyz|cm[iox])$", re.S)  # guard: those-of-system
 # What each line that changes something has: a look for these is quick, and few lines have one.
 MARKS = [re.compile(FLAGS.encode()), re.compile((r"\n\d+ +(?:" + NAMES + r"|f?chdir\()").encode())]
 
@@ -73,7 +73,7 @@ class Skip:
     def counts(self, spelling: bytes) -> bool:
         """Whether a look by a name is read all the same: the name leads out of these folders, or Python or OCaml may take in what is there."""
         real = real_path(unescape(spelling.decode("latin-1")))
-        return any((real + "/").startswith(top.rstrip("/") + "/") for top in self.tops) or not (real + "/").startswith(self.inside) or bool(MODULES.match(spelling))
+        return any((real + "/").startswith(top.rstrip("/") + "/") for top in self.tops) or not (real + "/").startswith(self.inside) or bool(MODULES.match(spelling))  # guard: texts-that-python
 
     def rest(self, lines: bytes) -> bytes:
         """What is left of some lines, each behind a newline, without such looks."""
@@ -88,7 +88,7 @@ class Skip:
 
 def skipping(tops: List[str], counting: Sequence[str] = ()) -> Optional[Skip]:
     """What need not be read where nobody changes a name of the system's folders; nothing of those in which a top is, and not what is `counting`."""
-    safe = [p for p in SYSTEM if not any((t + "/").startswith("/%s/" % p) for t in tops)]
+    safe = [p for p in SYSTEM if not any((t + "/").startswith("/%s/" % p) for t in tops)]  # guard: change-below-top-is-none-elsewhere
     if not safe:
         return None
     folders_of_system = "/(?:%s)(?=[/\">])" % "|".join(safe)
@@ -107,10 +107,10 @@ def pieces(trace: Path, has_ended: Callable[[float], object]) -> Iterator[bytes]
     with open(trace, "rb") as file:
         rest, is_last, read = b"", False, b""
         while read or not is_last:
-            is_last = bool(has_ended(0))  # asked before the read: what is written until then is read
+            is_last = bool(has_ended(0))  # asked before the read: what is written until then is read  # guard: what-is-still-written
             read = file.read(PIECE)
             whole, newline, last = (rest + read).rpartition(b"\n")
-            rest = last
+            rest = last  # guard: lines-of-two-pieces
             if whole:
                 yield whole + newline
             elif not is_last:
@@ -129,7 +129,7 @@ def sift(trace: Path, tops: List[str], to: Path, has_ended: Callable[[float], ob
     with open(part, "wb") as file:
         for piece in pieces(trace, has_ended):
             left = skip.rest(b"\n" + piece.rstrip(b"\n"))
-            if has_change(left, skip.changes):
+            if has_change(left, skip.changes):  # guard: what-somebody-changes-is-read
                 return
             size += file.write(left)
             if size > SMALL and not has_ended(0):

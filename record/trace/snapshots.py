@@ -5,7 +5,7 @@ from typing import Dict, List, Tuple
 from record.trace.events import CREATED, FOLDER_REMOVED, MADE, REMOVED
 
 Change = Tuple[int, str, str]  # the place in the trace, the kind of event, the path
-KINDS = {CREATED: "f", MADE: "d", REMOVED: "", FOLDER_REMOVED: ""}  # what stands there behind an event
+KINDS = {CREATED: "f", MADE: "d", REMOVED: "", FOLDER_REMOVED: ""}  # what stands there behind an event  # guard: folders-that-are-moved
 
 
 class Past:
@@ -17,7 +17,7 @@ class Past:
 
     def until(self, place: int) -> Dict[str, str]:
         """All names and their kinds at a place. The answer holds until the next question."""
-        if place < self.place:
+        if place < self.place:  # guard: what-was-made-in-earlier-place
             self.now, self.at = dict(self.before), 0
         self.place = place
         while self.at < len(self.changes) and self.changes[self.at][0] < place:
@@ -30,6 +30,6 @@ class Past:
         name = path.rstrip("/")
         found = "d" if name != path else KINDS[kind]
         if not found:
-            self.now.pop(name, None)
-        elif found == "d" or name not in self.now:
+            self.now.pop(name, None)  # guard: what-earlier-makes-removed
+        elif found == "d" or name not in self.now:  # guard: folders-that-make-above-made
             self.now[name] = found

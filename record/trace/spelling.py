@@ -19,7 +19,7 @@ def folds(folder: str, names: Iterable[str]) -> bool:
     """Whether a folder that holds some names has one of them under another spelling too."""
     held = set(names)
     name = next((name for name in sorted(held) if other_case(name) != name), "")
-    return name != "" and other_case(name) not in held and machine.lexists(os.path.join(folder, other_case(name)))
+    return name != "" and other_case(name) not in held and machine.lexists(os.path.join(folder, other_case(name)))  # guard: both-names
 
 
 @machine.asked
@@ -27,11 +27,11 @@ def has_two_names(folder: str) -> bool:
     """Whether a folder itself has another spelling."""
     other = os.path.join(os.path.dirname(folder), other_case(os.path.basename(folder)))
     try:
-        return other != folder and not os.path.islink(other) and os.path.samefile(other, folder)
+        return other != folder and not os.path.islink(other) and os.path.samefile(other, folder)  # guard: link-of-folders-name
     except OSError:
         return False
 
 
 def key_of(path: str) -> str:
     """What all spellings of a path have in common."""
-    return unicodedata.normalize("NFC", path).casefold()
+    return unicodedata.normalize("NFC", path).casefold()  # guard: folders-on-way

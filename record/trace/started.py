@@ -31,13 +31,13 @@ class Started(Opened):
 
     def on_execve(self, life: Life, call: Call, ok: bool) -> None:
         """A process begins to run another program: it reads the program, with all that the kernel reads for it, and has other words from here on."""
-        program = first_text(call.args) or "".join(folders(call.args)[:1])
+        program = first_text(call.args) or "".join(folders(call.args)[:1])  # guard: programs-by-their-numbers
         if not program:
             return
         if not ok:
             self.fail_to_run(life, program, call.error)
             return
-        if call.name == "execveat" and CHECKS.search(call.args):
+        if call.name == "execveat" and CHECKS.search(call.args):  # guard: programs-that-are-not-run
             self.look(life, program, True, True, READ)
             return
         words = [program, *texts(call.args)[1:]]
@@ -46,40 +46,40 @@ class Started(Opened):
         self.begin_program(life, words, self.first_words(found.path))
         self.note_rights(life, found.path)
         self.is_open_shell = self.is_open_shell or shelltext.sets_options(life.argv, life.folder)
-        if sets_others(life.argv):
+        if sets_others(life.argv):  # guard: limits-of-others
             self.watchers.append(" ".join(life.argv)[:100])
-        if shellages.asks_reads(life.argv, life.folder):
+        if shellages.asks_reads(life.argv, life.folder):  # guard: said
             self.askers.append(" ".join(life.argv)[:100])
         is_real = self.is_real_make(found.path)
         life.is_make = is_real or life.is_make and life.number >= 0
         if is_real or is_other_make(found.path, self.real):
             self.unheard[id(life)] = " ".join(life.argv)[:200]
         self.look(life, words[0], True, True, READ)
-        self.look_at_interpreters(life, words[0])
-        self.note_handed(life)
+        self.look_at_interpreters(life, words[0])  # guard: interpreters-are-read
+        self.note_handed(life)  # guard: what-unknown-programs-have-open
 
     def take_words(self, life: Life, call: Call, words: List[str], found: Found) -> None:
         """A life has other words from here on, those of a script as its interpreter gets them. `words`: the program, and the words that it is handed."""
         argv = words[1:]
-        life.taken, life.compares_here, life.looks = (), False, 0
-        life.last_look = ""
-        argv = shelltext.with_interpreter(argv, found.path, self.first_words(found.path))
+        life.taken, life.compares_here, life.looks = (), False, 0  # guard: ages-of-folder-that-script-has-just-begun
+        life.last_look = ""  # guard: looks-of-program-before
+        argv = shelltext.with_interpreter(argv, found.path, self.first_words(found.path))  # guard: scripts-are-of-their-interpreter
         life.program = found.path
         life.is_ninja = argv == words[1:] and bool(shelltext.NINJA.match(os.path.basename(found.path)))
         if life.is_ninja:
             life.starts.append((self.place, life.folder))
         life.argv, life.cut, life.begun = argv, is_cut(call.args), self.place
-        if life.cut:
+        if life.cut:  # guard: too-many-words-hole
             self.holes.append("the words of a program are too many to be seen: " + " ".join(argv)[:100])
         life.ran.append(argv)
 
     def open_words(self, life: Life, name: str, ok: bool) -> None:
         """A make opens the file for what it says: so it is one, whatever its program is called. One that begins again has its number already."""
         match = OF_MAKE.match(name)
-        if match is None or not ok or int(match[1]) != life.pid:
+        if match is None or not ok or int(match[1]) != life.pid:  # guard: file-of-another-make
             return
         self.unheard.pop(id(life), None)
-        life.is_make, life.is_query = True, name in self.silent
+        life.is_make, life.is_query = True, name in self.silent  # guard: make-whatever-its-program-is-called
         if not life.is_query:
             life.number = int(match[2])
             life.starts.append((life.begun, life.folder))
@@ -87,13 +87,13 @@ class Started(Opened):
     @property
     def past(self) -> List[str]:
         """The makes that have not opened a file for what they say: they have no library."""
-        return list(self.unheard.values())
+        return list(self.unheard.values())  # guard: makes-without-library
 
     def fail_to_run(self, life: Life, program: str, error: str) -> None:
         """A program did not start. Where the kernel does not know what kind of file it is, bash reads it itself, as a script."""
         found = self.look(life, program, False, True)
-        self.look_at_interpreters(life, program)
-        life.taken += (found.path,) if error == "ENOEXEC" and life.traits().is_shell else ()
+        self.look_at_interpreters(life, program)  # guard: interpreters
+        life.taken += (found.path,) if error == "ENOEXEC" and life.traits().is_shell else ()  # guard: texts-that-bash-reads-itself
 
     def note_handed(self, life: Life) -> None:
         """A program may ask how old a file is that a shell has opened for it, and no call names that."""
@@ -105,8 +105,8 @@ class Started(Opened):
     def note_search(self, life: Life, path: str, ok: bool) -> None:
         """bash looks at `.` before it searches for a program, and then in the first folder of `PATH`: that was no question for an age. It looks
         there without a search for what it has found before: so what is there does not count."""
-        if life.sought and not ok and os.path.dirname(path) == self.first_place and is_bash(life.argv):
-            life.events.pop((AGE_SEEN, life.sought), None)
+        if life.sought and not ok and os.path.dirname(path) == self.first_place and is_bash(life.argv):  # guard: searches-of-another-shell
+            life.events.pop((AGE_SEEN, life.sought), None)  # guard: programs-that-bash-searches
         life.sought = ""
 
     @staticmethod
@@ -130,11 +130,11 @@ class Started(Opened):
         """The kernel reads the interpreter of a script by itself, and that of an interpreter which is a script; so it does with the loader of a program."""
         for _ in range(SCRIPTS):
             path = self.names.find(life.folder, program, True).path
-            words = interpreter_words(path) if self.is_inside(path) else self.first_words(path)
+            words = interpreter_words(path) if self.is_inside(path) else self.first_words(path)  # guard: loaders-are-read
             if not words:
                 return
             program = words[0]
-            found = self.found(life, program, True)
+            found = self.found(life, program, True)  # guard: ways-interpreters
             if self.is_real_make(found.path):  # the kernel runs make in the script's place
                 self.unheard.setdefault(id(life), " ".join(life.argv)[:200])
             self.put_look(life, found, found.inode is not None, READ)
@@ -143,5 +143,5 @@ class Started(Opened):
         """Whether nobody knows if a program compares the ages of what it looks at, or of what it has opened."""
         traits = life.traits()
         if traits.is_open is None:
-            traits.is_open = (runs_unseen if traits.is_shell else shellages.may_show_ages)(life.argv, life.folder)
+            traits.is_open = (runs_unseen if traits.is_shell else shellages.may_show_ages)(life.argv, life.folder)  # guard: programs-that-may-show-ages
         return not life.is_make and (not traits.is_ageless or bool(traits.is_open) or self.is_inside(life.program))

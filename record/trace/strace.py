@@ -9,11 +9,11 @@ KEPT, SHORT = 1 << 14, 1000  # how many texts are remembered, and how long they 
 Answer = TypeVar("Answer")
 # A whole call: its name, its arguments, its result, what the descriptor that it gave leads to, and the error.
 # `openat(AT_FDCWD</w>, "x", O_RDONLY) = 3</w/x>`, `stat("y", 0x7ffd) = -1 ENOENT (No such file or directory)`
-CALL = re.compile(r"(\w+)\((.*)\)\s+= (-?\d+|0x[0-9a-f]+|\?)(?:<((?:[^<>\\]|\\.)*)>(?:\(deleted\))?)?(?: (E\w+))?(?: \(.*\))?$", re.S)
+CALL = re.compile(r"(\w+)\((.*)\)\s+= (-?\d+|0x[0-9a-f]+|\?)(?:<((?:[^<>\\]|\\.)*)>(?:\(deleted\))?)?(?: (E\w+))?(?: \(.*\))?$", re.S)  # guard: files-that-are-gone
 ESCAPE = re.compile(r"\\([0-7]{1,3}|x[0-9a-f]{2}|.)", re.S)  # one byte in a text: `\303`, `\n`, `\"`
-TEXT = re.compile(r'(?<!\\)"((?:[^"\\]|\\.)*)"(\.\.\.)?')  # `"x"`, or `"xx"...` if it is cut; behind a backslash a quote is a sign in the name of a descriptor
+TEXT = re.compile(r'(?<!\\)"((?:[^"\\]|\\.)*)"(\.\.\.)?')  # `"x"`, or `"xx"...` if it is cut; behind a backslash a quote is a sign in the name of a descriptor  # guard: marks-behind-descriptors
 # A descriptor, and what it leads to: `AT_FDCWD</w>`, `3</w/x>`. strace 5.10 writes `AT_FDCWD` alone: the folder of the process.
-FOLDER = re.compile(r"(?:AT_FDCWD|\d+)<((?:[^<>\\]|\\.)*)>|AT_FDCWD(?!<)")
+FOLDER = re.compile(r"(?:AT_FDCWD|\d+)<((?:[^<>\\]|\\.)*)>|AT_FDCWD(?!<)")  # guard: strace-does-not-name
 BARE = re.compile(r"(?:^|, )\d+(?:,|$)")  # a descriptor of which strace knows no name
 PLAIN = {"n": "\n", "t": "\t", "r": "\r", "v": "\v", "f": "\f"}
 
@@ -109,7 +109,7 @@ def texts(args: str) -> List[str]:
 
 def is_cut(args: str) -> bool:
     """Whether strace has shown only the beginning of a text."""
-    return any(match.group(2) for match in TEXT.finditer(args)) or ", ...]" in re.sub(TEXT, '""', args)
+    return any(match.group(2) for match in TEXT.finditer(args)) or ", ...]" in re.sub(TEXT, '""', args)  # guard: not-where-text-says-so
 
 
 def folders(args: str) -> List[str]:
@@ -123,7 +123,7 @@ UNFINISHED = "<unfinished ...>"
 
 def ends(pid: int, text: str) -> List[Event]:
     """What a line about the end of a process says: also that the kernel has kept its memory."""
-    kept: List[Event] = [Call(pid, "core", "", 0, "")] if "(core dumped)" in text else []
+    kept: List[Event] = [Call(pid, "core", "", 0, "")] if "(core dumped)" in text else []  # guard: memory-that-is-kept
     return kept + ([] if "superseded" in text else [Ended(pid)])
 
 
@@ -144,28 +144,28 @@ def read_trace(lines: Iterable[str]) -> Iterator[Event]:
                 continue
         call = said(text)
         if call is None:
-            if not text.endswith("= ?"):
+            if not text.endswith("= ?"):  # guard: unreadable-call
                 yield Unread(line.strip())
         elif call.result is not None:
             yield Call(pid, *call)  # type: ignore[arg-type]
-        elif call.name.startswith("open"):  # it waited for another process, as at a named pipe, until a signal came
+        elif call.name.startswith("open"):  # it waited for another process, as at a named pipe, until a signal came  # guard: opens-that-signal-ends
             yield Call(pid, call.name, call.args, -1, "ENXIO")
 
 
 def odd(line: str, pid: Optional[int], text: str, begun: Dict[int, str]) -> Tuple[List[Event], str]:
     """What a line says that is no whole call, and the text of a call that is finished by it."""
     if pid is None:
-        return ([Unread(line.strip())] if line.strip() else []), ""
+        return ([Unread(line.strip())] if line.strip() else []), ""  # guard: no-process-number
     if text.startswith("+++"):
         return ends(pid, text), ""
     if text.startswith("---"):
         return [], ""
     if text.endswith(UNFINISHED):
         begun[pid] = text[: -len(UNFINISHED)].rstrip()
-        return ([Begun(pid, "CLONE_FS" in text)] if text.startswith(MAKES_PROCESS) else []), ""
+        return ([Begun(pid, "CLONE_FS" in text)] if text.startswith(MAKES_PROCESS) else []), ""  # guard: begun-before-call-ends
     if not text.startswith("<... "):
         return ([] if text else [Unread(line.strip())]), text
     first = begun.pop(pid, None)
     if first is None:
-        return ([] if " = ?" in text else [Unread(line.strip())]), ""
+        return ([] if " = ?" in text else [Unread(line.strip())]), ""  # guard: end-without-beginning
     return [], first + text[text.index("resumed>") + len("resumed>"):]

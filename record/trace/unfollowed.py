@@ -44,7 +44,7 @@ def first_unknown() -> int:
     low, high = FIRST, FIRST + len(NEWER)
     while low < high:
         middle = (low + high) // 2
-        low, high = (middle + 1, high) if is_known(middle) else (low, middle)
+        low, high = (middle + 1, high) if is_known(middle) else (low, middle)  # guard: this-strace
     return low
 
 
@@ -52,7 +52,7 @@ def filter_of(machine: str, first: int) -> bytes:
     """The filter that refuses io_uring and the calls from a number on; empty for a machine that numbers calls in its own way."""
     kinds = MACHINES.get(machine, ())
     steps = [(LOAD, 0, 0, 4), *((IS, len(kinds) - at, 0, kind) for at, kind in enumerate(kinds)), (ANSWER, 0, 0, ALLOW)]
-    steps += [(LOAD, 0, 0, 0), (IS, 2, 0, URING), (FROM, 0, 2, first), (FROM, 1, 0, OTHER), (ANSWER, 0, 0, REFUSE), (ANSWER, 0, 0, ALLOW)]
+    steps += [(LOAD, 0, 0, 0), (IS, 2, 0, URING), (FROM, 0, 2, first), (FROM, 1, 0, OTHER), (ANSWER, 0, 0, REFUSE), (ANSWER, 0, 0, ALLOW)]  # guard: io-uring
     return b"".join(struct.pack("=HBBI", *step) for step in steps) if kinds else b""
 
 
@@ -71,4 +71,4 @@ class Older:
         kept = ctypes.create_string_buffer(self.text, len(self.text))
         program = struct.pack("@HP", len(self.text) // 8, ctypes.addressof(kept))
         self.prctl(NO_NEW_RIGHTS, ctypes.c_ulong(1), ctypes.c_ulong(0), ctypes.c_ulong(0), ctypes.c_ulong(0))
-        self.prctl(SECCOMP, ctypes.c_ulong(FILTER), program, ctypes.c_ulong(0), ctypes.c_ulong(0))
+        self.prctl(SECCOMP, ctypes.c_ulong(FILTER), program, ctypes.c_ulong(0), ctypes.c_ulong(0))  # guard: calls-without-names-do-not-run

@@ -104,9 +104,9 @@ def without_values(lines: Iterable[str]) -> Iterator[str]:
         if is_public(line):
             pass
         elif is_own and line.startswith("define "):
-            left = start.environment.get(line[len("define "):].rstrip("\n"), "").count("\n") + 1
+            left = start.environment.get(line[len("define "):].rstrip("\n"), "").count("\n") + 1  # guard: values-of-several-lines
         elif is_own or line.startswith("ENV "):
-            line = line.partition("=")[0] + "=\n"
+            line = line.partition("=")[0] + "=\n"  # guard: values-of-environment
         is_own = line.startswith("# environment")
         yield line
 

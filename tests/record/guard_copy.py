@@ -18,7 +18,7 @@ from types import CodeType
 from typing import Callable, Dict, Iterable, Iterator, List, Optional, Set, Tuple
 
 import forked
-from guard_table import Guard
+from guard import Guard
 from kept import may_replay
 from patched import Loaded, Patch, apply
 
@@ -120,21 +120,14 @@ class Copy:
 
     @contextmanager
     def without(self, guard: Guard) -> Iterator[str]:
-        """Turns a guard off meanwhile; what is wrong with its text, or nothing."""
+        """Turns a guard off meanwhile; what is wrong with its marker, or nothing."""
+        source, path = (top / self.packages[0] / guard.module for top in (TOP, self.top))
+        text = guard.off(source.read_text())
+        path.write_text(text)
         try:
-            yield "".join(self.replace(*edit) for edit in guard.edits())
+            yield "" if text else "one line of %s has to end in the marker" % guard.module
         finally:
-            for module in guard.modules():
-                shutil.copy2(TOP / self.packages[0] / module, self.top / self.packages[0] / module)
-
-    def replace(self, module: str, old: str, new: str) -> str:
-        """Replaces a text of a module that stands there once; what is wrong with it, or nothing."""
-        path = self.top / self.packages[0] / module
-        text = path.read_text()
-        if text.count(old) != 1:
-            return "the text stands %d times in %s: %s" % (text.count(old), module, old)
-        path.write_text(text.replace(old, new))
-        return ""
+            shutil.copy2(source, path)
 
     def uses(self, modules: Iterable[str]) -> Set[str]:
         """These modules, and all that import them, at once or by way of others."""
@@ -212,7 +205,7 @@ def fault_of(guard: Guard, copy: Copy) -> str:
     with copy.without(guard) as fault:
         if fault:
             return fault
-        output = copy.test([guard.test], guard.modules())
+        output = copy.test([guard.test], [guard.module])
     if copy.stops(output):
         return "the %s stops in place of a wrong answer:\n%s" % ("recorder" if type(copy) is Copy else "companion", output[-1500:])
     if not re.search(r"(?m)^FAILED \(failures=\d+\)$", output):

@@ -13,10 +13,7 @@ from fuzz_ninja import NinjaDraw, NinjaProject
 from fuzz_placed import PlacedDraw
 from fuzz_places import FOLDERS, INPUTS, OUTPUTS, VARIABLES, Place, draw_place, has_terminals
 from fuzz_projects import Block, Draw, Project, load
-from guard_found import FOUND_GUARDS
-from guard_hidden import HIDDEN_GUARDS
-from guard_shapes import SHAPES
-from guard_table import GUARDS
+from guard_tables import GUARDS
 from record.build.assumptions import TEXTS
 from record.ninja.manifest import read_manifest
 
@@ -188,12 +185,8 @@ class Projects(unittest.TestCase):
             self.assertIn(word, text)
         self.assertEqual({"-j1"}, {word for project in drawn for word in project.recorded})
         self.assertTrue(any(p.is_script for p in drawn) and any(p.head for p in drawn) and any(p.values for p in drawn))
-        for name in {*SHAPES.values()} - set(COMMANDS):
+        for name in {guard.shape for guard in GUARDS if guard.shape} - set(COMMANDS):
             self.assertTrue(all(block.text for block in GadgetDraw(1, [name]).draw().blocks), name)
-
-    def test_shapes_of_guards(self) -> None:
-        names = {guard.name for guard in GUARDS + FOUND_GUARDS + HIDDEN_GUARDS}
-        self.assertEqual(set(), set(SHAPES) - names)
 
     def test_manifests(self) -> None:
         """A seed is a manifest; over many seeds each kind of statement is drawn, and ninja reads what is drawn."""

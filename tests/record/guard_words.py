@@ -1,0 +1,33 @@
+"""The guards of what make says, and the library in it; guard.py says what each part of one is."""
+
+from typing import List
+
+from guard import FALSE_RACE, LOST_HOLE, WITHHELD, YES, Guard, guards
+
+GUARDS: List[Guard] = [
+    *guards("make/words.py",
+        ("targets-that-were-given-up-for-makefile", r"""FAILED = re.compile(r"^ *(?:Failed to remake) target file '(.*)'\.$")""", "hunted.Makefiles.target_that_is_given_up_for_a_makefile", LOST_HOLE),
+        ("each-time", "return found ", "words.Copies.one_for_each_time"),
+        ("later-ones", "return False", "edges.Older.wildcard_of_a_make_inside", "False != True"),
+        ("errors-that-are-kept-with-output", "return self.errors", "sought.Makefiles.folder_made_or_true_in_a_make_with_errors", YES),
+        ("errors-that-are-kept-with-output", "return self.errors or self.output", "sought.Makefiles.folder_made_or_true_in_a_make_with_output", FALSE_RACE),
+        ("recipe-that-goes-on-in-next-round", "self.stack, self.children = [], {}", "found.Several.recipe_that_goes_on_in_the_next_round"),
+        ("jobs-of-one-number-in-order", "if pid not in self.words.jobs:", "owners.Holes.number_of_two_jobs"),
+        ("not-whole-hole", "elif False:", "long.Lines.a_line_that_is_not_whole_is_a_hole"),
+        ("one-build-each", "elif False:", "small.Makefiles.race_among_makefiles", YES),
+        ("lines-that-look-like-its-own-are-hole", "if False:", "places.Makefiles.text_with_lines_like_those_of_the_data_base", LOST_HOLE),
+        ("data-base-that-is-not-whole", "if False:", "words.Holes.data_base_that_is_cut"),
+        ("macro-without-end", 'words.holes += ["the data base of a make has a macro of several lines without an end: make " + words.args] if False else []', "words.Holes.macro_without_an_end"),
+        ("recipes-that-it-does-not-show", 'words.holes += ["the data base of a make does not show the recipe of a target that ran: " + unread] if False else []',
+         "calls.Makefiles.target_that_begins_like_a_remark", LOST_HOLE),
+        ("not-makefiles-that-failed", "if not ran.isdisjoint(one.below(name)):", "hidden.Makefiles.failure_of_a_makefile_that_need_not_be_there", WITHHELD),
+        ("not-makefiles-that-failed", "if name in needed:", "hunted.Makefiles.target_without_a_rule_for_a_makefile", WITHHELD),
+        ("recipes-that-failed-for-makefile", "pass", "hidden.Makefiles.failure_for_a_makefile_that_need_not_be_there", LOST_HOLE),
+        ("makes-that-are-not-understood", "if False:", "hunted.Language.make_that_is_not_understood"),
+        ("data-base-of-make-that-goes", "if False:", "words.Holes.data_base_that_a_recipe_prints_whole"),
+    ),
+    *guards("watch/files.py",
+        ("values-of-several-lines", r'left = start.environment.get(line[len("define "):].rstrip("\n"), "").count("?") + 1', "watch.Lines.without_values"),
+        ("values-of-environment", "pass", "laid.Secret.record"),
+    ),
+]
