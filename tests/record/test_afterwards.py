@@ -79,7 +79,3 @@ for key, one in AFTERWARDS.items():
     setattr(Makefiles, "test_" + key, test_of(key, one))
 for key, one in OF_NINJA.items():
     setattr(Ninja, "test_" + key, test_of(key, one))
-
-
-if __name__ == "__main__":
-    unittest.main()

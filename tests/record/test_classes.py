@@ -14,7 +14,7 @@ import support
 from record.trace import classes, unfollowed
 from record.trace.calls import HANDLERS
 from test_replay import TOP, events_of, lives_of, played
-from test_skips import Skips
+from test_sifting import Skips
 
 HEADERS = ("/usr/include/asm-generic/unistd.h", "/usr/include/%s-linux-gnu/asm/unistd_64.h" % platform.machine(), "/usr/include/%s-linux-gnu/asm/unistd_32.h" % platform.machine())
 OTHERS = (classes.HIDING, classes.SHARING, classes.UNFOLLOWED, set(HANDLERS))
@@ -188,7 +188,3 @@ class Recorded(unittest.TestCase):
             outcome = project.record()
         self.assertEqual(0, outcome.status)
         self.assertIn("who asks for a lock of a file", outcome.text())
-
-
-if __name__ == "__main__":
-    unittest.main()

@@ -132,7 +132,3 @@ class Children(unittest.TestCase):
         before = os.getcwd(), sys.argv[:], sys.stdout, sys.stderr
         self.ran("import os\nos.chdir('/')\n", "a")
         self.assertEqual(before, (os.getcwd(), sys.argv, sys.stdout, sys.stderr))
-
-
-if __name__ == "__main__":
-    unittest.main()

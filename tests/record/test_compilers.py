@@ -225,7 +225,3 @@ class Libtool(unittest.TestCase):
         self.assertEqual(["*"], self.of("--mode=clean rm -f a.lo"))
         for text in ("echo *\n", "echo * # as ltmain.sh does\n", "# library-building support\necho *\n"):
             self.assertEqual(["*"], self.of("--mode=link cc -o liba.la a.lo", text))
-
-
-if __name__ == "__main__":
-    unittest.main()

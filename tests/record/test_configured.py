@@ -186,7 +186,3 @@ class Again(unittest.TestCase):
             outcome = again(project, "--warm")
             self.assertEqual(1, outcome.status)
             self.assertIn("MISSING  kept", outcome.text())
-
-
-if __name__ == "__main__":
-    unittest.main()

@@ -5,6 +5,11 @@ from typing import List
 
 import support  # noqa: F401
 from record.make.database import Base, Colons, read_base
+from record.make.globs import composes
+from record.trace.strace import folders, said, texts
+from test_small import Small, makefiles
+
+ROW = "all: a b%s\na: ; echo 1 > x; touch a\nb: ; cat x > b\n%s"
 
 TEXT = """# Make data base, printed on Monday
 # Implicit Rules
@@ -43,7 +48,6 @@ d:: three
 # files hash-table stats:
 late: x
 # Finished Make data base on Monday"""
-
 
 class Reads(unittest.TestCase):
     """What each part of the text says."""
@@ -101,5 +105,38 @@ class Lines(unittest.TestCase):
         self.assertEqual(["a.o"], self.prerequisites("lib.a(a.o): a.o"))
 
 
-if __name__ == "__main__":
-    unittest.main()
+Makefiles = makefiles(__name__, {
+    # what make looks for when it first considers a target, though what that needs is made later
+    "search_path_of_a_pattern": Small("race", "vpath %.c v w\nall: g t\ng: ; rm v/x.c; touch g\nt: x.c ; touch t log\n", {"v/x.c": "1", "w/x.c": "2", "t": "t"}, "touch -d 2001-01-01 w/x.c; touch -d 2002-01-01 t"),
+    # one job at a time
+    "not_parallel_as_a_prerequisite": Small("race", ROW % ("", "c: .NOTPARALLEL\n")),
+    "not_parallel": Small("safe", ROW % ("", ".NOTPARALLEL:\n")),
+})
+
+
+class Texts(unittest.TestCase):
+    """What stands in lines and texts."""
+
+    def test_quote_behind_a_descriptor(self) -> None:
+        found = said(r'openat(AT_FDCWD</q\"r\">, "a>\"b", O_RDONLY) = 3</q\"r\"/a\76\"b>')
+        self.assertIsNotNone(found)
+        args = found.args if found is not None else ""
+        self.assertEqual((['a>"b'], ['/q"r"']), (texts(args), folders(args)))
+        self.assertEqual('/q"r"/a>"b', found.opened if found is not None else "")
+
+    def test_backslash_and_quote_behind_a_descriptor(self) -> None:
+        found = said(r'renameat(3</q\\\"4>, "1<\"", 5</r>, "2>") = 0')
+        args = found.args if found is not None else ""
+        self.assertEqual((['1<"', "2>"], ['/q\\"4', "/r"]), (texts(args), folders(args)))
+
+    def test_names_of_functions(self) -> None:
+        for text in ("$(call $(E)al,x)", "$(call e$E,x)", "${call ${A}${B},x}", "F = $(E)al\n$(call $(F),x)"):
+            self.assertTrue(composes(text, "eval"), text)
+        for text in ("$(call $(F),x)", "$(call $(1)_rule,x)", "F = $(E)al", "$(E)val $(call f,x)", "$(call f,$(E)al)"):
+            self.assertFalse(composes(text, "eval"), text)
+
+    def test_not_parallel_that_is_no_target(self) -> None:
+        head = ["# Make data base", "# Files", ""]
+        self.assertTrue(read_base([*head, ".NOTPARALLEL:"]).serial)
+        self.assertFalse(read_base([*head, "# Not a target:", ".NOTPARALLEL:"]).serial)
+        self.assertTrue(read_base([*head, "# Not a target:", "x:", "", ".NOTPARALLEL:"]).serial)

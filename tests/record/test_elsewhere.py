@@ -1,11 +1,8 @@
 """Small makefiles with ages for which somebody asks elsewhere: a later make, a make above, the script that calls make; and ages of folders and
 links that recipes make."""
 
-import unittest
-from typing import Dict
-
 import support  # noqa: F401
-from test_small import COMMANDS, Small, test_of
+from test_small import COMMANDS, Small, makefiles
 
 # Two recipes that nothing orders make x and y; with one job x is newer.
 SIDE = "all: y x\ns: ; touch s\ny: s ; touch y\nx:%s ; touch x\n"
@@ -27,7 +24,7 @@ COMMANDS.update({
     "names_in_their_order_for_a_script": ["sh", "-c", "make && find d > z"],
 })
 
-ELSEWHERE: Dict[str, Small] = {
+Makefiles = makefiles(__name__, {
     # other makes
     "ages_for_a_second_make": Small("race", "", {"a.mk": FIRST, "b.mk": AGAIN}),
     "ages_for_a_make_behind_another": Small("race", "all: ; $(MAKE) -f a.mk; $(MAKE) -f b.mk\n", {"a.mk": FIRST, "b.mk": AGAIN}),
@@ -62,16 +59,4 @@ ELSEWHERE: Dict[str, Small] = {
     "age_of_an_empty_folder_in_order": Small("safe", FOLDER.replace("y: ;", "y: d ;") % ("mkdir d", NEWER)),
     "age_of_a_link_for_a_make_inside": Small("race", FOLDER % ("ln -s q d", "$(MAKE) -s -L -f b.mk"), {"q": "", "b.mk": "all: y\ny: d ; @echo again >> y\nd: ;\n"}, "touch -d 2001-01-01 q"),
     "age_behind_a_link_for_a_make_inside": Small("safe", FOLDER % ("ln -s q d", "$(MAKE) -s -f b.mk"), {"q": "", "b.mk": "all: y\ny: d ; @echo again >> y\nd: ;\n"}, "touch -d 2001-01-01 q"),
-}
-
-
-class Makefiles(unittest.TestCase):
-    """One method for each makefile of the table."""
-
-
-for key, one in ELSEWHERE.items():
-    setattr(Makefiles, "test_" + key, test_of(key, one))
-
-
-if __name__ == "__main__":
-    unittest.main()
+})

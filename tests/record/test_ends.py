@@ -352,7 +352,3 @@ class Words(unittest.TestCase):
 
     def test_files_that_cannot_be_copied(self) -> None:
         self.assertEqual("no room", reason(shutil.Error([("a", "b", "no room"), ("c", "d", "no room")])))
-
-
-if __name__ == "__main__":
-    unittest.main()

@@ -180,7 +180,3 @@ class Locales(unittest.TestCase):
             self.assertEqual((status, shown), other[:2])
             self.assertEqual((1, True), (status, "\u00e9.h".encode() in shown), shown)
             self.assertEqual(3, self.alike("confirm", [os.fsdecode(b"no\xff\xc3\xa9")], project.folder)[0])
-
-
-if __name__ == "__main__":
-    unittest.main()

@@ -29,7 +29,3 @@ class Example(unittest.TestCase):
     def test_they_differ_in_one_rule(self) -> None:
         texts = [set((EXAMPLE / name).read_text().splitlines()) for name in ("Makefile", "Makefile-fixed")]
         self.assertEqual({"build/main.o build/util.o: build/table.h"}, {t for t in texts[1] - texts[0] if not t.startswith("#")})
-
-
-if __name__ == "__main__":
-    unittest.main()

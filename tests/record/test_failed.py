@@ -118,7 +118,3 @@ class Failed(unittest.TestCase):
     def test_make_inside_a_command_of_ninja(self) -> None:
         holes, _ = self.failed("b: ; false\n", {"build.ninja": RULES + "build b: sh\n  c = make b && touch b\n"}, ("ninja",))
         self.assertIn(holes, [["the build ended with status %d; the recipe of b failed first (Makefile:1, make b)" % status] for status in (1, 2)])  # ninja 1.13 hands on that of make
-
-
-if __name__ == "__main__":
-    unittest.main()

@@ -2,12 +2,12 @@
 
 import shlex
 import unittest
-from typing import Dict, List
+from typing import List
 
 import support  # noqa: F401
 from record.tools.findwords import find_patterns
 from record.trace.lives import Life
-from test_small import Small, test_of
+from test_small import Small, makefiles
 
 LISTS = "all: x y\nx: ; touch d/%s x\ny: ; find d %s > y\n"
 KEPT = {"d/k.c": ""}
@@ -50,7 +50,7 @@ class Words(unittest.TestCase):
         self.assertEqual([], asked("finder . -name x"))
 
 
-FINDS: Dict[str, Small] = {
+Makefiles = makefiles(__name__, {
     "find_by_another_name": Small("safe", LISTS % ("n.o", "-name '*.c'"), KEPT),
     "find_by_this_name": Small("race", LISTS % ("n.c", "-name '*.c'"), KEPT),
     "find_by_one_of_two_names": Small("race", LISTS % ("n.h", "-name '*.c' -o -name '*.h'"), KEPT),
@@ -59,16 +59,4 @@ FINDS: Dict[str, Small] = {
     "find_of_a_folder_that_python_uses": Small("race", "all: y x\nx: ; mkdir -p d/__pycache__; touch x\ny: ; find d -type d > y\n", KEPT),
     "find_in_a_folder_that_is_made": Small("race", "all: y x\nx: ; mkdir -p d/new; touch d/new/n.c x\ny: ; find d -name '*.c' > y\n", KEPT),
     "find_of_any_name": Small("race", LISTS % ("n.o", "-type f"), KEPT),
-}
-
-
-class Makefiles(unittest.TestCase):
-    """One test for each makefile of the table."""
-
-
-for key, one in FINDS.items():
-    setattr(Makefiles, "test_" + key, test_of(key, one))
-
-
-if __name__ == "__main__":
-    unittest.main()
+})

@@ -11,6 +11,15 @@ from record.make.owners import Owners
 from record.make.words import read_words
 from record.trace.lives import Life
 from record.trace.names import Inode, Names
+from test_small import Small, makefiles
+
+OWNED = "U := $(shell id -un)\nall: a b\na: ; install -d -o $U -m %s d; touch d/$@ $@\nb: ; install -d -o $U d -m %s; touch d/$@ $@\n"
+ABOVE = "all: sub\nsub: mk ; $(MAKE) -C in\nmk: ; umask 022; mkdir -m %d b; touch mk\n"
+MODES = "all: a c\na: ; chmod 755 ../b; touch a\nc: ; ls -d ../b > c\n"
+PAIR = "all: x y\nx: ; mkdir -p out; touch x\ny: ; %s; touch y\n"
+# Recipes for which make itself makes the folder of their target, as many of git's makefile.
+AHEAD = "$(if $(wildcard $(@D)),,%s$(shell mkdir -p $(@D)))"
+FIRST = "F = " + AHEAD + "\nall: out/a out/b\ns: ; touch s\nout/a: s ; $(F)\n\techo a > $@\n"
 
 TOP = "/w"
 Events = Sequence[Tuple[str, str]]
@@ -133,5 +142,24 @@ class Ages(unittest.TestCase):
         self.assertEqual({"d/@time": ("a", "b")}, meetings(build_of(AB, {"a": [("C", "d/x")], "b": [("A", "d")]}, {"d": "d"})))
 
 
-if __name__ == "__main__":
-    unittest.main()
+Makefiles = makefiles(__name__, {
+    # names that cannot be made, as their folder is not there, or is full
+    "folder_that_is_closed": Small("race", "all: a u\na: ; chmod 600 d; touch a\nu: ; cat d/x > u\n", {"d/x": "x"}),
+    "folder_that_is_not_closed": Small("safe", "all: a u\na: ; chmod 700 d; touch a\nu: ; cat d/x > u\n", {"d/x": "x"}),
+    # folders that several recipes give an owner
+    "folder_of_one_owner_that_was_there": Small("race", OWNED % ("755", "755"), setup="mkdir -m 700 d"),
+    "folder_of_one_owner_whose_mode_is_changed": Small("race", OWNED % ("755", "755; chmod 700 d")),
+    # `.exists` files of Perl's makefiles
+    "mode_that_a_make_above_has_set": Small("safe", ABOVE % 755, {"in/Makefile": MODES}),
+    "mode_of_a_folder_that_is_found": Small("race", PAIR % "umask 077; test -d out || mkdir -p out"),
+    "mode_of_a_folder_that_is_found_by_no_bits": Small("race", "all: x y\nx: ; umask 022; install -d out; touch x\ny: ; umask 0; test -d out || mkdir -p out; touch y\n"),
+    "mode_of_a_folder_that_is_installed": Small("safe", "all: x y\nx: ; umask 022; install -d out; touch x\ny: ; umask 022; test -d out || mkdir -p out; touch y\n"),
+    # folders that a recipe makes, and uses before that
+    "folder_made_before_its_use": Small("safe", PAIR % "mkdir -p out; touch out/y"),
+    "folder_made_behind_its_use": Small("race", PAIR % "touch out/y; mkdir -p out"),
+    "folder_asked_for_behind_its_use": Small("race", PAIR % "touch out/y; test -d out || mkdir -p out"),
+    "folder_made_twice": Small("safe", PAIR % "mkdir -p out; touch out/y; mkdir -p out"),
+    "folder_made_behind_its_use_and_waited_for": Small("safe", PAIR.replace("y: ;", "y: x ;") % "touch out/y; mkdir -p out"),
+    # folders that make itself makes for a recipe
+    "folder_that_make_makes_ahead": Small("safe", FIRST % "" + "out/b: ; $(F)\n\techo b > $@\n"),
+})

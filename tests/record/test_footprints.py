@@ -72,7 +72,3 @@ class Agreement(unittest.TestCase):
             with self.subTest(name):
                 recorded, checked, text = self.verdicts(name)
                 self.assertEqual((wanted, wanted), (recorded, checked), text)
-
-
-if __name__ == "__main__":
-    unittest.main()

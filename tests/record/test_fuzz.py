@@ -207,7 +207,3 @@ class Projects(unittest.TestCase):
         one, two = Outcome(0, {"a": "f 1"}), Outcome(0, {"a": "f 2"})
         self.assertEqual(["a: f 2 for f 1", "", "status 2 for 0"], [differences(one, two, []), differences(one, two, ["a"]), differences(one, Outcome(2, {}), [])])
         self.assertEqual([], assumptions("SAFE\n"))
-
-
-if __name__ == "__main__":
-    unittest.main()

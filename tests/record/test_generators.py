@@ -146,7 +146,3 @@ class Meson(unittest.TestCase):
             outcome = project.record(["ninja", "-C", "b"])
             found = missing(project.folder / "b")
         self.assertEqual((0, 0, []), (outcome.status, (outcome.record or {})["missingdeps"], found), outcome.text() + outcome.stderr.decode()[-800:])
-
-
-if __name__ == "__main__":
-    unittest.main()

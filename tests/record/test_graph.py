@@ -9,6 +9,9 @@ from record.make.graph import Graph
 from record.make.owners import Make
 from record.make.words import read_words
 from record.trace.lives import Life
+from test_small import Small, makefiles
+
+COLONS = "all: dc u\ndc:: ; echo 1 >> dc\n%sdc:: ; echo 2 >> dc\nu: dc ; cat dc > u\nx: ; touch x\n"
 
 
 def graph_of(considered: str, base: str, jobs: List[str]) -> Graph:
@@ -100,5 +103,12 @@ class Order(unittest.TestCase):
         self.assertEqual([0, 1, 3, 0], befores([set(), {0}, {1}, set()], [0, 1, 2, 3]))
 
 
-if __name__ == "__main__":
-    unittest.main()
+Makefiles = makefiles(__name__, {
+    # names with blanks
+    "name_with_a_blank_beside_another": Small("race", "all: x u\nx a\\ b &: ; echo new > a; touch x 'a b'\nu: a ; cp a u\n", {"a": "a"}),
+    # rules of one double-colon target, of which some have no recipe
+    "rule_without_a_recipe": Small("race", COLONS % "dc:: x\n"),
+    "rule_with_an_empty_recipe": Small("race", COLONS % "dc:: x ;\n"),
+    "rule_whose_recipe_starts_nothing": Small("race", COLONS % "dc:: x ; $(file >y,w)\n"),
+    "first_rule_without_a_recipe": Small("safe", "all: dc u\ndc:: x\ndc:: ; echo 1 > dc\nu: dc ; cat dc > u\nx: ; touch x\n"),
+})

@@ -107,7 +107,3 @@ class Patches(unittest.TestCase):
         for old, new in (("VALUE = 1", "VALUE = 2"), ("VALUE = 1", "VALUE = True"), ("[2 for", "[3 for"), ("class Some:", "class Some:\n    four = 4"), ("HAS = two()", "")):
             with self.subTest(new):
                 self.assertIsNone(self.edited(old, new))
-
-
-if __name__ == "__main__":
-    unittest.main()

@@ -196,7 +196,3 @@ class Preloaded(Recorded):
         with support.Project({"Makefile": "all: ; @seq 20000; printf '%s\\n' x; python3 -c 'print(1)'\n"}) as project:
             plain, found = project.plain(["make"]), project.record()
         self.assertEqual((0, plain.stdout), (found.status, found.stdout[:len(plain.stdout)]))
-
-
-if __name__ == "__main__":
-    unittest.main()

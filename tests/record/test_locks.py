@@ -101,7 +101,3 @@ class Others(unittest.TestCase):
             with support.Project({"build.ninja": text + "build a: %s\nbuild b: %s\n" % (rule, rule)}) as project:
                 outcome = project.record(["ninja"])
             self.assertEqual(wanted, outcome.status, outcome.text())
-
-
-if __name__ == "__main__":
-    unittest.main()

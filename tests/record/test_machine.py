@@ -120,7 +120,3 @@ def loaded() -> Set[str]:
 
 
 LOADED = loaded()
-
-
-if __name__ == "__main__":
-    unittest.main()

@@ -12,6 +12,16 @@ from record.make.owners import Make
 from record.make.references import SECOND, evals, fits, joined, named, read_again
 from test_small import COMMANDS, Small, test_of
 
+# `a` starts when `s` has ended, and sets something of make; `b` may start before or after that.
+LATE = "V = 1\n%sall: a b\ns: ; touch s\na: s ; %stouch a\nb: ; %s > b\n"
+OTHER_SETS = "$(eval V = 2)"
+OTHER_SHOWS = 'echo "$$W"'
+LOAD = "%sall: c b a\nc: ; touch c\nb: ; echo \"$$X\" > b\na: ; %s; touch a\nx:\n"
+SET = "all: s a b\ns: ; touch s\na: s ; %s\nb: ; %s\n"
+LINES = "define text\ndefine $(1)_run\n$$(eval X := set)\ntouch $(1)\nendef\nendef\n$(eval $(call text,a))\n"
+HEAD = "all: s a b\ns: ; touch s\n"
+ENVIRONMENT = ["env", "V=$(eval W := $@)$(eval V := 1)x", "make"]
+
 # A recipe that does something with macros, and another one that nothing orders; both come behind s.
 PAIR = "all: s a b\ns: ; touch s\na: s ; %s\nb: s ; %s\n"
 SETS = "$(eval X := set)touch a"
@@ -152,7 +162,40 @@ MACROS: Dict[str, Small] = {
     "macro_by_a_name_with_a_colon_in_another": Small("race", "B := X:s=\n" + PAIR % (SETS, "echo '$($(B)t)' > b")),
     "macro_by_a_name_with_a_blank_in_another": Small("race", "n := x yc\nS := x y\n$(n) = $(X)\n" + PAIR % (SETS, "echo '$($(S)c)' > b")),
     "macro_whose_name_has_brackets_of_a_pattern": Small("race", "i := 1\na[1] = $(X)\n" + PAIR % (SETS, "echo '$(a[$(i)])' > b")),
+    # macros that make exports, and those that their values refer to
+    "macro_that_an_exported_one_names_by_another": Small("race", LATE % ("X = $(V)\nW = $(X)\nexport W\n", OTHER_SETS, OTHER_SHOWS)),
+    "macro_of_a_target_that_is_exported": Small("race", LATE % ("b: export W = $(X)\nX = $(V)\n", OTHER_SETS, OTHER_SHOWS)),
+    "macro_of_the_environment_that_names_another": Small("race", LATE % ("HOME = $(V)\n", OTHER_SETS, 'echo "$$HOME"')),
+    "macro_that_no_exported_one_names": Small("safe", LATE % ("X = $(V)\nW = 1\nexport W\n", OTHER_SETS, OTHER_SHOWS)),
+    "macro_of_an_exported_one_in_order": Small("safe", LATE.replace("b: ;", "b: a ;") % ("W = $(V)\nexport W\n", OTHER_SETS, OTHER_SHOWS)),
+    "status_of_another_recipe": Small("safe", LATE % ("", "$(shell exit 3)", "echo '$(.SHELLSTATUS)'")),
+    # what make does for a recipe when that starts, which a bound on the load lets wait
+    "exported_macro_of_lines_that_reads_a_file": Small("race", LOAD % ("define X\n\n$(if $(filter b,$@),$(shell cat x))\nendef\nexport X\n", "echo 1 > x")),
+    "macro_that_is_handed_on_when_a_recipe_starts": Small("race", LOAD % ("V = 1\nX = $(V)\nexport X\n", ":$(eval V = 2)")),
+    "shell_that_another_recipe_sets": Small("race", LOAD.replace("$$X", "$$BASH_VERSION") % ("", ":$(eval SHELL = /bin/bash)")),
+    "macro_that_a_leaf_asks_for": Small("safe", LOAD.replace("$$X", "$(V)") % ("V = 1\n", ":$(eval V = 2)")),
+    "exported_macro_that_was_worked_out": Small("safe", LOAD.replace("$$X", "$(shell cat x)") % ("X := $(shell pwd)\nexport X\n", "echo 1 > x")),
+    "macro_that_reads_a_file_and_is_not_exported": Small("safe", LOAD.replace("$$X", "$(X)") % ("X = $(shell cat x)\n", "echo 1 > x")),
+    # other makes, and makefiles that are gone
+    "macro_of_a_makefile_that_goes": Small("race", "all: s a b z\ninclude in.mk\ns: ; touch s\nz: a b ; rm in.mk; touch z\n", {"in.mk": "a: s ; $(eval X := set)touch a\nb: ; echo '$(X)' > b\n"}),
+    # macros that make sets by the way
+    "macro_that_a_recipe_may_set": Small("race", SET % (SETS, "$(if $(NO),$(eval X := other))echo '$(X)' > b")),
+    "macro_that_a_loop_may_set": Small("race", SET % (SETS, "$(foreach one,$(NO),$(eval X := $(one)))echo '$(X)' > b")),
+    "macro_that_a_recipe_surely_sets": Small("safe", SET % (SETS, "$(if $(NO),,)$(eval X := other)echo '$(X)' > b")),
+    "macro_by_a_function_that_is_called": Small("race", SET % ("$(call eval,X := set)touch a", "echo '$(X)' > b")),
+    "macro_by_a_called_function_that_is_ordered": Small("safe", "all: s a b\ns: ; touch s\na: s ; $(call eval,X := set)touch a\nb: a ; echo '$(call value,X)' > b\n"),
+    "macro_by_a_function_of_a_computed_name": Small("race", "F = eval\n" + SET % ("$(call $(F),X := set)touch a", "echo '$(X)' > b")),
+    "macro_of_lines_with_a_computed_name": Small("race", LINES + SET % ("$(a_run)", "echo '$(X)' > b")),
+    "macro_of_a_target_by_a_computed_text": Small("race", "T := a: R = $$(EVAL X := set)touch a\n$(eval $(subst EVAL,eval,$(T)))\n" + SET % ("$(R)", "echo '$(X)' > b")),
+    "macro_that_eval_reads": Small("race", SET % (SETS, "$(eval Y := $$(X))echo '$(Y)' > b")),
+    "macro_that_eval_reads_in_order": Small("safe", "all: s a b\ns: ; touch s\na: s ; $(eval X := set)touch a\nb: a ; $(eval Y := $$(X))echo '$(Y)' > b\n"),
+    "macro_that_an_exported_one_keeps": Small("safe", "export V = $(eval V := $$(shell echo 1))$(V)\n" + SET % ("echo $$V > a", "echo $$V > b")),
+    "macro_that_the_flags_of_the_shell_set": Small("race", ".SHELLFLAGS = $(eval N := $(N)x)-c\n" + SET % ("echo '$(N)' > a", "echo '$(N)' > b")),
+    "macro_that_the_environment_sets": Small("race", HEAD + "a: s ; echo '$(V)' > a\nb: s ; echo '$(W)' > b\n"),
 }
+
+
+COMMANDS["macro_that_the_environment_sets"] = ENVIRONMENT
 
 
 class Makefiles(unittest.TestCase):

@@ -204,7 +204,3 @@ class Usage(unittest.TestCase):
                 wanted = "race-record: %s is there and is no record: it is %s. Nothing there was changed; name another folder by -o" % (place, what)
                 self.says(project, wanted, "-o", name, "--", "make")
             self.assertEqual("f", (project.folder / "file").read_text())
-
-
-if __name__ == "__main__":
-    unittest.main()

@@ -3,8 +3,8 @@
 import json
 import os
 import subprocess
-import time
 import sys
+import time
 import unittest
 from pathlib import Path
 from typing import Dict, Set, Tuple
@@ -331,5 +331,12 @@ class Verdicts(unittest.TestCase):
         self.assertIn("MISSING" + said.replace("\n    ", "\n"), without.text())
 
 
-if __name__ == "__main__":
-    unittest.main()
+class Later(unittest.TestCase):
+    """What a later build finds in the folders of a pattern."""
+
+    def test_folder_that_a_later_recipe_makes(self) -> None:
+        text = "all: b\na: t ; cat */*.q > a\nb: a ; %s; echo b > b\n"
+        for line, wanted in (("mkdir y; touch y/k.q", True), ("ln -s d y", True), ("echo x > y", False)):
+            with support.Project({"Makefile": text % line, "t": "", "d/a.q": "q\n"}) as project:
+                outcome = project.record(options=["--missing"])
+            self.assertEqual(wanted, any(one in outcome.text() for one in ("finds y otherwise", "LATE  y")), outcome.text())

@@ -129,7 +129,3 @@ class Texts(unittest.TestCase):
     def test_variable_that_asks_for_itself(self) -> None:
         with self.assertRaises(Unreadable):
             self.read("rule r\n  command = $command\nbuild a: r\n").edges[0].value("command")
-
-
-if __name__ == "__main__":
-    unittest.main()

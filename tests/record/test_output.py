@@ -155,7 +155,3 @@ class Output(unittest.TestCase):
         with support.Project({"Makefile": "all: ; @echo error >&2; echo out\n"}) as project:
             outcome = project.record()
         self.assertEqual(b"error\n", outcome.stderr)
-
-
-if __name__ == "__main__":
-    unittest.main()

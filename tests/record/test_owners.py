@@ -9,6 +9,18 @@ from record.make.owners import Owners
 from record.make.words import Words, read_words
 from record.trace.lives import Life
 from record.watch.files import Start
+from test_small import Small, makefiles
+
+INNER = "all: in gen\ngen: ; %s; touch gen\nin: ; $(MAKE) -f in.mk; touch in\n"
+KEPT = "all: gen t\nt: p ; touch t log\ngen: ; sleep 0.02; touch p gen\n"
+ROW = "all: p q\np: ; @echo 1 > p\nq: ; @cat p > q || true\n"
+LATER = "all: u gen\ngen: ; cp t bin/tool; touch gen\n"
+SETUP = "sed -i '1i#!/bin/sh' t; chmod +x t bin2/tool"
+TOOLS = {"t": "echo new > $1\n", "bin2/tool": "#!/bin/sh\necho old > $1\n", "bin/k": ""}
+LISTS = "S := $(wildcard *.q)\nz: ; echo '$(S)' > z\n"
+# A make inside that lists its folder for one pattern, beside a recipe that makes a name of another one.
+INSIDE = "all: a b\na: ; $(MAKE) -f in.mk\nb: ; %s; touch b\n"
+MAKES = INSIDE % "touch y.x"
 
 RECIPES = [line for name in "ab" for line in ("%s:" % name, "#  recipe to execute (from 'Makefile', line 2):", "\techo %s" % name, "")]
 BASE = ["# Make data base, printed on Monday", "# Files", "", *RECIPES, "# files hash-table stats:", "# Finished Make data base on Monday"]
@@ -90,5 +102,29 @@ class Holes(unittest.TestCase):
         self.assertEqual(["a", "b"], [owners.jobs[id(life)].target for life in lives[1:]])
 
 
-if __name__ == "__main__":
-    unittest.main()
+Makefiles = makefiles(__name__, {
+    # when make has read its makefiles
+    "makefile_that_is_not_there_and_comes": Small("race", "-include cfg.mk\nall: w b c\ns: ; touch s\nw: s ; echo 1 > x; touch w cfg.mk\nb: ; echo '$(file <x)' > b\nc: w ; echo '$(file <cfg.mk)' > c\n", {"x": "0"}),
+    # what a make inside a recipe asks of a list that it keeps of a folder
+    "pattern_of_a_rule_in_a_make_inside": Small("race", INNER % "echo n > d/n.c", {"d/k.c": "k", "in.mk": "out: d/*.c ; cat $^ > out\n"}),
+    "pattern_of_a_default_that_changes_nothing": Small("safe", INNER % "echo n > d/n.h", {"d/k.c": "k", "d/k.h": "k", "in.mk": "C = d/k.c\ninclude more.mk\n", "more.mk": "C ?= $(shell ls d/*)\nout: $(C) ; cat $^ > out\n"}),
+    # what is there when a build begins, and not when the recording does
+    "target_that_the_make_above_has_made": Small("race", "in: pre ; $(MAKE) -f 2.mk; touch in\npre: ; touch t pre\n", {"p": "p", "2.mk": KEPT}),
+    "target_that_is_made_while_make_reads": Small("race", "X := $(shell touch t; sleep 0.05)\n" + KEPT, {"p": "p"}),
+    "target_that_is_made_for_a_makefile": Small("race", "-include x.d\n" + KEPT + "x.d: ; touch t\n", {"p": "p"}),
+    # a make that make calls has the environment of that make: it may ask for several jobs there
+    "make_that_make_calls": Small("race", "X := $(shell $(MAKE) -s -f in.mk)\nall: ; touch all\n", {"in.mk": ROW}),
+    "make_that_make_calls_without_flags": Small("safe", "X := $(shell env -u MAKEFLAGS $(MAKE) -s -f in.mk)\nall: ; touch all\n", {"in.mk": ROW}),
+    "make_of_one_job_that_make_calls": Small("safe", "X := $(shell $(MAKE) -s -j1 -f in.mk)\nall: ; touch all\n", {"in.mk": ROW}),
+    # programs that make itself looks for before a line of a recipe
+    "program_of_a_later_line": Small("race", "export PATH := $(CURDIR)/bin:$(CURDIR)/bin2:$(PATH)\n" + LATER + "u:\n\ttrue\n\ttool u\n", TOOLS, SETUP),
+    "program_of_a_later_line_that_comes_first": Small("safe", "export PATH := $(CURDIR)/bin:$(CURDIR)/bin2:$(PATH)\n" + LATER + "u: gen\n\ttrue\n\ttool u\n", TOOLS, SETUP),
+    "program_that_is_not_there": Small("race", "export PATH := $(CURDIR)/bin:$(PATH)\n" + LATER + "u:\n\ttrue\n\t-tool u\n", TOOLS, SETUP),
+    "program_that_is_a_target": Small("race", "export PATH := bin:bin2:$(PATH)\nall: u bin/tool\nbin/tool: ; cp t bin/tool\nu: p ; tool u\np: ; touch p\n", TOOLS, SETUP),
+    "program_that_the_next_recipe_does_not_need": Small("safe", "export PATH := $(CURDIR)/bin:$(PATH)\n" + LATER + "all: w\nw: ; touch w\nu: gen\n\ttrue\n\ttool u\n", TOOLS, SETUP),
+    # names that a data base of make shows in an odd way
+    "name_that_begins_like_a_remark": Small("race", "all: u \\#x v\nv: ; touch v\n\\#x: ; $(file >x,w)\nu: p ; cat x > u || true\np: v ; touch p\n"),
+    "name_that_ends_in_a_colon": Small("race", "all: u x\\: v\nv: ; touch v\nx\\:: ; $(file >x,w)\nu: p ; cat x > u || true\np: v ; touch p\n"),
+    # branches that are not read
+    "branch_with_a_macro_that_is_taken_away": Small("race", MAKES, {"in.mk": "N = 1\n" + LISTS + "ifdef N\nM = 1\nL := $(wildcard *.x)\nendif\nundefine M\n"}),
+})

@@ -71,7 +71,3 @@ class Building(unittest.TestCase):
         elapsed.due = -1.0
         out.close()
         elapsed.see(b"")
-
-
-if __name__ == "__main__":
-    unittest.main()

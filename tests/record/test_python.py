@@ -205,7 +205,3 @@ class Python(unittest.TestCase):
             self.assertTrue(is_of_python(path, "/usr/lib/python"), path)
         for path in ("/usr/lib/python3/dist-packages/jinja2/loaders.py", "/home/me/project/lib/python3.11/own.py", "/usr/share/tool/own.py", "/lib/python3/own.py"):
             self.assertFalse(is_of_python(path, "/usr/lib/python"), path)
-
-
-if __name__ == "__main__":
-    unittest.main()

@@ -1,13 +1,38 @@
 """Trace lines, played in their order: what once gave an empty footprint, and so a wrong yes."""
 
+import os
 import unittest
 from typing import List, Set, Tuple
 
 import support  # noqa: F401
+from record.facts import Facts
+from record.importing import replay_trace
+from record.make.owners import Make
+from record.make.words import Words
+from record.ninja.log import Kept
 from record.tools.listed import Calls
 from record.trace.lives import Life
 from record.trace.names import Names
+from record.trace.sifting import sift
+from record.trace.snapshots import Past
 from record.trace.strace import read_trace
+from test_small import Small, makefiles
+
+ABSENT = "all: u a\nu: ; %s 2> /dev/null || echo no > u; touch u\na: ; mkdir d; touch a\n"
+LINKED = "files that got or lost a second name"
+BASH = "SHELL = /bin/bash\n"
+FUNCTION = "show() { echo d/*; }\nnewer() { [ \"$1\" -nt \"$2\" ]; }\n"
+PAIR = "all: c\na: ; touch a\nb: ; touch b\nc: a b ; "
+OTHER_PAIR = "all: c\na: ; touch a\nb: ; touch b\nc: a b ; %s\n"
+# A recipe that runs something in a folder, and another one that makes a name there.
+HERE = "all: a b\na: ; cd d && %s > ../a\nb: ; touch d/x b\n"
+IN_FOLDER = {"t": "if [ . -nt s ]; then echo newer; fi\n", "d/s": ""}
+IS_THERE = "RACE  d  (that the folder"
+# b looks for a file by way of d, which a makes.
+WAY = "all: a b\na: ; mkdir d; touch a\nb: ; cat %s > b || echo none > b\n"
+# A folder that a recipe makes, and make opens it when it considers a.o; the next recipe has nothing to do with it.
+BESIDE = "all: dist a.o%s\n%%.o: %%.c gen/g.h ; cp $< $@\ngen/g.h: tool ; mkdir -p gen; sh tool > $@\ntool: tool.in ; %s; cp $< $@\ndist: ; mkdir -p gen; touch gen/list $@\n"
+TOOL = {"a.c": "", "tool.in": "echo 1\n"}
 
 TOP = "/no/such/project"
 SPOOL = "/no/such/spool"
@@ -208,5 +233,81 @@ class Footprints(unittest.TestCase):
         self.assertEqual(1, len(played("1 gibberish").holes))
 
 
-if __name__ == "__main__":
-    unittest.main()
+Makefiles = makefiles(__name__, {
+    # names that cannot be made, as their folder is not there, or is full
+    "pipe_in_a_folder_that_is_absent": Small("race", ABSENT % "mkfifo d/y"),
+    # files with a name elsewhere
+    "name_outside_of_the_project": Small("safe", "all: ; echo 1 > x; touch all\n", setup="echo 0 > ../y; ln ../y x", says=LINKED),
+    "name_outside_that_nobody_writes": Small("safe", "all: ; cat x > all\n", setup="echo 0 > ../y; ln ../y x", lacks=LINKED),
+    "script_that_is_a_pipe": Small("safe", "all: ; mkfifo p; echo 'touch all' > p & sh p; wait\n"),
+    # by way of /proc, and by numbers
+    "file_by_its_number": Small("no verdict", "all: a b\na: ; exec 3< f; chmod +x /dev/fd/3; touch a\nb: ; test -x f; touch b\n", {"f": "f"}, says="number of its descriptor"),
+    "output_by_its_number": Small("safe", "all: ; @echo a > /dev/stdout; echo b | cat > /dev/fd/1; touch all\n"),
+    # ages
+    "ages_by_what_a_shell_reads_first": Small("race", BASH + "export BASH_ENV = s\n" + PAIR + "newer a b; touch c\n", {"s": FUNCTION}),
+    # ages of files that somebody else has opened
+    "age_of_a_file_that_is_open": Small("race", OTHER_PAIR % "exec 3< a; if test /dev/fd/3 -nt b; then echo newer; fi > c"),
+    # ages of the folder that a script is in
+    "age_of_a_folder_in_a_part_of_a_script": Small("race", HERE % "sh ../u", {**IN_FOLDER, "u": "x=$([ . -nt s ] && echo newer); echo $x\n"}, says="(the time of the folder"),
+    "folder_that_a_path_leaves_again": Small("race", WAY % "d/../f", {"f": ""}, says=IS_THERE),
+    "folder_that_a_path_leaves_from_below": Small("race", WAY % ".//x/./.././d/../f", {"f": "", "x/y": ""}, says=IS_THERE),
+    "folder_that_a_whole_path_leaves_again": Small("race", WAY % "/usr/lib/../..$(CURDIR)/d/../f", {"f": ""}, says=IS_THERE),
+    "folder_that_a_link_leaves_again": Small("race", WAY % "l", {"f": ""}, "ln -s d/../f l", says=IS_THERE),
+    "folder_by_way_of_which_nothing_was_there": Small("race", "all: b a\na: ; mkdir d; touch a\nb: ; cat d/../f > b || echo none > b\n", {"f": ""}, says=IS_THERE),
+    "folder_that_make_leaves_again": Small("race", "all: a b\na: ; mkdir d; touch a\nb: d/../f ; cp f b\n", {"f": ""}, says=IS_THERE),
+    "folder_that_a_path_leaves_again_in_order": Small("safe", (WAY % "d/../f").replace("b: ;", "b: a ;"), {"f": ""}),
+    "folder_that_was_there_and_a_path_leaves_again": Small("safe", (WAY % "d/../f").replace("mkdir", "mkdir -p"), {"f": "", "d/x": ""}),
+    "folder_above_the_own_one": Small("safe", "all: a b\na: ; touch d/a a\nb: ; cd d && cat ../f > ../b\n", {"f": "", "d/x": ""}),
+    "folder_by_the_number_of_a_descriptor_that_a_path_leaves_again": Small("no verdict", "all: ; exec 3< d; cat /proc/self/fd/3/../f > all\n", {"f": "", "d/x": ""}, says="by the number of its descriptor alone"),
+    # a search opens a folder, and no recipe asks for names there
+    "folder_that_a_search_opens_beside_a_recipe": Small("safe", BESIDE % ("", ":"), TOOL),
+})
+
+
+class Traces(unittest.TestCase):
+    """Lines of a trace."""
+
+    def test_process_that_nobody_started(self) -> None:
+        begun = ('1 execve("/bin/sh", ["sh"], 0x1 /* 1 var */) = 0', "1 clone(child_stack=NULL, flags=SIGCHLD) = 2")
+        self.assertEqual(["cat x"], played(*begun, '77 execve("/bin/cat", ["cat", "x"], 0x1 /* 1 var */) = 0').strays())
+        self.assertEqual([], played(*begun, '2 execve("/bin/cat", ["cat", "x"], 0x1 /* 1 var */) = 0').strays())
+
+    def test_process_that_several_may_have_started(self) -> None:
+        lines = ("1 vfork() = 2", '2 chdir("d") = 0', "1 vfork( <unfinished ...>", "2 vfork( <unfinished ...>", '77 execve("/bin/cat", ["cat"], 0x1 /* 1 var */) = 0')
+        self.assertEqual(["number 77"], played(*lines).strays())
+
+    def test_thread_that_only_ends(self) -> None:
+        one = ('1 execve("/bin/go", ["go"], 0x1 /* 1 var */) = 0', "1 clone(child_stack=0x1, flags=CLONE_VM|CLONE_THREAD <unfinished ...>")
+        self.assertEqual([], played(*one, "77 +++ exited with 0 +++").strays())
+        several = ("1 vfork() = 2", '2 chdir("d") = 0', "1 vfork( <unfinished ...>", "2 vfork( <unfinished ...>")
+        self.assertEqual([], played(*several, "77 +++ exited with 0 +++").strays())
+
+    def test_memory_of_a_process_that_a_signal_ends(self) -> None:
+        self.assertIn("core dumped", "".join(played('1 access("x", F_OK) = 0', "1 +++ killed by SIGSEGV (core dumped) +++").holes))
+        self.assertEqual([], played('1 access("x", F_OK) = 0', "1 +++ killed by SIGSEGV +++").holes)
+
+    def test_names_of_calls_of_32_bits(self) -> None:
+        replay = played('1 truncate64("x", 0) = 0', '1 chown32("y", 0, 0) = 0', '1 lchown32("z", 0, 0) = 0', f"1 fchown32(3<{TOP}/q>, 0, 0) = 0")
+        self.assertLessEqual({("W", name) for name in "xyzq"}, events_of(lives_of(replay, 1)[0]))
+
+    def test_list_that_is_read_in_pieces(self) -> None:
+        make = Make(Words(7, 0), lives_of(played('1 access("x", F_OK) = 0'), 1)[0], TOP)
+        make.life.starts, make.lists = [(1, TOP), (5, TOP)], [(2, "d"), (3, "d"), (6, "d"), (7, "e"), (9, "d")]
+        self.assertEqual([{"d": (2, 3)}, {"d": (6, 9), "e": (7, 7)}], [make.listed_in(start) for start in (0, 1)])
+
+    def test_names_that_come_and_go(self) -> None:
+        replay = played('1 mkdir("d", 0777) = 0', f'1 openat(AT_FDCWD<{TOP}>, "d/x", O_WRONLY|O_CREAT, 0666) = 3<{TOP}/d/x>', '1 rename("d", "e") = 0', '1 unlink("e/x") = 0')
+        past = Past({}, replay.changes)
+        found = [{name[len(TOP) + 1:]: kind for name, kind in past.until(place).items()} for place in (1, 2, 3, 4, 5, 2)]
+        self.assertEqual([{}, {"d": "d"}, {"d": "d", "d/x": "f"}, {"e": "d", "e/x": "f"}, {"e": "d"}, {"d": "d"}], found)
+
+    def test_name_that_leads_to_the_system(self) -> None:
+        for target, wanted in (("/usr/lib", True), ("/usr/bin/env", False), ("k", False)):
+            with support.Project({"trace": '1 access("/usr/race-test", F_OK) = -1 ENOENT (No such file)\n', "top/k": "k"}) as project:
+                top = os.path.realpath(project.folder / "top")
+                os.symlink(target, top + "/l")
+                names = Names()
+                names.walk(top)
+                sift(project.folder / "trace", [top], project.folder / "sifted")
+                replay = replay_trace(Facts(project.folder, str(project.folder), "/bin/make", names, Kept()), top)
+                self.assertEqual(wanted, any(("N", "/usr/race-test") in life.events for life in replay.all), target)

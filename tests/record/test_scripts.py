@@ -9,7 +9,7 @@ from record.tools.scripts import Said, said_by
 from record.tools.shellcut import UNSET
 from record.tools.shellvalues import Values
 from record.tools.surroundings import ANYTHING, changed_in, script_of_text
-from test_small import Small, test_of
+from test_small import Small, makefiles
 
 
 class Text(NamedTuple):
@@ -137,7 +137,7 @@ def runs(says: str, more: Optional[Dict[str, str]] = None) -> Dict[str, str]:
     return {"s.sh": "#!/bin/sh\n" + says + "\n", "h/k": "", "h/1.h": "", **(more or {})}
 
 
-SCRIPTS: Dict[str, Small] = {
+Makefiles = makefiles(__name__, {
     # as GNU screen and vim have one
     "script_that_removes_cores": Small("safe", SCREEN % "b", OS),
     "script_that_removes_cores_of_another": Small("race", SCREEN % "core1 b", OS),
@@ -195,7 +195,7 @@ SCRIPTS: Dict[str, Small] = {
     "script_of_a_text_that_a_program_prints": Small("race", RUNS % "sh ./s.sh", runs("ls h/*.h\neval \"`echo 'ls h/*' | sed -n p`\"")),
     "script_in_a_shell_below": Small("safe", RUNS % "sh ./s.sh", runs("(cd h && ls *.h | cat)")),
     "script_in_a_shell_below_that_goes_up": Small("race", RUNS % "sh ./s.sh", runs("x=..\nls h/h/\"$x\"/*.q h/*.h", {"h/h/k": ""})),
-}
+})
 
 
 def said(one: Text) -> Optional[Said]:
@@ -231,15 +231,3 @@ class Changing(unittest.TestCase):
         for wanted, text in (("", "X := 1\na: eval.o ; eval x\n"), ("X", "a: ; $(eval X := 1)"), ("X", "a: ; $(call eval,X := 1)"), ("*", "a: ; $(eval $(X))"), ("*", ANYTHING), ("*", "E = eval\na: ; $(call $E,X := 1)"),
                              ("*", "E = ile\na: ; $(call gu$E,1)"), ("*", "define D\n1\n2\nendef\na: ; $(eval X := $(D))"), ("*", "a: ; $(eval X := $(call file,<D))")):
             self.assertEqual(set(wanted), changed_in(text), text)
-
-
-class Makefiles(unittest.TestCase):
-    """One test for each makefile of the table."""
-
-
-for key, small in SCRIPTS.items():
-    setattr(Makefiles, "test_" + key, test_of(key, small))
-
-
-if __name__ == "__main__":
-    unittest.main()

@@ -1,11 +1,41 @@
 """What the words of a process say."""
 
 import os
+import time
 import unittest
 from typing import List
 
 import support
+from record.clock import clock
 from record.commands import shellages, shelltext
+from record.commands.computed import tests_unseen
+from record.commands.shellages import may_show_ages
+from record.commands.shelltext import glob_words, names_here, takes_in
+from record.commands.system import OF_SYSTEM
+from test_output import Output
+from test_small import Small, makefiles
+
+ORDER = ".PHONY: a b\nall: c\na b: ; touch d/s/$@\nr: a b ; %s; touch r\nc: r ; find e/s > c\n"
+LINKED = "all: a u\na: ; ln x y; touch a\nu: ; %s > u; touch u\n"
+LISTS = "programs that list a folder"
+OTHER_ORDER = "all: c\nd: ; mkdir d\na: | d ; touch d/a a\nb: | d ; touch d/b b\nc: a b ; %s\n"
+SIZE = "all: a b\na: ; touch d/x a\nb: ; %s > b\n"
+LONG = "# ...............................................................\n" * 5000
+PAIR = "all: c\na: ; touch a\nb: ; touch b\nc: a b ; %s\n"
+BASH = "SHELL = /bin/bash\n"
+OTHER_PAIR = "all: c\na: ; touch a\nb: ; touch b\nc: a b ; "
+KEEPS = "all: ; %s -s -f in.mk %s\n"
+TWO = "all: a b\na b: ; @%s; touch $@\n"
+# A recipe that lists names, and a later one that makes another name.
+OTHER_LISTS = "all: b a\na: ; touch z.i a\nb: ; %s > b\n"
+# Two recipes that make a folder, and the first may show whether it was there.
+FOLDER = "all: a b\na: ; %s\nb: ; mkdir -p d; touch b\n"
+TEXT = "all: a b\na: ; %s > a\nb: ; %s; touch b\n"
+TREE = "mkdir -p d/e; touch d/e/x.c"
+AT_ONCE, OUTLIVES = "two processes of one recipe", "when its recipe has ended"
+AT_ONCE, OUTLIVES = "two processes of one recipe", "when its recipe has ended"
+BESIDE = "all: ; %s; touch all\n"
+OWNED = "U := $(shell id -un)\nall: a b\na: ; install -d -o $U -m %s d; touch d/$@ $@\nb: ; install -d -o $U d -m %s; touch d/$@ $@\n"
 
 
 def sh(text: str) -> List[str]:
@@ -122,5 +152,168 @@ class Looks(unittest.TestCase):
             self.assertEqual([], shelltext.sourced(text), text)
 
 
-if __name__ == "__main__":
-    unittest.main()
+Makefiles = makefiles(__name__, {
+    # orders of names that are handed on
+    "order_of_a_folder_that_is_copied": Small("safe", ORDER % "cp -r d e", setup="mkdir -p d/s", says="programs that list a folder"),
+    # who makes a folder first
+    "folder_that_a_text_makes_twice": Small("race", "all: a b\na b: ; mkdir d 2> /dev/null && echo first > $@ || echo second > $@; mkdir d 2> /dev/null || true\n"),
+    "folder_that_is_told": Small("race", "all: a b\na b: ; mkdir -p --verb d > $@\n"),
+    "folder_that_an_install_tells": Small("race", "all: a b\na b: ; install -d --verb d > $@\n"),
+    # how many names a file has
+    "names_that_gzip_counts": Small("race", LINKED % "gzip -k x || echo refused", {"x": "x"}),
+    "names_that_ls_shows_by_a_long_word": Small("race", LINKED % "ls --format=long x", {"x": "x"}),
+    "names_that_a_script_counts": Small("safe", LINKED % "python3 n.py", {"x": "x", "n.py": "import os\nprint(os.lstat('x').st_nlink)\n"}, says="do not count the names of a file"),
+    # the order in which a folder shows its names, and its size
+    "order_that_ls_shows": Small("safe", OTHER_ORDER % "ls -1U d > c", says=LISTS),
+    "order_that_ls_shows_by_a_word": Small("safe", OTHER_ORDER % "ls --sort none d > c", says=LISTS),
+    "order_that_ls_does_not_show": Small("safe", OTHER_ORDER % "ls -1 d > c", lacks=LISTS),
+    "order_that_rm_says": Small("safe", OTHER_ORDER % "rm -rv d > c", says=LISTS),
+    "order_that_chmod_says": Small("safe", OTHER_ORDER % "chmod -R --verbose 755 d > c", says=LISTS),
+    "order_that_rm_does_not_say": Small("safe", OTHER_ORDER % "rm -r d; touch c", lacks=LISTS),
+    "size_of_a_folder_by_ls": Small("race", SIZE % "ls -sd d", setup="mkdir d"),
+    "size_of_a_folder_by_find": Small("race", SIZE % "find d -maxdepth 0 -size +5k", setup="mkdir d"),
+    "folder_that_ls_names": Small("safe", SIZE % "ls -d d", setup="mkdir d"),
+    # a script of which the recorder read the beginning alone
+    "ages_at_the_end_of_a_long_script": Small("race", PAIR % "sh s; touch c", {"s": LONG + "test a -nt b || true\n"}),
+    # listings
+    "pattern_of_a_quoted_word": Small("race", "all: a b\na: ; echo a > d/xayy\nb: ; echo d/x?\"yy\" > b\n", {"d/xbyy": "k"}),
+    "pattern_behind_an_equals_sign": Small("race", "all: a b\na: ; echo a > d/x=1\nb: ; echo d/x=? > b\n", {"d/x=2": "k"}),
+    "pattern_of_a_script_behind_if": Small("race", "all: a b\na: ; echo a > d/n\nb: ; if . ./s; then echo e/*.x; fi > b\n", {"s": "echo d/*\n", "d/k": "k", "e/1.x": ""}),
+    "pattern_beside_an_input": Small("safe", BASH + "all: a b\na: ; echo a > d/n\nb: ; cat < f > b; echo d/*.x >> b\n", {"f": "f", "d/1.x": ""}),
+    # ages
+    "ages_by_a_script_behind_if": Small("race", OTHER_PAIR + "sh s; touch c\n", {"s": "if . ./t; then :; fi\n", "t": "test a -nt b\n"}),
+    # folders that are made
+    "folder_made_or_true_for_a_program": Small("race", "all: a b\na b: ; python3 t/m.py; touch $@\n", {"t/m.py": "import subprocess\nsubprocess.run('mkdir d || true', shell=True)\n"}),
+    "folder_made_or_true_behind_env": Small("safe", "all: a b\na b: ; env X=1 sh -c 'mkdir d || true'; touch $@\n"),
+    # ages of files that somebody else has opened
+    "age_of_standard_input": Small("race", PAIR % "stat -c %Y - < a > c; stat -c %Y b >> c"),
+    # folders that are made, where something shows who made them
+    "folder_tested_or_made_in_a_make_with_errors": Small("safe", KEEPS % ("$(MAKE)", "> log 2>&1"), {"in.mk": TWO % "test -d d || mkdir -p d"}),
+    # patterns
+    "brackets_with_a_quote": Small("race", OTHER_LISTS % "echo [x'yz'].i", {"y.i": ""}),
+    "brackets_with_a_blank": Small("race", OTHER_LISTS % "echo y.i [x\\ z].i", {"y.i": ""}),
+    "brackets_of_another_name": Small("safe", OTHER_LISTS % "echo [xy].h 'q'", {"y.i": ""}),
+    # folders
+    "folder_whose_errors_a_macro_gets": Small("race", FOLDER % "x=$$(mkdir d 2>&1 >/dev/null || true); echo \"$$x\" > a"),
+    "folder_whose_errors_a_file_gets": Small("race", FOLDER % "(mkdir d >/dev/null || true) 2> log; cp log a"),
+    "folder_whose_errors_nobody_gets": Small("safe", FOLDER % "x=$$(mkdir d >/dev/null 2>&1 || true); echo \"$$x\" > a; cat a 2> log"),
+    # ages of the folder that a script is in
+    "script_that_a_shell_takes_in": Small("safe", "all: a b\na: ; . ./v; echo $$x > a\nb: ; touch b\n", {"v": "x=1\n"}),
+    # the same of a script
+    "file_beside_folders_of_a_text": Small("safe", TEXT % ("echo */e/*.c", "touch y"), {}, TREE),
+    "link_beside_folders_behind_a_quote": Small("race", TEXT % ("echo ''*/e/*.c", "ln -s d y"), {}, TREE),
+    # a process in the background that has ended before another one begins
+    "one_at_a_time_by_xargs": Small("safe", BESIDE % "echo 1 2 | xargs -P 1 -n1 touch x", lacks=AT_ONCE),
+    # folders that several recipes give an owner
+    "folder_of_one_owner_and_two_modes": Small("race", OWNED % ("755", "700")),
+})
+
+
+class System(unittest.TestCase):
+    """What comes with the system, and what is of a project below `/usr` or the like."""
+
+    def test_names(self) -> None:
+        system = ["/usr/bin/x", "/usr/local/lib/x", "/lib64/x", "/usr/share/x", "/etc/x", "/dev/null", "/usr/include"]
+        project = ["/usr/src/app/x", "/usr/local/src/x", "/usr/app", "/library/x", "/dev/shm/p/x", "/home/usr/bin/x"]
+        self.assertEqual(system, [name for name in system + project if OF_SYSTEM.match(name)])
+
+    def test_file_that_a_shell_takes_in(self) -> None:
+        self.assertEqual([True, False], [takes_in(["bash", "-c", "true"], name) for name in ("/usr/src/app/env.sh", "/usr/share/env.sh")])
+
+
+class Texts(unittest.TestCase):
+    """Texts of shells."""
+
+    def test_long_word(self) -> None:
+        began = time.process_time()
+        self.assertEqual(["*.c"], glob_words("ls *.c; echo " + "x" * 20000))
+        self.assertLess(time.process_time() - began, 1)
+
+    def test_word_behind_an_assignment(self) -> None:
+        self.assertEqual(["*d/?*", "x?=*"], glob_words("a=d/?* x?=*"))
+
+
+class Said(Output):
+    """What a build prints where a line of a recipe names a program that is not there."""
+
+    def test_first_line(self) -> None:
+        self.assertEqual(0, self.both("all: u v\nu v:\n\t-@no-such-tool\n\t@echo $@ > $@; echo said $@\n"))
+
+    def test_last_line(self) -> None:
+        self.assertEqual(0, self.both("all: u v\nu v:\n\t@echo $@ > $@; echo said $@\n\t-@no-such-tool\n"))
+
+    def test_all_lines(self) -> None:
+        self.assertEqual(0, self.both("all: u v\nu:\n\t-no-such-tool\n\t-no-such-tool\nv: ; @echo $@ > $@; echo said $@\n"))
+
+
+class Programs(unittest.TestCase):
+    """What the words of programs say."""
+
+    def patterns(self, text: str, shell: str = "bash") -> List[str]:
+        return list(shelltext.patterns([shell, "-c", text], False))
+
+    def test_words_that_go_on(self) -> None:
+        self.assertEqual(["x?*"], self.patterns("echo d/x?'yy'"))
+        self.assertEqual(["*?"], self.patterns("echo d/'xx'?"))
+        self.assertEqual(["*?"], self.patterns("echo d/x=?"))
+        self.assertEqual(["*?"], self.patterns("echo d/x\\ ?"))
+        self.assertEqual(["*?"], self.patterns("echo d/xx\\\n? > b"))
+        self.assertEqual(["?*"], self.patterns("echo d/?\\ x"))
+        self.assertEqual(["*"], self.patterns("echo d/{'a b',c}?"))
+
+    def test_texts_that_list_without_a_pattern(self) -> None:
+        self.assertEqual(["*"], self.patterns("compgen -f d/; echo e/*.x"))
+        self.assertEqual(["*"], self.patterns("echo d/@(n|m) e/*.x", "ksh"))
+        self.assertEqual(["*"], self.patterns("! . ./s; echo e/*.x"))
+
+    def test_who_shows_ages(self) -> None:
+        shows = ("stat a", "stat -t a", "stat -c %Y a", "stat --printf=%.9Y a", "ls -g a", "ls --full-time", "date --reference=a", "date -ur a", "tar -cN ./a b",
+                 "tar --after-date=./a b", "tar uf a b", "tar --keep-newer-files -xf a", "find a -ls ", "zsh -c echo*(om)", "cp --up a b", "mv -fu a b")
+        hides = ("stat -c %s a", "stat -f -c %T a", "ls -1A a", "ls --file-type a", "date -R", "tar --null -cf a b", "tar xf a", "find a -name b", "zsh -c f;(a)", "cp -f a b")
+        self.assertEqual([True] * len(shows), [shellages.shows_ages(text.split()) for text in shows])
+        self.assertEqual([False] * len(hides), [shellages.shows_ages(text.split()) for text in hides])
+
+    def test_operators_that_are_spelled_in_another_way(self) -> None:
+        texts = ("[ a \\-nt b ]", '[ a -n"t" b ]', "[ a \"-\"ot b ]", "[ ! a $o b ]")
+        self.assertEqual([True] * len(texts), [shellages.compares_ages(["sh", "-c", text], "/") for text in texts])
+
+    def test_who_sets_options(self) -> None:
+        with support.Project({"s": "export -f show\n", "t": "export x\n", "library": "\x7fELF export -f show\n"}) as project:
+            words = (["bash", "-c", "declare -fx show"], ["bash", "s"], ["bash", "t"], ["bash", "-c", "declare -f show"], ["bash", "library"])
+            self.assertEqual([True, True, False, False, False], [shelltext.sets_options(argv, os.fspath(project.folder)) for argv in words])
+
+
+class Readings(unittest.TestCase):
+    """The words of shells and programs."""
+
+    def test_brackets_that_a_quote_cuts(self) -> None:
+        for text, wanted in (("echo [a'b']*", True), ("echo [a\\ b]*", True), ("echo ['ab']*", True), ("echo [a\\;b]*", True), ("echo [ab]'c'*", False), ("echo [ab]*", False), ("[ -e 'a'*.c ]", False)):
+            self.assertEqual(wanted, "*" in glob_words(text), text)
+
+    def test_dots_that_name_the_folder(self) -> None:
+        for wanted, text in ((False, ". ./x"), (False, "a; . ./x"), (False, "a && . ./x"), (False, "a ;\\\n . ./x"), (True, "a \\\n . x"), (True, "[ . -nt x ]"), (True, "[[ a && . -nt x ]]"), (True, "test ! . -nt x"), (True, "ls \\; . x"), (True, ". ./x; ls .")):
+            self.assertEqual(wanted, names_here(["bash", "-c", text]), text)
+        self.assertTrue(names_here(["find", "a", ";", ".", "x"]))
+
+    def test_names_that_have_the_time(self) -> None:
+        found = clock(1795793502)
+        for name, wanted in (("t.1795793502", "t.@"), ("1795793502123.c", "@.c"), ("20261127-153142", "@"), ("d/2026-11-27T15:31:42x", "d/@x"), ("20261126.153142", "@"), ("20261128153142", "@"),
+                             ("t.1795793502123456", ""), ("t.1700000000", ""), ("20261127", ""), ("a-20250101-153142", ""), ("t.21795793502", "")):
+            self.assertEqual(wanted or name, found.sub("@", name), name)
+
+    def test_tests_of_which_a_word_is_computed(self) -> None:
+        for text in ("test x -n$t y", '[ x -n"$o" y ]', "[ $o y ]", "[ $o ]", "test `cat how`", "test x `cat how` y", "test \\( x $o y \\)", "test -f x -a x $o y", 'test "$a" = "" -a x "$o" y',
+                     'test "$@"', '[ "${a[@]}" ]', "test $a''nt y", "test ! $o", "a || [ x ${o}t y ]"):
+            self.assertTrue(tests_unseen(text), text)
+
+    def test_tests_of_which_the_operator_stands_there(self) -> None:
+        for text in ("[ -f $f ]", '[ "$x" = y ]', "[ $x = y ]", "[ $# -gt 1 ]", "[ ! -d $d ]", 'test -z "$x" -a -n "$y"', '[ "$x" ]', "[ $(id -u) -eq 0 ]", "test -f x && echo $y z", "test x = '$y'",
+                     'if [ "$a" != "$b" ]; then echo $x $y; fi', "[ x$a = xyes ]", 'test "x$(cat f)" = "x"', "a.test $x", "[ \"$a\" ] && b $c", "ls [a] $x"):
+            self.assertFalse(tests_unseen(text), text)
+
+    def test_programs_that_may_show_ages(self) -> None:
+        with support.Project({"loads": "@load \"filefuncs\"\n", "plain": "{ print }\n"}) as project:
+            for words, wanted in (("gawk -lfilefuncs x", True), ("awk -l filefuncs x", True), ("gawk --load=time x", True), ("awk -f loads x", True), ("awk -f plain x", False), ("awk @load x", True),
+                                  ("awk -v a=b x", False), ("diff -u a b", True), ("diff -rc a b", True), ("diff --unified=1 a b", True), ("diff a b", False), ("diff -r a b", False),
+                                  ("diff -u -L a -L b a b", False), ("diff -u --label=a a b", False), ("cmp -u a b", False)):
+                self.assertEqual(wanted, may_show_ages(words.split(), str(project.folder)), words)

@@ -5,7 +5,13 @@ from typing import Dict, Optional, Set
 
 import support
 from record.tools.shellvalues import patterns_of
-from test_small import Small, test_of
+from test_small import Small, makefiles
+
+DEEP = "for f in */*/*.c; do echo $f; done\n"
+# A recipe that runs a script, or a text, beside one that makes a name.
+SCRIPT = "all: a b\na: s ; sh s > a\nb: ; %s; touch b\n"
+TREE = "mkdir -p d/e; touch d/e/x.c"
+TEXT = "all: a b\na: ; %s > a\nb: ; %s; touch b\n"
 
 KNOWN: Dict[str, str] = {
     "for f in *.c; do echo $f; done": "*.c",
@@ -49,7 +55,7 @@ INFO = ("restore=: && backupdir=\".am$$$$\" && \\\nam__cwd=`pwd` && CDPATH=\"$${
         " if sh ./info $@; then rc=0; cd .; else \\\n rc=$$?; cd . && $$restore $$backupdir/* `echo \"./$@\" | sed 's|[^/]*$$||'`; fi; rm -rf $$backupdir; exit $$rc\n")
 FILES = {"info": "test \"$1\" = --version || echo x > $1\n", "h/1.h": ""}
 
-SHELLS: Dict[str, Small] = {
+Makefiles = makefiles(__name__, {
     "rules_of_automake_for_info": Small("safe", "all: a.info b.info a.1\na.info b.info: ; " + INFO + "a.1: ; touch a.1\n", FILES),
     "rules_of_automake_that_find_a_file": Small("race", "all: a.info b\na.info: ; " + INFO + "b: ; touch a.info-1\n", FILES),
     "rules_of_automake_that_fail": Small("safe", "all: a.info b\na.info: ; -" + INFO.replace("sh ./info $@;", "false;") + "b: ; touch b\n", FILES),
@@ -65,7 +71,20 @@ SHELLS: Dict[str, Small] = {
     "loop_over_other_names": Small("safe", "all: a b\na: ; for f in h/*.h; do cp $$f a; done\nb: ; touch h/b.o b\n", FILES),
     "loop_over_these_names": Small("race", "all: a b\na: ; for f in h/*.h; do echo $$f; done > a\nb: ; touch h/2.h b\n", FILES),
     "loop_over_names_of_the_environment": Small("race", "export x = h/*\nall: a b\na: ; for f in h/*.h; do echo $$f $$x; done > a\nb: ; touch h/b.o b\n", FILES),
-}
+    # the same of a script
+    "file_beside_folders": Small("safe", SCRIPT % "touch y; mv y x; touch d/y", {"s": DEEP}, TREE),
+    "file_in_the_last_folder": Small("race", SCRIPT % "touch d/e/y.c", {"s": DEEP}, TREE),
+    "file_of_another_name_in_the_last_folder": Small("safe", SCRIPT % "touch d/e/y.o", {"s": DEEP}, TREE),
+    "link_beside_folders": Small("race", SCRIPT % "ln -s d y", {"s": DEEP}, TREE),
+    "link_that_is_moved_beside_folders": Small("race", SCRIPT % "mv l/k d/y", {"s": DEEP}, TREE + "; mkdir l; ln -s ../d/e l/k"),
+    "link_that_goes": Small("race", SCRIPT % "rm y", {"s": DEEP}, TREE + "; ln -s d y"),
+    "folder_beside_folders": Small("race", SCRIPT % "mkdir -p d/y", {"s": DEEP}, TREE),
+    "folder_that_was_a_file": Small("race", SCRIPT % "rm y; mkdir -p y/e; touch y/e/k.c", {"s": DEEP}, TREE + "; touch y"),
+    "link_that_was_a_file": Small("race", SCRIPT % "rm y; ln -s d y", {"s": DEEP}, TREE + "; touch y"),
+    "file_where_a_folder_is_named": Small("safe", SCRIPT % "echo 1 >> y", {"s": "for f in y/*.c; do echo $f; done\n"}, TREE + "; touch y"),
+    "file_with_a_slash_in_a_macro": Small("race", SCRIPT % "mkdir y; touch y/k.c", {"s": "read x < t; for f in *\"$x\".c; do echo \"$f\"; done\n", "t": "/k\n"}, TREE),
+    "link_beside_folders_of_a_text": Small("race", TEXT % ("echo */e/*.c", "ln -s d y"), {}, TREE),
+})
 
 
 class Texts(unittest.TestCase):
@@ -97,15 +116,3 @@ class Texts(unittest.TestCase):
     def test_programs_that_have_not_run(self) -> None:
         found = patterns_of("cat `echo a | sed s/a/b/` *.h")
         self.assertEqual({"sed"}, found and {*found[1]})
-
-
-class Makefiles(unittest.TestCase):
-    """One test for each makefile of the table."""
-
-
-for key, small in SHELLS.items():
-    setattr(Makefiles, "test_" + key, test_of(key, small))
-
-
-if __name__ == "__main__":
-    unittest.main()

@@ -4,7 +4,7 @@ import shutil
 import sys
 import unittest
 from dataclasses import dataclass, field
-from typing import Callable, Dict, List, Mapping
+from typing import Callable, Dict, List, Mapping, Type
 
 import support
 from record.make.words import LATER
@@ -337,9 +337,9 @@ def test_of(name: str, small: Small) -> Callable[[unittest.TestCase], None]:
     return test
 
 
-class Makefiles(unittest.TestCase):
-    """A test for each makefile."""
+def makefiles(module: str, table: Mapping[str, Small]) -> Type[unittest.TestCase]:
+    """The class of a module that has a test for each makefile."""
+    return type("Makefiles", (unittest.TestCase,), {"__module__": module, **{"test_" + key: test_of(key, one) for key, one in table.items()}})
 
 
-for key, one in SMALL.items():
-    setattr(Makefiles, "test_" + key, test_of(key, one))
+Makefiles = makefiles(__name__, SMALL)

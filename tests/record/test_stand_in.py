@@ -83,7 +83,3 @@ class StandIn(unittest.TestCase):
                 ran = (subprocess.run([program, *words], capture_output=True, stdin=subprocess.DEVNULL, timeout=60, check=False)
                        for program in (race_program(), os.fspath(STAND_IN)))
                 self.assertEqual(*((it.returncode, it.stdout) for it in ran), msg=tasks.read_text(encoding="utf-8") + listing.read_text(encoding="utf-8"))
-
-
-if __name__ == "__main__":
-    unittest.main()

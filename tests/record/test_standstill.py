@@ -100,7 +100,3 @@ class Recorded(unittest.TestCase):
         self.assertNotIn("no file was made", outcome.text())
         self.assertTrue(outcome.stdout.startswith(plain.stdout), outcome.text())
         self.assertEqual(1, outcome.status, outcome.text())
-
-
-if __name__ == "__main__":
-    unittest.main()

@@ -4,7 +4,11 @@ import unittest
 from typing import List
 
 import support  # noqa: F401
+from record.make.database import read_base
 from record.trace.strace import Begun, Call, Ended, Event, Unread, folders, is_cut, read_trace, texts, unescape
+from test_small import Small, makefiles
+
+UNNAMED = "import os\nfd = os.open('.', os.O_TMPFILE | os.O_RDWR, 0o644)\nos.link('/proc/self/fd/%d' % fd, 'f', src_dir_fd=fd, follow_symlinks=True)\n"
 
 
 def events(*lines: str) -> List[Event]:
@@ -71,3 +75,23 @@ class Arguments(unittest.TestCase):
         self.assertTrue(is_cut('"/bin/sh", ["sh", "abc"...]'))
         self.assertTrue(is_cut('"/bin/sh", ["sh", "abc", ...]'))
         self.assertFalse(is_cut('"/bin/sh", ["sh", "abc..."]'))
+
+
+Makefiles = makefiles(__name__, {
+    # by way of /proc, and by numbers
+    "file_that_had_no_name": Small("safe", "all: a b\na: ; python3 t.py; touch a\nb: a ; cat f > b\n", {"t.py": UNNAMED}),
+    # ages
+    "named_pipe_that_nobody_writes": Small("race", "all: b a\na: ; exec 3<> p; echo x >&3; touch a\nb: ; timeout 0.2 head -1 p > b; touch b\n", setup="mkfifo p"),
+})
+
+
+class Marks(unittest.TestCase):
+    """Lines of strace and of make's data base."""
+
+    def test_marks_in_the_name_of_a_descriptor(self) -> None:
+        args = r'AT_FDCWD</t/a\"b, \74c\76>, "x\"y", 3</t/\"q>, "z"'
+        self.assertEqual((['x"y', "z"], ['/t/a"b, <c>', '/t/"q']), (texts(args), folders(args)))
+
+    def test_words_of_the_data_base(self) -> None:
+        base = read_base("# Files\n\na: b\u3000c d | e\xa0f\n\n# files hash-table stats:\n".split("\n"))
+        self.assertEqual((["b\u3000c", "d"], {"e\xa0f"}), (base.prerequisites["a"], base.order_only["a"]))

@@ -71,7 +71,3 @@ class Builds(unittest.TestCase):
         self.assertEqual(1, self.status("all: g.tex a.pdf\n" + makes % "", "\\input{G}"))
         self.assertEqual(1, self.status("all: a.pdf g.tex\n" + makes % "", "\\IfFileExists{G}{}{}"))
         self.assertEqual(0, self.status("all: g.tex a.pdf\na.pdf: g.tex\n" + makes % "", "\\input{G}"))
-
-
-if __name__ == "__main__":
-    unittest.main()

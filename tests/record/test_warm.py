@@ -4,6 +4,10 @@ import unittest
 from typing import Dict
 
 import support
+from test_small import Small, makefiles
+
+IDLE = "nothing was to be done"
+UP_TO_DATE = "touch a"
 
 OLD = "touch -d 2001-01-01 s; touch -d 2002-01-01 "
 KEPT = "kept: s ; touch temporary; cp s kept\n"
@@ -166,5 +170,35 @@ class Warm(unittest.TestCase):
         self.kept(2, "all: c\n\tcp in d/Makefile; $(MAKE) -C d\nc: ; touch c\n", **{"in": OWN})
 
 
-if __name__ == "__main__":
-    unittest.main()
+Makefiles = makefiles(__name__, {
+    # a run in which nothing was to be done
+    "nothing_to_do_in_a_make_inside": Small("no verdict", "all: ; $(MAKE) -f in.mk\n", {"in.mk": "all: a\na: ; touch a\n"}, UP_TO_DATE, IDLE),
+    "no_recipe_at_all": Small("no verdict", "all: a\n", setup=UP_TO_DATE, says=IDLE),
+    "recipe_that_always_runs": Small("safe", "all: a ; @echo done\na: ; touch a\n", setup=UP_TO_DATE),
+    "file_that_make_writes": Small("safe", "all: ; $(file >x,w)\n"),
+    "caller_of_a_make_that_does_more": Small("safe", "all: ; $(MAKE) -f in.mk; touch all\n", {"in.mk": "all: a\na: ; touch a\n"}, UP_TO_DATE),
+})
+
+
+class Beyond(unittest.TestCase):
+    """Targets outside of the project that were there before."""
+
+    def status(self, makefile: str, setup: str, *words: str) -> int:
+        """The status of a recording."""
+        with support.Project({"Makefile": makefile}) as project:
+            project.sh(setup)
+            return project.record(words or ("make",)).status
+
+    def test_target_that_is_there(self) -> None:
+        makefile = "all: ../x fin\n../x: ; touch ../x\nfin: ; touch fin\n"
+        self.assertEqual([2, 0], [self.status(makefile, setup) for setup in ("touch ../x", "true")])
+
+    def test_make_that_has_nothing_to_do(self) -> None:
+        words = ("sh", "-c", "make && cd ../other && make")
+        setup = "mkdir ../other; printf 'x: ; touch x\\n' > ../other/Makefile"
+        self.assertEqual([2, 0], [self.status("y: ; touch y\n", setup + more, *words) for more in ("; touch ../other/x", "")])
+
+    def test_statement_of_ninja(self) -> None:
+        manifest = "rule t\n  command = touch $out\nbuild ../x: t\nbuild fin: t\n"
+        setup = "printf '%s' > build.ninja; " % manifest.replace("\n", "\\n")
+        self.assertEqual([2, 0], [self.status("", setup + more, "ninja") for more in ("ninja ../x > log", "true")])

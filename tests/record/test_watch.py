@@ -154,7 +154,3 @@ class Built(unittest.TestCase):
             with mock.patch.object(library, "build", side_effect=AssertionError):
                 library.put_library(Path(room, "two.so"))
             self.assertEqual(Path(room, "one.so").read_bytes(), Path(room, "two.so").read_bytes())
-
-
-if __name__ == "__main__":
-    unittest.main()

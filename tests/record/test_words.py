@@ -1,11 +1,25 @@
 """What a make said: the lines that the library kept, and what is wrong with them."""
 
+import os
+import re
+import shutil
 import unittest
+from pathlib import Path
 from typing import List
 
 import support  # noqa: F401
+from record.make.flags import asks_jobs
+from record.make.owners import Owners
 from record.make.words import Words, read_words
 from record.watch.files import read_start
+from test_owners import make_of, words_of
+from test_small import Small, makefiles
+
+LISTS = "printf 'all: ; echo $$(wildcard d/%s.c) >> u\\n' > t.mk; $(MAKE) -f t.mk"
+KEEPS = "all: ; %s -s -f in.mk %s\n"
+TWO = "all: a b\na b: ; @%s; touch $@\n"
+FILLED = "all: c\nd: ; mkdir d\na: | d ; touch d/a a\nb: | d ; touch d/b b\nc: a b ; %s\n"
+LISTED = "programs that list a folder"
 
 HEAD = ["ARG all", "ENV MAKEFLAGS=", "SAYS 4.3", "Reading makefiles...", "Updating goal targets....", "Considering target file 'a'."]
 BASE = ["# Make data base, printed on Monday", "# Files", "a:", "", "# files hash-table stats:", "# Finished Make data base on Monday"]
@@ -71,5 +85,102 @@ class Holes(unittest.TestCase):
         self.assertEqual(([], 0), (words.holes, words.status))
 
 
-if __name__ == "__main__":
-    unittest.main()
+Makefiles = makefiles(__name__, {
+    # recipes that one job never reaches, as one has failed, and make goes on
+    "failure_for_a_makefile_that_need_not_be_there": Small("no verdict", "-include x.d\nall: ; touch all\nx.d: p q ; touch x.d\np: ; false\nq: ; touch q\n", says="what stands behind it did not run: p"),
+    "failure_of_a_makefile_that_need_not_be_there": Small("safe", "-include x.d\nall: ; touch all\nx.d: p ; false\np: ; touch p\n"),
+    # makefiles that need not be there
+    "target_that_is_given_up_for_a_makefile": Small("no verdict", "-include x.d\nall: ; touch all\nx.d: p q ; touch x.d\np: r none ; touch p\nr q: ; touch $@\n", says="did not run: p"),
+    "target_without_a_rule_for_a_makefile": Small("safe", "-include x.d\nall: ; touch all\nx.d: q none s ; touch x.d\nq s: ; touch $@\n"),
+    # makefiles that are written again
+    "makefile_that_is_written_again": Small("race", "all: u gen\ngen: ; touch d/n.c gen\nu: ; " + LISTS % "*" + "; " + LISTS % "k" + "\n", {"d/k.c": ""}),
+    "makefile_that_is_written_once": Small("safe", "all: u gen\ngen: ; touch d/n.c gen\nu: ; " + LISTS % "k" + "\n", {"d/k.c": ""}),
+    # folders that are made, where something shows who made them
+    "folder_made_or_true_in_a_make_with_errors": Small("race", KEEPS % ("$(MAKE)", "> log 2>&1"), {"in.mk": TWO % "mkdir d || true"}),
+    "folder_made_or_true_in_a_make_with_output": Small("safe", KEEPS % ("$(MAKE)", "> log"), {"in.mk": TWO % "mkdir d || true"}),
+})
+
+
+class Several(unittest.TestCase):
+    """Recipes that run at once."""
+
+    def test_processes_that_ran_at_once(self) -> None:
+        words = words_of("Putting child 0x5 (a) PID 8 on the chain.", "Putting child 0x6 (b) PID 9 on the chain.")
+        owners = Owners(make_of((8, 5), (9, 6)), [words])
+        self.assertEqual(([], ["a", "b"]), (owners.holes, [job.target for job in owners.jobs.values()]))
+
+    def test_recipe_that_goes_on_in_the_next_round(self) -> None:
+        """As where a recipe fails for a makefile that need not be there, while another one runs."""
+        lines = ["Reading makefiles...", "Updating makefiles....", "Putting child 0x5 (a) PID 8 on the chain.", "Updating goal targets....", "Live child 0x5 (a) PID 8 ",
+                 "Removing child 0x5 PID 8 from chain."]
+        words = read_words(7, 0, lines)
+        self.assertEqual([["a"], []], [[job.target for job in one.jobs] for one in words.rounds])
+        self.assertTrue(words.rounds[0].jobs[0].is_ended)
+
+    def test_letters_of_the_environment(self) -> None:
+        for flags, wanted in (("j", True), ("kj", True), ("kj4", True), ("k", False), ("w -- J=j", False), ("J=kj", False), ("Ij", False)):
+            self.assertEqual(wanted, asks_jobs([], flags), flags)
+
+
+class Language(unittest.TestCase):
+    """Make that would speak another language than English."""
+
+    def test_german(self) -> None:
+        with support.Project({"Makefile": "all: a b\na: ; @echo a > a\nb: ; @cat a > b\n"}) as project:
+            env = dict(os.environ, RACE=support.race_program(), LC_ALL="de_DE.UTF-8", LANGUAGE="de", LOCPATH=str(project.folder / "loc"))
+            project.sh("mkdir loc; localedef -i de_DE -f UTF-8 loc/de_DE.UTF-8 2> /dev/null || true")
+            outcome = project.run(["--", "make"], env)
+        self.assertEqual(1, outcome.status, outcome.text()[-1500:])
+        self.assertTrue(outcome.stdout.startswith(b"RACE"), outcome.text()[:300])
+
+    def test_make_that_is_not_understood(self) -> None:
+        self.assertIn("nothing that the recorder knows", " ".join(read_words(7, 0, ["ARGS all\n", "Makefiles werden gelesen ...\n", "EXIT 0\n"]).holes))
+
+    def test_names_in_another_encoding(self) -> None:
+        with support.Project({"Makefile": "all: \u00fc b\n\u00fc: ; touch \u00fc\nb: ; touch b\n", "\u00fc": ""}) as project:
+            project.sh("mkdir loc; localedef -i de_DE -f ISO-8859-1 loc/de_DE.ISO-8859-1 2> /dev/null || true")
+            env = dict(os.environ, RACE=support.race_program(), LC_ALL="de_DE.ISO-8859-1", LOCPATH=str(project.folder / "loc"))
+            self.assertEqual(2, project.run(["--", "make"], env).status)
+
+
+class Older(unittest.TestCase):
+    """A make that says that it is older than it is."""
+
+    def status(self, makefile: str, version: str, says: bool, **files: str) -> None:
+        with support.Project({"Makefile": makefile, **{name.replace("_", "."): text for name, text in files.items()}}) as project:
+            program = Path(os.path.realpath(shutil.which("make") or "")).read_bytes()
+            own = re.search(rb"\0(4\.\d)(?:\.\d)?\0", program)
+            if own is None:
+                self.skipTest("this make does not say its version in a few bytes")
+            older = project.folder.parent / "make"
+            older.write_bytes(program[:own.start(1)] + version.encode() + program[own.end(1):])
+            older.chmod(0o755)
+            outcome = project.run(["--race", support.race_program(), "--", "make"], {**os.environ, "PATH": "%s:%s" % (older.parent, os.environ["PATH"])})
+        self.assertEqual(0, outcome.status, outcome.text() + outcome.stderr.decode())
+        self.assertEqual(says, LISTED in " ".join(outcome.text().split()))
+
+    def test_wildcard_of_a_recipe(self) -> None:
+        for version, says in (("4.2", True), ("4.3", False)):
+            self.status(FILLED % "echo $(wildcard d/*) > c", version, says)
+
+    def test_wildcard_of_names_that_were_made_in_order(self) -> None:
+        self.status(FILLED.replace("b: |", "b: a |") % "echo $(wildcard d/*) > c", "4.2", False)
+
+    def test_wildcard_of_a_make_inside(self) -> None:
+        for version, says in (("4.2", True), ("4.3", False)):
+            self.status(FILLED % "$(MAKE) -f in.mk; touch c", version, says, in_mk="X := $(wildcard d/*)\nall: ; @echo $X\n")
+
+    def test_list_that_make_keeps(self) -> None:
+        for version, says in (("4.2", True), ("4.3", False)):
+            self.status(FILLED.replace("all: c", "all: c e") % "echo $(wildcard d/*) > c" + "e: a b c ; echo $(wildcard d/*) > e\n", version, says)
+
+
+class Lines(unittest.TestCase):
+    """Lines of make's words."""
+
+    def test_a_line_that_is_not_whole_is_a_hole(self) -> None:
+        for line in ("Considering target file 'xxx", " Must remake target 'x' ", "Putting child 0x5f (xxx", "Live child 0x5f (xxx"):
+            words = read_words(1, 0, ["Reading makefiles...\n", "Updating goal targets....\n", line + "\n"])
+            self.assertIn("a line of make's words cannot be read: " + line, words.holes)
+        words = read_words(1, 0, ["Reading makefiles...\n", "Updating goal targets....\n", "Considering target file 'x'.\n", "Removing child 0x5f PID 7 from chain.\n"])
+        self.assertEqual([], [hole for hole in words.holes if "cannot be read" in hole])

@@ -1,15 +1,14 @@
-"""Names, lines and commands that are longer than what a pipe or strace hands over in one piece: nothing of them is cut without a word."""
+"""Tests of record/trace/moves.py."""
 
 import unittest
 from typing import Dict
 
 import support
-from record.make.words import read_words
-from test_replay import TOP, played
+from test_replay import TOP, events_of, lives_of, played
+from test_small import Small, makefiles
 
-NAME = "x" * 9000
+ABSENT = "all: u a\nu: ; %s 2> /dev/null || echo no > u; touch u\na: ; mkdir d; touch a\n"
 FOLDERS = "n" * 200
-PAIR = {"Makefile": ".PHONY: %s\nall: %s b\n%s: ; @echo a > a; echo said\nb: ; @cat a > b\n" % (NAME, NAME, NAME)}
 DEEP = """import os, sys
 for number in range(25):
     if sys.argv[1] == "make":
@@ -22,17 +21,27 @@ if sys.argv[1] == "number":
 else:
     open("f", "a").close()
 """ % (FOLDERS, FOLDERS)
+NAME = "x" * 9000
+PAIR = {"Makefile": ".PHONY: %s\nall: %s b\n%s: ; @echo a > a; echo said\nb: ; @cat a > b\n" % (NAME, NAME, NAME)}
+Makefiles = makefiles(__name__, {
+    # names that cannot be made, as their folder is not there, or is full
+    "link_in_a_folder_that_is_absent": Small("race", ABSENT % "ln x d/y", {"x": "x"}),
+    "symbolic_link_in_a_folder_that_is_absent": Small("race", ABSENT % "ln -s x d/y"),
+    "folder_that_is_moved_over_a_full_one": Small("race", "all: a u\na: ; touch e/x a\nu: ; mv -T d e 2> /dev/null || echo no > u; touch u\n", setup="mkdir d e"),
+    # folders that move
+    "folder_that_is_moved": Small("race", "all: a b\na: ; mv d e; touch a\nb: ; echo z > e/z; touch b\n", {"d/k": "k"}),
+    "folder_below_one_that_is_moved": Small("race", "all: a b\na: ; mv d e; touch a\nb: ; echo z > e/s/z; touch b\n", {"d/s/k": "k"}),
+    "folder_that_is_moved_and_waited_for": Small("safe", "all: a b\na: ; mkdir t; mv t e; touch a\nb: a ; echo z > e/z; touch b\n"),
+    "two_names_of_one_file_moved": Small("race", "all: a b\na: ; ln x y; python3 mv.py; echo 1 > x; touch a\nb: ; cat y > b || true\n", {"x": "x", "mv.py": "import os\nos.rename('x', 'y')\n"}),
+})
 
 
-class Lines(unittest.TestCase):
-    """Lines of make's words."""
+class Moved(unittest.TestCase):
+    """Folders that are moved while somebody is in them."""
 
-    def test_a_line_that_is_not_whole_is_a_hole(self) -> None:
-        for line in ("Considering target file 'xxx", " Must remake target 'x' ", "Putting child 0x5f (xxx", "Live child 0x5f (xxx"):
-            words = read_words(1, 0, ["Reading makefiles...\n", "Updating goal targets....\n", line + "\n"])
-            self.assertIn("a line of make's words cannot be read: " + line, words.holes)
-        words = read_words(1, 0, ["Reading makefiles...\n", "Updating goal targets....\n", "Considering target file 'x'.\n", "Removing child 0x5f PID 7 from chain.\n"])
-        self.assertEqual([], [hole for hole in words.holes if "cannot be read" in hole])
+    def test_a_process_goes_with_its_folder(self) -> None:
+        replay = played('1 mkdir("d", 0777) = 0', '1 mkdir("d/s", 0777) = 0', '1 chdir("d/s") = 0', '1 rename("../../d", "../../e") = 0', '1 mkdir("n", 0777) = 0')
+        self.assertIn(("M", "e/s/n"), events_of(lives_of(replay, 1)[0]))
 
 
 class Traces(unittest.TestCase):
@@ -91,7 +100,3 @@ class Recorded(unittest.TestCase):
             project.plain(["rm", "-rf", FOLDERS])
         self.assertEqual(2, outcome.status)
         self.assertIn("by the number of its descriptor alone", outcome.text())
-
-
-if __name__ == "__main__":
-    unittest.main()

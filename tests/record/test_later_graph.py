@@ -1,9 +1,33 @@
 """`--missing`: a later build that is another one with no edit at all, and what is taken for granted of it."""
 
 import unittest
-from typing import Dict, NamedTuple, Tuple
+from typing import Callable, Dict, NamedTuple, Tuple
 
 import support
+
+CHAINS = "%.t: %.m ; cp $< $@\n%.m: %.a ; cp $< $@\n%.t: %.n ; cp $< $@\n%.n: %.b ; cp $< $@\n"
+GEN = "gen: %s s\n\tcp s %s\n\ttouch gen\n"
+SEARCHED = {"z.b": "b", "s": "s", "v/k": "k"}
+SECOND = ".SECONDEXPANSION:\n"
+TWO_RULES = "%.t: %.a ; cp $< $@\n%.t: %.b ; cp $< $@\n"
+LATER: Dict[str, Tuple[str, str, Dict[str, str]]] = {
+    "by_way_of_another_file": ("make finds another rule for z.t, as z.a is there", "all: z.t gen\n" + CHAINS + GEN % ("z.t", "z.a"), SEARCHED),
+    "in_a_search_path": ("make finds another rule for z.t, as v/z.a is there", "VPATH = v\nall: z.t gen\n" + TWO_RULES + GEN % ("z.t", "v/z.a"), SEARCHED),
+    "without_a_stem": ("make finds another rule for z.t, as flag is there", "all: z.t gen\n%.t: %.b flag ; cat $^ > $@\n%.t: %.b ; cp $< $@\n" + GEN % ("z.t", "flag"), SEARCHED),
+    "by_a_pattern_of_names": ("make finds another rule for v.zip, as v/n is there", "all: v.zip gen\n%.zip: %/* ; echo $^ > $@\n" + GEN % ("v.zip", "v/n"), SEARCHED),
+    "by_a_second_expansion": ("expands the prerequisites of z.o a second time", SECOND + "all: z.o gen\n%.o: %.b $$(wildcard v/*.h) ; echo $^ > $@\n" + GEN % ("z.o", "v/n.h"), SEARCHED),
+    "by_a_second_expansion_of_a_rule": ("expands the prerequisites of z.o a second time", SECOND + "all: z.o gen\nz.o: z.b $$(wildcard v/*.h) ; echo $^ > $@\n" + GEN % ("z.o", "v/n.h"), SEARCHED),
+}
+def later_of(says: str, makefile: str, files: Dict[str, str], status: int = 2) -> Callable[[unittest.TestCase], None]:
+    """The test of a makefile whose later build finds more, with no edit at all."""
+
+    def test(self: unittest.TestCase) -> None:
+        with support.Project({"Makefile": makefile, **files}) as project:
+            outcome = project.record(options=["--missing"])
+        self.assertEqual(status, outcome.status, outcome.text() + outcome.stderr.decode())
+        self.assertIn(says, outcome.text())
+
+    return test
 
 INNER = {"in/Makefile": "x: y\n\tcp y x\n", "in/y": "y\n"}
 FILES = {"list": "1\n", "h.h": "h\n", **INNER}
@@ -138,5 +162,12 @@ class Later(unittest.TestCase):
 
 support.add_tests(Later, {"hole": HOLES, "premise": PREMISES, "quiet": QUIET, "removed": REMOVED})
 
-if __name__ == "__main__":
-    unittest.main()
+
+class SecondExpansion(unittest.TestCase):
+    """What make looks for when it considers a target, and finds in a later build."""
+
+    test_second_expansion_that_looks_at_nothing = later_of("NOTHING MISSING", SECOND + "all: o/z.o\n%/.: ; mkdir -p $@\no/%.o: %.b | $$(@D)/. ; cp $< $@\n", SEARCHED, 0)
+
+
+for key, (says, makefile, files) in LATER.items():
+    setattr(SecondExpansion, "test_" + key, later_of(says, makefile, files))

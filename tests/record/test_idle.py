@@ -1,30 +1,23 @@
-"""Makefiles with parts that a make does not use, and patterns of which a part is about folders alone."""
+"""Tests of record/make/idle.py."""
 
 import re
 import unittest
 from typing import Dict, List
 from unittest import mock
 
-import support
 from record.make.database import read_base
 from record.make.globs import Macros, listed, patterns
 from record.make.idle import Idle, idle_in, idle_of, recipe_lines, unread, without_defaults, without_idle
 from record.make.searches import asked_names
 from record.make.words import Considered, Round, Words
 from test_replay import TOP, played
-from test_small import Small, test_of
+from test_small import Small, makefiles
 
+LISTS = "S := $(wildcard *.q)\nz: ; echo '$(S)' > z\n"
 # A make inside that lists its folder for one pattern, beside a recipe that makes a name of another one.
 INSIDE = "all: a b\na: ; $(MAKE) -f in.mk\nb: ; %s; touch b\n"
 MAKES = INSIDE % "touch y.x"
-LISTS = "S := $(wildcard *.q)\nz: ; echo '$(S)' > z\n"
-# A recipe that runs a script, or a text, beside one that makes a name.
-SCRIPT = "all: a b\na: s ; sh s > a\nb: ; %s; touch b\n"
-TEXT = "all: a b\na: ; %s > a\nb: ; %s; touch b\n"
-DEEP = "for f in */*/*.c; do echo $f; done\n"
-TREE = "mkdir -p d/e; touch d/e/x.c"
-
-UNREAD: Dict[str, Small] = {
+Makefiles = makefiles(__name__, {
     # recipes of targets that no make considers
     "recipe_of_no_goal": Small("safe", MAKES, {"in.mk": LISTS + "i:\n\tcp $(wildcard *.x) d\n"}),
     "recipe_of_a_goal": Small("race", MAKES.replace("in.mk", "in.mk z i"), {"in.mk": LISTS + "i:\n\techo $(wildcard *.x)\n"}),
@@ -44,73 +37,14 @@ UNREAD: Dict[str, Small] = {
     "branch_around_one_that_is_not_read": Small("race", MAKES, {"in.mk": "N = 1\n" + LISTS + "ifdef N\nL := $(wildcard *.x)\nifdef M\ni: ; touch i\nendif\nendif\n"}),
     "branch_that_is_not_read_by_a_macro": Small("safe", MAKES, {"in.mk": LISTS + "ifdef N\nM = 1\n$(eval L := *.x)\nendif\nD = d\nD += e\ni := $(wildcard $(D)/*.y)\n"}),
     "branch_that_is_read_with_a_macro": Small("race", MAKES, {"in.mk": "N = 1\n" + LISTS + "ifdef N\nM = 1\nL := $(wildcard *.x)\nendif\n"}),
-    "branch_with_a_macro_that_is_taken_away": Small("race", MAKES, {"in.mk": "N = 1\n" + LISTS + "ifdef N\nM = 1\nL := $(wildcard *.x)\nendif\nundefine M\n"}),
     "branch_with_a_macro_that_eval_takes_away": Small("race", MAKES, {"in.mk": "N = 1\n" + LISTS + "ifdef N\nM = 1\nL := $(wildcard *.x)\nendif\n$(eval un$(E)define M)\n"}),
     "branch_with_a_rule_in_a_macro": Small("race", MAKES, {"in.mk": "N = 1\n" + LISTS + "ifdef N\ndefine D\ni: j ; touch i\nendef\nL := $(wildcard *.x)\nendif\n"}),
     "branch_with_a_rule_for_a_file_in_a_search_path": Small("race", MAKES, {"in.mk": "N = 1\nVPATH = d\nz: j ; touch z\nd/j:\nifdef N\nL := $(wildcard *.x)\nj:\nendif\n", "d/j": ""}),
-    # rules of no goal
-    "rule_of_no_goal": Small("safe", MAKES, {"in.mk": "P = vim\n" + LISTS + "$(P).pot: *.x \\\n ../*.h\n\techo $^\n"}),
-    "rule_of_a_goal": Small("race", MAKES, {"in.mk": "P = z\nz: $(wildcard *.q)\n$(P): *.x ; echo $^ > z\n", "w.x": ""}),
-    "rule_of_no_goal_and_a_name_that_it_fits": Small("race", MAKES, {"in.mk": "z: $(wildcard *.q) w.x ; touch z\nP: *.x ; echo $^\n%.x: ; touch $@\n", "w.x": ""}),
-    "rule_of_no_goal_and_a_name_that_is_searched": Small("race", MAKES.replace("a b", "b a", 1), {"in.mk": "z: $(wildcard *.q) y ; touch z\nP: *.x ; echo $^\n%: %.x ; echo x > $@\n%: %.k ; echo k > $@\n", "y.k": ""}),
-    "rule_of_no_target_that_is_known": Small("race", MAKES, {"in.mk": "z: $(wildcard *.q) ; touch z\nP = y\nP = z\n$(P): *.x ; echo $^ > z\n", "w.x": ""}),
     # comments
     "comment": Small("safe", MAKES, {"in.mk": LISTS + "# what wildcard finds, and \\\n$(wildcard *.x)\n"}),
     "comment_of_a_recipe": Small("race", MAKES, {"in.mk": "z:\n\t# $(wildcard *.x)\n\ttouch z\n"}),
     "comment_of_a_macro": Small("race", MAKES, {"in.mk": "define R\n# $(wildcard *.x)\ntouch z\nendef\nz:\n\t$(R)\n"}),
-    # a name with a macro in it
-    "computed_name": Small("safe", MAKES, {"in.mk": "T = a\nO-a = p q\nO-b = p r\nz: $(O-$T) p$(wildcard *.q) ; touch z\np q r p$(wildcard *.q): ; touch $@\n"}),
-    "computed_name_of_a_pattern": Small("race", MAKES, {"in.mk": "T = a\nO-a = p\nO-a = *.x\nz: $(O-$T) ; touch z\n", "w.x": ""}),
-    "computed_name_with_another_text_in_its_place": Small("race", MAKES, {"in.mk": "T = a:p=q\nO-a = *.x\nz: $(O-$(T)-z) ; touch z\n", "w.x": ""}),
-    "rule_of_a_computed_name": Small("race", MAKES, {"in.mk": "N = a\nR-a = z: *.x\n$(R-$(N))\nz: ; echo $^ > z\n", "w.x": ""}),
-    "rule_of_a_name_with_another_end": Small("safe", MAKES, {"in.mk": "N = a\nR-a-y = z: q\nR-a-x = z: *.x\n" + LISTS + "$(R-$(N)-y)\nq:\n"}),
-    "rule_of_a_name_with_two_macros": Small("race", MAKES, {"in.mk": "N = a\nM = -x\nR-a-x = z: *.x\n$(R-$(N)$(M))\nz: ; echo $^ > z\n", "w.x": ""}),
-    "rule_of_one_letter": Small("race", MAKES, {"in.mk": "R = z: *.x\n$R\nz: ; echo $^ > z\n", "w.x": ""}),
-    # prerequisites that are expanded a second time
-    "names_of_a_second_expansion": Small("safe", MAKES, {"in.mk": ".SECONDEXPANSION:\nz: $(wildcard *.q) u.o ; touch z\n%.o: $$(firstword $$(subst u,k, $$*)).y ; touch $@\n", "k.y": ""}),
-    "pattern_of_a_second_expansion": Small("race", MAKES, {"in.mk": ".SECONDEXPANSION:\nz: u.o ; touch z\n%.o: $$(subst u,*,$$*).x ; echo $^ > $@\n", "w.x": ""}),
-    # folders in the middle of a pattern of make
-    "file_where_make_goes_into_folders": Small("safe", MAKES, {"in.mk": "z: ; echo '$(wildcard */*.q)' > z\n", "d/k.q": ""}),
-    "link_where_make_goes_into_folders": Small("race", INSIDE % "ln -s d y", {"in.mk": "z: ; echo '$(wildcard */*.q)' > z\n", "d/k.q": ""}),
-    "folder_where_make_goes_into_folders": Small("race", INSIDE % "mkdir y", {"in.mk": "z: ; echo '$(wildcard */*.q)' > z\n", "d/k.q": ""}),
-    # the same of a script
-    "file_beside_folders": Small("safe", SCRIPT % "touch y; mv y x; touch d/y", {"s": DEEP}, TREE),
-    "file_that_is_there_beside_folders": Small("safe", SCRIPT.replace("a b", "b a", 1) % "touch y d/y", {"s": DEEP}, TREE),
-    "file_in_the_last_folder": Small("race", SCRIPT % "touch d/e/y.c", {"s": DEEP}, TREE),
-    "file_of_another_name_in_the_last_folder": Small("safe", SCRIPT % "touch d/e/y.o", {"s": DEEP}, TREE),
-    "link_beside_folders": Small("race", SCRIPT % "ln -s d y", {"s": DEEP}, TREE),
-    "link_that_is_moved_beside_folders": Small("race", SCRIPT % "mv l/k d/y", {"s": DEEP}, TREE + "; mkdir l; ln -s ../d/e l/k"),
-    "link_that_goes": Small("race", SCRIPT % "rm y", {"s": DEEP}, TREE + "; ln -s d y"),
-    "link_for_a_while": Small("race", SCRIPT % "ln -s d y; rm y", {"s": DEEP}, TREE),
-    "folder_beside_folders": Small("race", SCRIPT % "mkdir -p d/y", {"s": DEEP}, TREE),
-    "folder_that_was_a_file": Small("race", SCRIPT % "rm y; mkdir -p y/e; touch y/e/k.c", {"s": DEEP}, TREE + "; touch y"),
-    "link_that_was_a_file": Small("race", SCRIPT % "rm y; ln -s d y", {"s": DEEP}, TREE + "; touch y"),
-    "file_where_a_folder_is_named": Small("safe", SCRIPT % "echo 1 >> y", {"s": "for f in y/*.c; do echo $f; done\n"}, TREE + "; touch y"),
-    "folder_that_was_a_file_and_is_named": Small("race", SCRIPT % "rm y; mkdir y", {"s": "for f in y/*.c; do echo $f; done\n"}, TREE + "; touch y"),
-    "file_with_a_slash_in_a_macro": Small("race", SCRIPT % "mkdir y; touch y/k.c", {"s": "read x < t; for f in *\"$x\".c; do echo \"$f\"; done\n", "t": "/k\n"}, TREE),
-    "file_beside_folders_of_a_text": Small("safe", TEXT % ("echo */e/*.c", "touch y"), {}, TREE),
-    "link_beside_folders_behind_a_quote": Small("race", TEXT % ("echo ''*/e/*.c", "ln -s d y"), {}, TREE),
-    "link_beside_folders_of_a_text": Small("race", TEXT % ("echo */e/*.c", "ln -s d y"), {}, TREE),
-}
-
-
-class Makefiles(unittest.TestCase):
-    """A test for each makefile."""
-
-
-for key, one in UNREAD.items():
-    setattr(Makefiles, "test_" + key, test_of(key, one))
-
-
-class Later(unittest.TestCase):
-    """What a later build finds in the folders of a pattern."""
-
-    def test_folder_that_a_later_recipe_makes(self) -> None:
-        text = "all: b\na: t ; cat */*.q > a\nb: a ; %s; echo b > b\n"
-        for line, wanted in (("mkdir y; touch y/k.q", True), ("ln -s d y", True), ("echo x > y", False)):
-            with support.Project({"Makefile": text % line, "t": "", "d/a.q": "q\n"}) as project:
-                outcome = project.record(options=["--missing"])
-            self.assertEqual(wanted, any(one in outcome.text() for one in ("finds y otherwise", "LATE  y")), outcome.text())
+})
 
 
 class Texts(unittest.TestCase):
@@ -224,7 +158,3 @@ class Texts(unittest.TestCase):
     def test_parts_of_paths(self) -> None:
         self.assertEqual({(".", "?*/"), ("./*", "a*/"), ("./*/a*/x", "*.c")}, patterns(["S := $(wildcard */a*/x/*.c)\n"], {}))
         self.assertEqual({("./a", "*")}, patterns(["S := $(wildcard a/*)\n"], {}))
-
-
-if __name__ == "__main__":
-    unittest.main()

@@ -160,7 +160,3 @@ class Fixes(unittest.TestCase):
         labels = {"a": {"pool": "p", "depth": "1"}, "b": {"pool": "p", "depth": "1"}, "c": {"pool": ""}, "d": {"pool": ""}}
         self.assertIn("one at a time", pool_text(labels, "a", "b"))
         self.assertEqual("", pool_text(labels, "c", "d") + pool_text(labels, "a", "c"))
-
-
-if __name__ == "__main__":
-    unittest.main()

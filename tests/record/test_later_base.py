@@ -92,7 +92,3 @@ class Answers(unittest.TestCase):
 
     def test_counts(self) -> None:
         self.assertEqual((2, -1), (count_of(["missing 2"], "missing"), count_of(["missing 2"], "late")))
-
-
-if __name__ == "__main__":
-    unittest.main()

@@ -125,7 +125,3 @@ class Skips(unittest.TestCase):
         lines = [self.LOOK, other] * (3 * PIECE // len(self.LOOK + other + "\n\n"))
         self.assertEqual(len(lines) // 2, self.kept(lines, ["/w"]))
         self.assertEqual(len(lines) + 1, self.kept([*lines, '8 unlink("/etc/x") = 0'], ["/w"]))
-
-
-if __name__ == "__main__":
-    unittest.main()

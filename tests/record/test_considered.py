@@ -1,34 +1,58 @@
-"""What GNU make does otherwise since version 4.4: small makefiles, each with the verdict before and since, and functions that know versions."""
+"""Tests of record/make/considered.py."""
 
 import unittest
 from types import SimpleNamespace
 from typing import Dict, cast
 
-import support
 from record.build.assumptions import Assumptions
-from record.make.considered import Considered, is_by_search, takes_for_file
+from record.make.considered import Considered, is_by_search, is_row, takes_for_file
 from record.make.database import Base, read_base
 from record.make.macros import Macros
 from record.make.memory import Lists, keeps_lists
 from record.make.owners import Make
 from record.make.targets import looked_with
 from record.make.unfiled import set_by_expansion
-from record.make.words import LATER, Words
+from record.make.words import Words
 from record.trace.events import MAKE_LISTED
-from test_small import Small, test_of
+from test_small import Small, makefiles
 
-RULES = "%.o: %.c ; echo c > $@\n%.o: %.s ; echo s > $@\n"
+TWO_RULES = "%.t: %.a ; cp $< $@\n%.t: %.b ; cp $< $@\n"
+CHAINS = "%.t: %.m ; cp $< $@\n%.m: %.a ; cp $< $@\n%.t: %.n ; cp $< $@\n%.n: %.b ; cp $< $@\n"
+LISTS = {"b.c": "c\n", "list": "old\n", "old": "old\n", "new": "new\n"}
+SECOND = ".SECONDEXPANSION:\n"
+ROW = "all: a b%s\na: ; echo 1 > x; touch a\nb: ; cat x > b\n%s"
+QUOTE = "all: a b\na: ; touch 'q\"1/x' a\nb:%s ; cd 'q\"1' && test -f x && r=1 || r=0; cd ..; echo $$r > b\n"
 BOTH = {"x.s": "s", "x.c": "c"}
-PAIR = "w: ; echo w > b; touch w\na b &: c%s ; echo new > a; echo new > b\n"
-SETS = ".SECONDEXPANSION:\nX := 1\nset = $(eval X := 2)\nall: a b\na: s ; echo $(X) > a\ns: ; touch s\n%s\n"
-WRITES = ".SECONDEXPANSION:\nall: s b.q\ns: ; cat f > s || echo none > s\n%s ; touch b.q\n"
+RULES = "%.o: %.c ; echo c > $@\n%.o: %.s ; echo s > $@\n"
+FILES = {"t.y": "y", "t.s": "s"}
 # A recipe makes t.c, which another rule makes from t.y where make looks for one: that is for a later target than t.o.
 FOUND = "all: w %s\n%%.o: %%.c ; echo c > $@\n%%.o: %%.s ; echo s > $@\n%%.d: %%.c ; echo d > $@\n%s: %%.y | w ; echo y > $*.q; touch t.c\nw: ; echo w > t.c; touch w\n"
-FILES = {"t.y": "y", "t.s": "s"}
 AWAY = "all: g x.o\n%.o: d/%.c ; echo c > $@\n%.o: %.s ; echo s > $@\ng: ; mv d e; touch g\n"
 IN_FOLDER = {"x.s": "s", "d/x.c": "c"}
-OLD = "touch -d 2001-01-01 b; touch -d 2002-01-01 c; touch -d 2003-01-01 a"
-NEWER: Dict[str, Small] = {
+def macros_of(text: str, values: Dict[str, str], version: str) -> Macros:
+    """The macros of a make of some version, whose makefile has this text."""
+    words = Words(7, 0, version=version, read=[["Makefile"]])
+    make = SimpleNamespace(words=words, known_text=lambda name: text, stale=set(), never_read=lambda name: False)
+    return Macros(cast(Make, make), Base(values=values))
+Makefiles = makefiles(__name__, {
+    # what make looks for when it first considers a target, though what that needs is made later
+    "search_before_what_a_target_needs": Small("race", "all: gen sub/z.t\n" + TWO_RULES + "gen: ; rm sub/z.a; touch gen\nsub/z.b: gen ; echo b > $@\n", {"sub/z.a": "a"}),
+    "search_by_way_of_another_file": Small("race", "all: gen sub/z.t\n" + CHAINS + "gen: ; rm sub/z.a; touch gen\n", {"sub/z.a": "a", "sub/z.b": "b"}),
+    "search_by_a_pattern_of_names": Small("race", "all: gen src.zip\ngen: ; rm src/n; touch gen\n%.zip: %/* ; echo $^ > $@\n", {"src/n": "n", "src/k": "k"}),
+    "search_for_a_declared_intermediate_file": Small("race", ".INTERMEDIATE: sub/x.t\nall: g u\nu: sub/x.t ; cp $< $@\n" + TWO_RULES + "g: ; rm sub/x.a; touch g\n", {"sub/x.a": "a", "sub/x.b": "b"}),
+    "search_that_finds_what_was_considered": Small("safe", "all: g sub/z.p sub/z.t\ng: ; touch g\n%.t: %.m ; cp $< $@\n%.m: %.a ; cp $< $@\n%.p: %.m ; cp $< $@\n.SECONDARY:\n", {"sub/z.a": "a"}),
+    "search_that_finds_a_rule": Small("safe", "all: gen sub/z.t\n" + TWO_RULES + "gen: ; echo b > sub/z.b; touch gen\nsub/z.b: gen ;\n", {"sub/k": "k"}),
+    "search_path_with_a_file_that_goes": Small("race", "VPATH = v w\nall: g t\ng: ; rm v/x.c; touch g\nt: x.c ; touch t log\n", {"v/x.c": "1", "w/x.c": "2", "t": "t"}, "touch -d 2001-01-01 w/x.c; touch -d 2002-01-01 t"),
+    "search_path_of_other_names": Small("safe", "vpath %.h v\nall: g t\ng: ; echo 1 > v/x.c; touch g\nt: x.c ; cp $< t\nx.c: ; echo c > x.c\n", {"v/k": "k"}),
+    "second_expansion_that_reads": Small("race", SECOND + "all: a b.o\na: ; echo new > list; touch a\n%.o: %.c $$(shell cat list) k ; cat $^ > $@\nk: a ; touch k\n", LISTS),
+    "second_expansion_of_a_target_that_is_kept": Small("race", SECOND + "all: a b.o\na: ; echo new > list; touch a\n%.o: %.c $$(shell cat list) ; cat $^ > $@\n", {**LISTS, "b.o": "o"}, "touch -d 2001-01-01 b.c new; touch -d 2002-01-01 b.o"),
+    "second_expansion_to_a_pattern": Small("race", SECOND + "X = d/*.h\nall: a b.o\na: ; rm d/n.h; touch a\n%.o: %.c $$(X) ; echo $^ > $@\n", {"b.c": "c", "d/n.h": "n", "d/k.h": "k"}),
+    "second_expansion_beside_what_recipes_read": Small("safe", SECOND + "all: a b.o\na: ; echo new > list; touch a\n%.o: %.c $$(Y) a ; echo '$(shell cat list)' > $@\n", LISTS, later="race"),
+    # one job at a time
+    "not_parallel_by_a_pattern": Small("race", ROW % (" .NOTPARALLEL", ".PHONY: all\n%: ; @:\n")),
+    # folders with a quote in their names
+    "folder_with_a_quote": Small("race", QUOTE % "", {"q\"1/k": ""}),
+    "folder_with_a_quote_in_order": Small("safe", QUOTE % " a", {"q\"1/k": ""}),
     # a search looks for names that make has considered, unless a rule is about them
     "search_for_a_name_of_another_target": Small("safe", "all: o g x.o\n" + RULES + "o: x.c ; touch o\ng: o ; rm x.c; touch g\n", BOTH, later="race"),
     "search_for_a_name_of_another_target_in_order": Small("safe", "all: o x.o g\n" + RULES + "o: x.c ; touch o\ng: o x.o ; rm x.c; touch g\n", BOTH),
@@ -40,50 +64,18 @@ NEWER: Dict[str, Small] = {
     # it looks on the disk, whatever it has listed before
     "search_in_a_folder_that_goes": Small("no verdict", "X := $(wildcard d/*)\n" + AWAY + "x.o: | g\n", IN_FOLDER, says="no rule makes d/x.c", later="race"),
     "search_in_a_folder_that_goes_later": Small("safe", "X := $(wildcard d/*)\n" + AWAY + "g: x.o\n", IN_FOLDER),
-    # it expands prerequisites a second time when it considers their target
-    # (older makes do so before all recipes, but their data base shows such a macro by the line of a recipe)
-    "macro_that_a_second_expansion_of_a_rule_sets": Small("no verdict", SETS % "b: $$(set) ; touch b"),
-    "macro_that_a_second_expansion_by_way_of_another_sets": Small("safe", SETS % "b: $(also) ; touch b\nalso = | $$(call set)", later="no verdict"),
-    "macro_that_a_first_expansion_sets": Small("safe", SETS % "b: $(set) $$(call other)\n\ttouch b"),
-    "macro_that_a_second_expansion_of_a_rule_sets_for_nobody": Small("no verdict", SETS.replace("(X)", "(Y)") % "b: $$(set) ; touch b"),
-    "macro_by_a_text_as_it_stands": Small("safe", SETS % "b: $(value two) ; touch b\ntwo = $(set)", later="no verdict"),
-    "macro_by_a_dollar_by_itself": Small("no verdict", SETS % "b: $(subst !,$$,!(set)) ; touch b"),
-    "macro_of_a_rule_that_an_eval_reads": Small("safe", SETS % "rule = b: $$$$(set) ; touch b\n$(eval $(rule))", later="no verdict"),
-    "macro_of_a_rule_that_calls_make": Small("safe", SETS % "define rule\n$(1): $$$$(set) ; touch $(1)\nendef\n$(foreach one,b,$(eval $(call rule,$(one))))", later="no verdict"),
-    "macro_of_a_rule_that_a_line_names": Small("safe", SETS % "rule = b: $$(set) ; touch b\n$(rule)", later="no verdict"),
-    "macro_in_a_text_that_no_rule_has": Small("safe", SETS % "b: ; touch b\nrule = b: $$$$(set)"),
-    "macro_behind_more_dollars_of_a_recipe": Small("safe", SETS % "b: ; echo $$$$ > /dev/null; touch b"),
-    "file_that_a_second_expansion_writes": Small("race", WRITES % "b.q: s\n%.q: $$(shell echo f > f)"),
-    "file_that_a_second_expansion_writes_in_order": Small("safe", WRITES.replace("s b.q", "b.q") % "b.q: s\n%.q: $$(shell echo f > f)"),
-    "file_that_a_second_expansion_of_a_rule_writes": Small("safe", WRITES % "b.q: s $$(shell echo f > f)", later="race"),
-    # with a target that is there make looks at the others of its recipe
-    "peer_that_another_recipe_makes": Small("safe", "all: w a\n" + PAIR % "", {"a": "a", "c": "c"}, OLD + "; rm b", later="race"),
-    "peer_that_is_old": Small("safe", "all: w a\n" + PAIR % "", {"a": "a", "b": "b", "c": "c"}, OLD, later="race"),
-    "peer_at_the_first_look": Small("safe", "all: w a\n" + PAIR % " | w", {"a": "a", "b": "b", "c": "c"}, OLD, later="race"),
-    "peer_that_is_in_order": Small("safe", "all: a\n" + PAIR % " | w", {"a": "a", "b": "b", "c": "c"}, OLD),
-}
+})
 
 
-class Makefiles(unittest.TestCase):
-    """A test for each makefile."""
+class Rows(unittest.TestCase):
+    """Makes that run one recipe at a time."""
 
-    def test_text_of_a_program_that_a_second_expansion_reads(self) -> None:
-        for gives in ("$(shell cat f)", "$(file <f)"):
-            with support.Project({"Makefile": SETS % ("b: %s ; touch b" % gives), "f": "s\n"}) as project:
-                outcome = project.record()
-            says = "under .SECONDEXPANSION" in " ".join(outcome.text().split())
-            self.assertEqual((0, support.make_version() >= LATER), (outcome.status, says), outcome.text())
+    BASE = ["# Files", "", ".NOTPARALLEL:%s", "", "# files hash-table stats:"]
 
-
-for key, one in NEWER.items():
-    setattr(Makefiles, "test_" + key, test_of(key, one))
-
-
-def macros_of(text: str, values: Dict[str, str], version: str) -> Macros:
-    """The macros of a make of some version, whose makefile has this text."""
-    words = Words(7, 0, version=version, read=[["Makefile"]])
-    make = SimpleNamespace(words=words, known_text=lambda name: text, stale=set(), never_read=lambda name: False)
-    return Macros(cast(Make, make), Base(values=values))
+    def test_a_row_of_some_targets(self) -> None:
+        for names, version, wanted in (("", "4.3", True), (" a", "4.3", True), ("", "4.4", True), (" a", "4.4", False), (" a", "4.4.1", False)):
+            base = read_base([text % names if "%" in text else text for text in self.BASE])
+            self.assertEqual(wanted, is_row(base, Words(7, 0, version=version)), (names, version))
 
 
 class Versions(unittest.TestCase):
@@ -133,7 +125,3 @@ class Versions(unittest.TestCase):
     def test_targets_at_which_make_looks_together(self) -> None:
         for version, name, ran, wanted in (("4.3", "x", "", []), ("4.4", "x", "", ["y"]), ("4.4", "x", "x", ["y"]), ("4.4", "x", "y", []), ("4.4", "y", "", [])):
             self.assertEqual(wanted, looked_with(self.BASE, version, name, {ran}), (version, name, ran))
-
-
-if __name__ == "__main__":
-    unittest.main()

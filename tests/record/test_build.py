@@ -1,0 +1,14 @@
+"""Tests of modules of record/build that have no file of their own."""
+
+from test_small import Small, makefiles
+
+PAIR = "all: c\na: ; touch a\nb: ; touch b\nc: a b ; "
+Makefiles = makefiles(__name__, {
+    # ages
+    "ages_in_a_make_of_a_function": Small("race", PAIR + "echo '$(shell $(MAKE) -s -f in.mk)' > c\n", {"in.mk": "b: a ; touch b\n"}),
+    # what make does itself
+    "act_of_a_second_rule": Small("race", "all: s a b\ns: ; touch s\na:: ; touch a\na:: s ; $(file >x,1)echo >> a\nb: ; cat x > b || true\n"),
+    # lists of folders, which are said to be that
+    "list_of_a_folder_before_a_read": Small("race", "all: s a\na: ; touch a\ns: ; ls > s; cat a > t || true\n", says="  s  Makefile:3  reads it\n"),
+    "list_of_a_folder_behind_a_read": Small("race", "all: s a\na: ; touch a\ns: ; cat a > t || true; ls > s\n", says="  s  Makefile:3  reads it\n"),
+})

@@ -1,0 +1,53 @@
+"""Tests of modules of record/commands that have no file of their own."""
+
+import os
+import tempfile
+import unittest
+
+from record.commands.shellages import asks_reads
+from record.commands.texts import is_plain, text_of
+from record.make.memory import asked_by
+from record.make.owners import Make
+from record.make.words import Words
+from record.trace.lives import Act, Life
+from test_small import Small, makefiles
+
+# Two recipes that make a folder, and the first may show whether it was there.
+FOLDER = "all: a b\na: ; %s\nb: ; mkdir -p d; touch b\n"
+Makefiles = makefiles(__name__, {
+    # other makes, and makefiles that are gone
+    "copy_of_make": Small("no verdict", "all: ; +./other -s -f in.mk\n", {"in.mk": "all: ; touch all\n"}, "cp $(command -v make) other", says="ran past the recorder"),
+    "another_make": Small("no verdict", "export PATH := $(CURDIR)/bin:$(PATH)\nall: ; make -s -f in.mk\n", {"in.mk": "all: ; touch all\n"}, "mkdir bin; cp /bin/true bin/make", says="ran past the recorder"),
+    "script_that_is_called_make": Small("safe", "all: ; ./make all\n", {"make": "#!/bin/sh\ntouch $1\n"}, "chmod +x make"),
+    "macro_of_lines_of_a_makefile_that_goes": Small("race", "all: s a b z\ninclude in.mk\ns: ; touch s\na: s ; $(set)\nb: ; echo '$(X)' > b\nz: a b ; rm in.mk; touch z\n",
+                                                    {"in.mk": "define set\n$(eval X := set)\ntouch a\nendef\n"}),
+    # folders that are made, where something shows who made them
+    "folder_made_or_true_and_traced": Small("race", "all: a b\na b: ; set -x; exec 2> $@; mkdir d 2> /dev/null || true\n"),
+    "folder_made_or_true_and_traced_by_a_word": Small("race", ".SHELLFLAGS = -xc\nall: a b\na b: ; exec 2> $@; mkdir d 2> /dev/null || true\n"),
+    "folder_made_or_true_and_traced_for_nobody": Small("safe", "all: a b\na b: ; set -x; mkdir d 2> /dev/null || true; touch $@\n"),
+    "folder_made_or_true_and_last_word": Small("race", "SHELL = /bin/bash\nall: a b\na b: ; mkdir d 2> /dev/null || true; echo \"$$_\" > $@\n"),
+    # folders
+    "folder_by_a_function_of_that_name": Small("race", FOLDER % 'mkdir() { /bin/mkdir "$$@" && echo made > a; }; test -d d || mkdir -p d; touch a'),
+    "folder_beside_a_function": Small("safe", FOLDER % "f() { touch a; }; test -d d || mkdir -p d; f"),
+    "folder_and_a_list_of_the_programs_that_ran": Small("race", FOLDER % "test -d d || mkdir -p d; hash > a"),
+})
+
+
+class Texts(unittest.TestCase):
+    """Files that are read when the build has ended."""
+
+    def test_names_that_a_make_asks_for(self) -> None:
+        acts = [Act(1, "S", "/p/a"), Act(2, "S", "/p/b", "b"), Act(3, "N", "/p/c"), Act(4, "Q", "/p/d"), Act(5, "R", "/p/e", "e")]
+        self.assertEqual({"/p/a", "/p/c"}, asked_by(Make(Words(1, 0), Life(1, acts=acts), "/p")))
+
+    def test_what_cannot_be_read_again(self) -> None:
+        with tempfile.TemporaryDirectory() as room:
+            os.mkfifo(room + "/pipe")
+            for path in (room + "/pipe", room, room + "/no", "/dev/stdin", "/dev/fd/0", "/proc/self/status", "/x/../dev/stdin"):
+                self.assertFalse(is_plain(path), path)
+            self.assertRaises(OSError, text_of, room + "/no")
+
+    def test_words_about_read_times(self) -> None:
+        for argv, wanted in ((["perl", "-e", "print -A $f"], True), (["python3", "-c", "x.st_atime"], True), (["python3", "-c", "x.st_mtime"], False),
+                             (["sh", "-c", "cc -o ls ls.o -lutil"], False), (["sh", "-c", "cc -o ls ls.o; ls -lu"], True)):
+            self.assertEqual(wanted, asks_reads(argv, "/"), argv)

@@ -1,0 +1,87 @@
+"""Tests of modules of record/make that have no file of their own."""
+
+import unittest
+
+from record.make import searches
+from record.make.database import read_base
+from test_small import COMMANDS, Small, makefiles
+
+SETUP = "sed -i '1i#!/bin/sh' t; chmod +x t bin2/tool"
+TOOLS = {"t": "echo new > $1\n", "bin2/tool": "#!/bin/sh\necho old > $1\n", "bin/k": ""}
+# `a` starts when `s` has ended, and sets something of make; `b` may start before or after that.
+LATE = "V = 1\n%sall: a b\ns: ; touch s\na: s ; %stouch a\nb: ; %s > b\n"
+SETS = "$(eval V = 2)"
+SHOWS = 'echo "$$W"'
+LOAD = "%sall: c b a\nc: ; touch c\nb: ; echo \"$$X\" > b\na: ; %s; touch a\nx:\n"
+PATH = "export PATH := %s:$(PATH)\nall: c b a\nc: ; touch c\nb: ; cp y b\na: ; ln -s /bin/mv bin/cp; touch a\n"
+SET = "all: s a b\ns: ; touch s\na: s ; %s\nb: ; %s\n"
+OTHER_SETS = "$(eval X := set)touch a"
+KEEPS = "all: ; %s -s -f in.mk %s\n"
+TWO = "all: a b\na b: ; @%s; touch $@\n"
+# A recipe that shows a macro, and one that may change it.
+OTHER_SHOWS = "all: s a b\ns: ; touch s\nb: ; echo '%s' > b\n"
+LOOP = "$(foreach x,a b,$(eval $(call T,$(x))))\n"
+THIRD_SHOWS = "define T\n$(1): s\n\techo '$$(V)' > $$@\nendef\n"
+EACH = THIRD_SHOWS + LOOP  # recipes of a template that show V
+HEAD = "all: s a b\ns: ; touch s\n"
+ONCE = "define O\n$(1)_V = $$(eval $(1)_V := $$(shell cat f))$$($(1)_V)\nendef\n$(eval $(call O,x))\n"
+Makefiles = makefiles(__name__, {
+    # what make looks for when it first considers a target, though what that needs is made later
+    "search_by_a_name_without_a_stem": Small("race", "all: gen sub/z.t\n%.t: %.b sub/flag ; cp $^ $@\n%.t: %.b ; cp $< $@\ngen: ; rm sub/flag; touch gen\n", {"sub/z.b": "b", "sub/flag": "f"}),
+    "search_for_a_member": Small("race", "all: g l.a(sub/x.o)\n(%): % ; ar rcD $@ $<\n%.o: %.a ; cp $< $@\n%.o: %.b ; cp $< $@\ng: ; rm sub/x.a; touch g\n", {"sub/x.a": "a", "sub/x.b": "b"}),
+    # names with blanks
+    "name_with_a_blank_behind_a_bar": Small("race", "all: g x\ng: ; touch a g\nx: a | a\\ b ; touch log x\na\\ b: ; touch 'a b'\n", {"a": "a", "x": "x"}, "touch -d 2001-01-01 a; touch -d 2002-01-01 x"),
+    # programs that make itself looks for before a line of a recipe
+    "program_that_is_a_target_by_a_macro": Small("race", "X = bin\nu: export PATH = $(X):bin2:/usr/bin:/bin\nall: u bin/tool\nbin/tool: ; cp t bin/tool\nu: p ; tool u\np: ; touch p\n", TOOLS, SETUP),
+    "target_that_is_no_program": Small("safe", "export PATH := bin:$(PATH)\nall: bin/k g\ng: ; touch g\nbin/k: ; touch bin/k\n", TOOLS, "rm bin/k"),
+    # who makes a folder first
+    "folder_that_a_script_makes_too": Small("race", "all: a b\na b: ; sh mk.sh $@; mkdir d 2> /dev/null || true\n", {"mk.sh": "mkdir d 2> /dev/null && echo first > $1 || echo second > $1\n"}),
+    # macros that make exports, and those that their values refer to
+    "macro_that_an_exported_one_names": Small("race", LATE % ("W = $(V)\nexport W\n", SETS, SHOWS)),
+    "macro_that_is_exported_by_a_name_in_another": Small("race", LATE % ("W = $(V)\nN = W\nexport $(N)\n", SETS, SHOWS)),
+    "macro_that_the_words_of_make_set": Small("race", "all: ; $(MAKE) -f in.mk x 'W=$$(V)'\n", {"in.mk": LATE.replace("all:", "x:") % ("", SETS, SHOWS)}),
+    # what make does for a recipe when that starts, which a bound on the load lets wait
+    "exported_macro_that_reads_a_file": Small("race", LOAD % ("X = $(if $(filter b,$@),$(shell cat x))\nexport X\n", "echo 1 > x")),
+    "program_in_a_folder_of_path": Small("race", PATH % "$(CURDIR)/bin", {"bin/k": "", "y": ""}),
+    "program_in_a_relative_folder_of_path": Small("race", "all: ; $(MAKE) -C d\n", {"d/Makefile": (PATH % "../bin").replace(" bin/cp", " ../bin/cp"), "bin/k": "", "d/y": ""}),
+    "program_in_a_folder_of_path_elsewhere": Small("safe", LOAD.replace("$$X", "$(shell cat x)") % ("export PATH := /usr/bin:$(PATH)\n", "echo 1 > x")),
+    # folders that are made
+    "folder_made_or_true_in_another_shell": Small("race", "all: a b\na b: ; sh -c 'mkdir d || true' 2> $@.log; touch $@\n"),
+    # macros that make sets by the way
+    "macro_that_a_called_function_shows": Small("race", SET % (OTHER_SETS, "echo '$(call value,X)' > b")),
+    "macro_that_an_exported_one_sets": Small("race", "export V = $(eval N := $(N)x)$(N)\n" + SET % ("echo $$V > a", "echo $$V > b")),
+    "macros_that_set_others_in_a_script": Small("safe", "set = $(eval $1 := 1)\n$(call set,X)\n" + SET % ("echo '$(X)' > a", "echo '$(X)' > b"), {"build.sh": "make all\n"}),
+    # folders that are made, where something shows who made them
+    "folder_made_by_a_line_in_a_make_with_errors": Small("race", KEEPS % ("$(MAKE)", "2> log"), {"in.mk": "all: a b\na b:\n\t@-mkdir d\n\t@touch $@\n"}),
+    "folder_made_or_true_in_a_make_for_a_program": Small("safe", KEEPS % ("$(MAKE)", "2>&1 | cat > log"), {"in.mk": TWO % "mkdir d || true"}, says="what a make prints does the same"),
+    # macros
+    "eval_whose_words_stand_on_the_next_line": Small("race", OTHER_SHOWS % "$(X)" + "a: s\n\t$(eval\\\n\tX := set)touch a\n"),
+    "eval_with_a_new_line_behind_its_name": Small("race", "define both\n$(eval\nX := set)touch $@\nendef\n" + OTHER_SHOWS % "$(X)" + "a: s ; $(both)\n"),
+    "list_of_all_macros_by_a_name_that_is_put_together": Small("race", "of = VARIABLES\n" + OTHER_SHOWS % "$(filter X,$(.$(of)))" + "a: s ; $(eval X := set)touch a\n"),
+    "names_of_macros_that_nobody_sets": Small("safe", "of = PHONY\n" + OTHER_SHOWS % "$(filter X,$(MY_$(of)))" + "a: s ; $(eval X := set)touch a\n"),
+    # what is worked out once
+    "macro_that_keeps_its_value_by_its_name": Small("safe", HEAD + ONCE.replace("cat f", "echo 1").replace("$(1)_V", "V") + EACH),
+})
+
+
+COMMANDS["macros_that_set_others_in_a_script"] = ["sh", "build.sh"]
+
+
+class Searches(unittest.TestCase):
+    """What the data base says of searches."""
+
+    def test_search_paths(self) -> None:
+        lines = ["# files hash-table stats:", "# VPATH Search Paths", "", "vpath %.c v:w", "", "# General ('VPATH' variable) search path:", "# x:y"]
+        self.assertEqual([("%.c", ["v", "w"]), ("%", ["x", "y"])], read_base(lines).search)
+
+    def test_names_that_are_kept(self) -> None:
+        rules = ("%.o: %.c flag", "%.c: %.y", "lib%.a: %.o", "%_test: %_test.o", "%_test.c: %.t", "obj/%.o: src/%.c", "%: %.o", "%:: RCS/%", "(%): %")
+        base = read_base(["# Implicit Rules", "", *rules, "", "# Files"])
+        kept = searches.Searches(base)
+        for name in ("x.o", "d/x.o", "y.o", "obj/x.o", "libx.a", "x_test", "y_test.o", "x", "d/x.tab.c", ".x", "l.a(x.o)", "a.b.c.o"):
+            for depth in (1, searches.DEPTH):
+                self.assertEqual(searches.names_asked(base, name, depth), kept.names(name, depth), name)
+
+    def test_rules_that_end_a_chain(self) -> None:
+        base = read_base(["# Implicit Rules", "", "%:: RCS/%", "", "%.o: %.c", "", "# Files"])
+        self.assertEqual(([(["%"], ["RCS/%"]), (["%.o"], ["%.c"])], {0}), (base.patterns, base.terminal))
