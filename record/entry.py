@@ -96,11 +96,6 @@ def end_traced(strace: "subprocess.Popen[bytes]", left: Left) -> None:
     strace.wait()
 
 
-def paths_of_python() -> List[str]:
-    """The program that runs this, and its real path; it does not know the first where it was started without a `PATH`."""
-    return [path for path in (sys.executable, os.path.realpath("/proc/self/exe")) if path]  # guard: no-variables
-
-
 def forget_coerced(environment: Dict[str, str]) -> None:
     """Takes out what Python itself puts there as it begins where the locale is C: programs would count the signs of a text in another way."""
     if environment.get("LC_CTYPE") in COERCED:
@@ -118,7 +113,7 @@ def speak_utf8() -> None:
     printed is UTF-8, with escapes for what is none."""
     if sys.getfilesystemencoding().lower().replace("-", "") != "utf8":
         options = ["-B"] if sys.dont_write_bytecode else []
-        python = paths_of_python()[0]
+        python = sys.executable or os.path.realpath("/proc/self/exe")  # it does not know its own path where it was started without a PATH
         os.execv(python, [python, *options, "-X", "utf8", *sys.argv])
     for stream in (sys.stdout, sys.stderr):
         if isinstance(stream, io.TextIOWrapper):

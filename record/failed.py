@@ -45,7 +45,7 @@ def of_makes(makes: Sequence[Make], failed: Set[int], folder: str) -> Iterator[F
         words, found = ("make " + make.words.args).strip(), failed_job(make)
         if found is None:
             yield Failure(words, no_rule(make), "", make.life.died)
-        elif not failed.intersection(inner(make.work.get(id(found[1]), Work()))):  # guard: innermost-make-alone
+        else:
             file, line = (found[0].base or Base()).places.get(found[1].target, [("", 0)])[0]
             yield Failure(words, "the recipe of %s failed first" % found[1].target, place(make.folder, file, line, folder), make.life.died)
 

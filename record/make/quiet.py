@@ -18,10 +18,7 @@ def excused(builder: Builder, at: int, folder: str) -> bool:
     kept = builder.make.words.kept_errors if isinstance(builder, RoundBuilder) else ""  # guard: errors-that-make-above-keeps
     if makes_quietly(lives, folder, bool(kept)) or not kept and is_ignored(builder, at, folder):  # guard: lines-that-may-fail
         return True
-    found = kept == "pipe" and (makes_quietly(lives, folder, False) or is_ignored(builder, at, folder))  # guard: errors-that-program-gets
-    if found and isinstance(builder, RoundBuilder):  # who comes second says so, to a program
-        builder.assumed.add("output", "make " + builder.make.words.args)  # guard: errors-that-program-gets-said
-    return found
+    return kept == "pipe" and (makes_quietly(lives, folder, False) or is_ignored(builder, at, folder))  # guard: errors-that-program-gets
 
 
 def makes_quietly(lives: List[Life], folder: str, is_kept: bool) -> bool:

@@ -41,8 +41,9 @@ def fresh_folder(words: List[str]) -> str:
 
 
 def has_ninja(words: List[str]) -> bool:
-    """Whether a command works in a folder that ninja builds in."""
-    return any(os.path.isfile(os.path.join(name, "build.ninja")) for name in (*named_folders(words), "."))
+    """Whether a command works in a folder that ninja builds in, or whose place an earlier copy has."""
+    folders = [os.path.realpath(name) for name in (*named_folders(words), ".")]
+    return any(os.path.isfile(os.path.join(folder, "build.ninja")) or any(map(os.path.lexists, saved_names(folder))) for folder in folders)
 
 
 def saved_names(folder: str) -> Iterator[str]:

@@ -395,7 +395,6 @@ GUARDS: List[Guard] = [
         ("lines-that-may-fail", "if makes_quietly(lives, folder, bool(kept)) or is_ignored(builder, at, folder):", "make.Makefiles.folder_made_by_a_line_in_a_make_with_errors", YES),
         ("errors-that-program-gets", "found =  False and (makes_quietly(lives, folder, False) or is_ignored(builder, at, folder))",
          "make.Makefiles.folder_made_or_true_in_a_make_for_a_program", FALSE_RACE),
-        ("errors-that-program-gets-said", "pass", "make.Makefiles.folder_made_or_true_in_a_make_for_a_program", UNSAID),
         ("errors-that-shell-above-keeps", "found = any(is_quiet(argv, folder, is_kept) for life in lives for argv in life.ran)", "make.Makefiles.folder_made_or_true_in_another_shell", YES),
         ("another-way-too", "return found", "make.Makefiles.folder_that_a_script_makes_too", YES),
         ("lines-that-may-not-fail", r'return bool(makers) and all(is_plain_mkdir(life) for life in makers) and not any(re.match(r"\s*[@+]*\s*(\S*mkdir|\$)", line) for line in ())',

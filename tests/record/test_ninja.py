@@ -178,8 +178,8 @@ class Fresh(unittest.TestCase):
 
     def test_make(self) -> None:
         with support.Project({"Makefile": "all: ; touch all\n"}) as project:
-            self.says(project, "race-record: --fresh cleans folders that ninja builds in, and there is no build.ninja in d or .; for make, clean the tree (make clean) "
-                               "and record it without --fresh\n", "make", "-C", "d")
+            self.says(project, "race-record: make clean ended with 2 here, so --fresh has no clean tree: name an archive of it by --from, or record a clean tree "
+                               "without --fresh\n", "make", "-C", "d")
             self.assertFalse((project.folder / "all").exists())
 
     def test_folder_of_a_run_that_was_killed(self) -> None:
