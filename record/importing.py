@@ -49,7 +49,7 @@ from record.trace.snapshots import Past
 from record.trace.strace import read_trace
 from record.unasked import unasked
 from record.watch.files import PRINTS, files_in, open_file, read_start
-from record.warm import did_nothing, made_unseen, stand_alone, warm_names
+from record.warm import did_nothing, is_inside, made_unseen, stand_alone, warm_names
 
 
 IDLE = "nothing was to be done, so nothing was seen: record a clean tree (--fresh)"
@@ -198,9 +198,10 @@ def import_record(facts: Facts, record: Record) -> Imported:
 
 
 def texts_of(owners: Owners, names: Names) -> Dict[str, str]:
-    """By path: what each makefile said when make read it."""
+    """By path: what each makefile said when make read it; nothing for one that a make begins with which no recipe runs, as without it there is no such build."""
     found = {names.find(make.folder, name, True).path: make.known_text(name) for make in owners.makes for name in makefiles(make.words)}
-    return {path: text for path, text in found.items() if text is not None}
+    first = {names.find(make.folder, name, True).path for make in owners.makes if not is_inside(make) for name in [one for start in make.words.read[:1] for one in start[:1]]}
+    return {path: "" if path in first else text for path, text in found.items() if text is not None}
 
 
 def finish(record: Record, found: Imported, names: Names, out: str, warm: bool) -> None:

@@ -63,12 +63,16 @@ def does_nothing(build: MakeBuild, node: Node) -> bool:
     return OF_SYSTEM.match(shell) is not None and os.path.basename(shell) in SHELLS and all(RUNS_NOTHING.fullmatch(line) for line in base.recipes.get(node.name, []))  # guard: recipes-that-do-something
 
 
+def is_inside(make: Make) -> bool:
+    """Whether a recipe of another make or ninja runs a make."""
+    return any(up.is_make or up.is_ninja for up in make.life.up() if up is not make.life)
+
+
 def is_beginning(build: MakeBuild, node: Node) -> bool:
     """Whether a target is the makefile that make finds by itself when it begins, and no recipe runs that make, which might have made it: without it there is
     no such build, and where it is older than what it is made of, it is made again before all goals."""
     first = [name for start in build.make.words.read[:1] for name in start[:1]]
-    is_inside = any(up.is_make or up.is_ninja for up in build.make.life.up() if up is not build.make.life)
-    return node.name in first and node.name in DEFAULTS and not is_inside  # guard: makefile-that-words-name
+    return node.name in first and node.name in DEFAULTS and not is_inside(build.make)  # guard: makefile-that-words-name
 
 
 def did_nothing(builds: List[Build]) -> bool:

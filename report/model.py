@@ -167,6 +167,7 @@ class Report:
     unmet: list[str] = field(default_factory=list)  # entries of race-ignore that are about nothing
     shows_all: bool = False  # each race has a block of its own in the text
     is_direct: bool = False  # of a makefile, without a record
+    tree: str = ""  # what the build started from
     tool: str = "make"  # what ran the recipes: ninja where no make did, tasks where nobody knows
     missing: Question | None = None  # of a record with --missing: what recipes read and make does not know of
 

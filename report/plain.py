@@ -33,7 +33,7 @@ def summary(report: Report) -> str:
         of_record = f"The record has {counted(len(report.holes), 'hole')}." if report.holes else "No recipe ran in the recorded build, so nothing is judged."
         return "race refuses this input." if report.is_direct else of_record
     if report.verdict == "safe":
-        same = SAME[report.tool]
+        same = SAME[report.tool] + (f", for {report.tree}" if report.tree else "")
         return f"{same}. {recipes}; {counted(report.pairs, 'pair')} that conflict are in order."
     files = len({it.path for it in report.races})
     return f"{counted(len(report.races), 'race')} on {counted(files, 'file')}. {recipes}."

@@ -125,8 +125,10 @@ _race() {
       -o|--output) mapfile -t COMPREPLY < <(compgen -d -- "$word"); return ;;
       --race) mapfile -t COMPREPLY < <(compgen -f -- "$word"); return ;;
       --top) mapfile -t COMPREPLY < <(compgen -d -- "$word"); return ;;
+      --from) mapfile -t COMPREPLY < <(compgen -f -- "$word"); return ;;
+      --setup) COMPREPLY=(); return ;;
     esac
-    case $word in -*) mapfile -t COMPREPLY < <(compgen -W "-h --help -o --output --race --top --warm --fresh --keep-trace --footprints --missing -V --version" -- "$word"); return ;; esac
+    case $word in -*) mapfile -t COMPREPLY < <(compgen -W "-h --help -o --output --race --top --warm --fresh --from --setup --keep-trace --footprints --missing -V --version" -- "$word"); return ;; esac
     mapfile -t COMPREPLY < <(compgen -c -- "$word") ;;
   'race-report')
     case $before in
