@@ -34,7 +34,7 @@ class Status:
 
     def drop_stamps(self, names: Names, lives: List[Life], began: int) -> None:
         """Takes out the stamps that were absent when make began: those are of a recipe of make alone."""
-        first = first_changes(lives, self.stamps - names.before.keys())  # guard: stamps
+        first = first_changes(lives, self.stamps - names.before.keys())
         self.made -= {path for path, place in first.items() if place > began}  # guard: stamps-of-command
 
 

@@ -52,7 +52,7 @@ def is_made(build: MakeBuild, node: Node, builds: List[Build]) -> bool:
     that make begins with."""
     if not node.has_recipe or node.phony:
         return False
-    is_kept = not (node.jobs or node.must or any(node.path in other.writers for other in builds))  # guard: recipe-that-does-nothing-beside-one-that-writes
+    is_kept = not (node.jobs or node.must or any(node.path in other.writers for other in builds))
     return not (is_kept and (does_nothing(build, node) or is_beginning(build, node)))  # guard: recipes-that-do-nothing
 
 
@@ -133,7 +133,7 @@ def is_new_link(build: MakeBuild, node: Node, names: Names) -> bool:
 
 def is_made_link(path: str, names: Names) -> bool:
     """Whether there is a link at this path that was not there before."""
-    return machine.islink(path) and path not in names.before  # guard: links
+    return machine.islink(path) and path not in names.before
 
 
 def output_path(ninja: Ninja, path: str, names: Names) -> str:
