@@ -275,7 +275,7 @@ that of `race check`.
 What comes out goes behind MAKEFILE: `race fix .. >> makefile`. Each line `NAME: NAME # REMARK`
 makes the second of two recipes that race wait for the first. The build as it is needs each of
 these edges. race reads the makefile with the lines again, and prints them only where that build is
-safe, and no recipe changes but for the prerequisites in the lines. A file without a recipe may get
+safe, and no recipe changes except the prerequisites in the lines. A file without a recipe may get
 one by inference, which may make a line needless. Where the build is safe nothing comes out.
 
 Where no lines do that, comments alone come out: `# not fixed`, and for each line that is needed
