@@ -110,7 +110,7 @@ class Replay:
         """What a process has from who started it: its folder, its mask, and until it runs a program of its own the words."""
         if not child.is_heir:  # else it may have changed these since  # guard: what-process-changed-before-its-start-is-finished
             child.folder, child.mask = parent.folder, parent.mask
-        child.cut, child.taken, child.compares_here, child.looks = parent.cut, parent.taken, parent.compares_here, parent.looks  # guard: ages-of-folder-in-part-of-script
+            child.cut, child.taken, child.compares_here, child.looks = parent.cut, parent.taken, parent.compares_here, parent.looks  # guard: ages-of-folder-in-part-of-script
         child.argv = child.argv or parent.argv
 
     def play(self, event: Event) -> None:

@@ -175,6 +175,7 @@ GUARDS: List[Guard] = [
         ("several", "return known", "replay.Traces.process_that_several_may_have_started"),
         ("several", 'return known + ["number %d" % pid for pid, events in self.waiting.items()]', "replay.Traces.thread_that_only_ends"),
         ("what-process-changed-before-its-start-is-finished", "if True:", "replay.Lives.folder_of_a_process_that_changes_it_first"),
+        ("what-process-changed-before-its-start-is-finished", "if True:", "replay.Lives.text_that_a_shell_reads_before_its_start_is_finished"),
         ("ages-of-folder-in-part-of-script", "child.cut, child.taken, child.compares_here, child.looks = parent.cut, parent.taken, False, parent.looks",
          "replay.Makefiles.age_of_a_folder_in_a_part_of_a_script", YES),
         ("threads-wait-for-who-starts", "return len({(p.folder, p.mask) for p in parents}) > 1", "replay.Lives.thread_that_is_seen_first"),

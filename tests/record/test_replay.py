@@ -107,6 +107,13 @@ class Lives(unittest.TestCase):
         one, two = lives_of(replay, 1)[0], lives_of(replay, 2)[0]
         self.assertEqual((True, True, 0o77), (("M", "sub/a") in events_of(two), ("M", "b") in events_of(one), two.mask))
 
+    def test_text_that_a_shell_reads_before_its_start_is_finished(self) -> None:
+        """A shell that reads a file without a first line itself has read it, wherever the call that started it is finished."""
+        shell, begin, end = '1 execve("/bin/bash", ["bash", "s"], 0x7 /* 1 var */) = 0', "1 clone(child_stack=NULL, flags=SIGCHLD <unfinished ...>", "1 <... clone resumed>) = 2"
+        text = '2 execve("./u", ["./u"], 0x7 /* 1 var */) = -1 ENOEXEC (Exec format error)'
+        for lines in ((begin, text, end), (begin, end, text)):
+            self.assertEqual((TOP + "/u",), lives_of(played(shell, *lines), 2)[0].taken, lines)
+
     def test_thread_that_is_seen_first(self) -> None:
         begin, end = "1 clone3({flags=CLONE_VM|CLONE_FS|CLONE_THREAD}, 88 <unfinished ...>", "1 <... clone3 resumed>) = 2"
         leave, enter = "2 unshare(CLONE_FS) = 0", '2 chdir("sub") = 0'
