@@ -38,16 +38,26 @@ def build(to: Path) -> None:
         to.parent.mkdir(parents=True, exist_ok=True)
         part = to.with_suffix(".%d" % os.getpid())
         shutil.copy(made, part)
+        part.chmod(0o755)
         part.replace(to)
+
+
+def is_here(path: Path) -> bool:
+    """Whether a path is below the folder in which the build begins."""
+    return os.path.realpath(path).startswith(os.path.realpath(".").rstrip("/") + "/")
 
 
 def put_library(to: Path) -> None:
     """Puts the library where make will find it: its copy is as new as the recording."""
     found = INSTALLED if INSTALLED.is_file() else kept()
     try:
+        if is_here(found):  # the build may look around there
+            build(to)
+            return
         if not found.is_file():
             build(found)
         shutil.copyfile(found, to)
     except OSError:  # nothing can be kept there
         build(to)
+        return
     to.chmod(0o755)

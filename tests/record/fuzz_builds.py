@@ -243,8 +243,8 @@ def judge(project: Project, room: Path, runs: int, recorder: Path = RECORDER, sh
     holds = list(schedules(builder.folder / ".race")) if result.verdict == "race" else []
     left = Outcome(serial[0].status, recorded.tree)
     several = has_jobs(project)
-    changed = differences(serial[0], left) or plain and not several and said_otherwise(plain, recorded)
-    if changed and not (several and result.verdict != "safe"):
+    changed = not several and (differences(serial[0], left) or plain and said_otherwise(plain, recorded))
+    if changed:
         is_timed = differences(serial[0], left) and not differences(builder.slow(), left)
         result.kind, result.about = "unstable" if is_timed else "changed", changed
     elif serial[0].status:
