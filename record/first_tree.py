@@ -112,7 +112,7 @@ def left_behind(tree: FirstTree, before: Dict[str, str], lives: "Iterable[Life]"
     tops = tuple(configured_tops(before))
     written = {path for build in builds for task in build.tasks if task.kind == "recipe" for path in task.writes}
     found = {path for path in used(before, lives) if not tree.has(path) and (path in written or tree.is_own(path) and not path.startswith(tops))}
-    return {path for path in found if not (path + "/").startswith(kept + "/") and (path not in texts or has_rules(texts[path]))}
+    return {path for path in found if not (path + "/").startswith(kept + "/") and (path not in texts or has_rules(texts[path]))}  # guard: what-earlier-build-left
 
 
 def used(before: Dict[str, str], lives: "Iterable[Life]") -> Set[str]:
@@ -132,7 +132,7 @@ def used(before: Dict[str, str], lives: "Iterable[Life]") -> Set[str]:
                 made.add(path.rstrip("/"))
             if kind == CREATED:
                 filled.add(os.path.dirname(path.rstrip("/")))
-    seen = {path for path, place in looks.items() if before.get(path) in ("f", "l") and place <= changes.get(path, place)}
+    seen = {path for path, place in looks.items() if before.get(path) in ("f", "l") and place <= changes.get(path, place)}  # guard: used-before-written
     return seen | {path for path in filled - made if before.get(path) == "d"}
 
 
