@@ -85,7 +85,7 @@ fn write_note<E: Outlet>(note: &[u8], err: &mut E)
     let _ = written;
 }
 
-/// Tells a failure by a line on the standard error, whose own failure is passed over, and says how the program ends. It needs
+/// Reports a failure by a line on the standard error, whose own failure is passed over, and says how the program ends. It needs
 /// no memory.
 pub fn fail<E: Outlet>(failure: &Failure, err: &mut E) -> Status
     requires { E.has_failed err.old ≡ false }
