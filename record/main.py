@@ -33,14 +33,14 @@ from record.ninja.log import Kept
 from record.progress import Elapsed
 from record.report import Judged, colours, read_json, report
 from record.standstill import Standstill
-from record.trace.classes import traced
+from record.trace.classes import shown_as_numbers, traced
 from record.trace.unfollowed import Older
 from record.trace.pipe import Pipe
 from record.trace.sifting import sift
 from record.watch.lay import Watch, makes_of, why_silent
 from record.watch.library import NotBuilt
 
-STRACE = ["strace", "-f", "-q", "-y", "--seccomp-bpf", "-s", str(32 * os.sysconf("SC_PAGE_SIZE")), "-e", "signal=hup,int,quit,abrt,kill,segv,pipe,term,xfsz", "-e", "trace=" + traced()]  # guard: long-commands
+STRACE = ["strace", "-f", "-q", "-y", "--seccomp-bpf", "-s", str(32 * os.sysconf("SC_PAGE_SIZE")), "-e", "signal=hup,int,quit,abrt,kill,segv,pipe,term,xfsz", "-e", "trace=" + traced(), "-e", "raw=" + shown_as_numbers()]  # guard: long-commands
 EXAMPLE = """examples:
   race-record --fresh -- make             a serial build of what git tracks, then the verdict
   race-record --fresh --setup ./configure -- make

@@ -4,7 +4,8 @@ from dataclasses import dataclass, field
 from typing import Dict, Iterable, Iterator, List, Tuple
 
 from record.trace.events import CHANGES
-from record.trace.lives import Key, Life
+from record.trace.courses import Key
+from record.trace.lives import Life
 
 Pair = Tuple[str, str]  # an output, and an input whose age is compared with its own
 

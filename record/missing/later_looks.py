@@ -19,7 +19,8 @@ from record.make.owners import Make, called_by
 from record.missing.footprints import is_below
 from record.tools.python import BYTE_CODE
 from record.trace.lists import fits
-from record.trace.lives import Key, Life
+from record.trace.courses import Key
+from record.trace.lives import Life
 from record.trace.names import Names
 
 MODULES = (".py", ".pyc", ".so")  # guard: modules

@@ -11,7 +11,7 @@ from typing import Callable, Dict, Iterable, List, Tuple
 from record.commands import shellages, shelltext
 from record.commands.system import SETTINGS, TEMPORARY
 from record.trace.arguments import TEXT_END, Opening, opening, spelled
-from record.trace.classes import SHARING
+from record.trace.classes import COPIES, DOUBLES, NO_FILES, PAIRS, SHARING, SLEEPS, WAITS, WRITES
 from record.trace.descriptors import CHANGING, OF_KERNEL, READING, requests
 from record.trace.events import (
     ABSENT, AGE_SEEN, AGE_TAKEN, AGE_UNKNOWN, CREATED, ENTERED, FOLDER_KEPT, FOLDER_REMOVED, LINKS_CHANGED, LINKS_SEEN, LISTED, MADE,
@@ -36,7 +36,7 @@ CHANGES = {"chmod", "chown", "lchown", "utime", "utimes", "truncate", "setxattr"
            "setxattrat", "removexattrat", "file_setattr"}  # guard: new-names
 TIMES = {"utime", "utimes", "utimensat", "futimesat", "utimensat_time64"}
 BY_NUMBER = {"fchmod", "fchown", "fchown32", "ftruncate", "ftruncate64", "fsetxattr", "fremovexattr"}  # by a descriptor alone
-NUMBERED = {"umask", "kill", "tkill", "tgkill", "rt_sigqueueinfo", "rt_tgsigqueueinfo", "pidfd_open"}  # calls whose first number is no descriptor  # guard: no-descriptors
+NUMBERED = {"umask", "kill", "tkill", "tgkill", "rt_sigqueueinfo", "rt_tgsigqueueinfo", "pidfd_open", *WAITS}  # calls whose first number is no descriptor  # guard: no-descriptors
 THERE = ("EEXIST", "EISDIR", "ENXIO", "EACCES", "ENOTEMPTY")  # errors of an open that say that something has the name
 
 # Parts of arguments, as strace shows them.
@@ -156,6 +156,8 @@ class Calls(Started):
         base, path, folder, flags, changes, follow = asked = opening(call.args)
         if folder:
             life.folder = folder
+        if ok:
+            self.hold(life, call, changes or call.name == "creat")
         if ok and changes and SETTINGS.match(call.opened or path):  # guard: files
             self.put_unfollowed(life, "the change of " + path)
         if self.said and path.startswith(self.said):
@@ -389,6 +391,8 @@ METHODS: Tuple[Tuple[Handler, Iterable[str]], ...] = (
     (Calls.on_execve, ("execve", "execveat")),
     (Calls.on_fork, MAKES_PROCESS),
     (Calls.on_core, ("core",)),  # no call: strace.py makes it of the line that says how a process ended
+    (Calls.on_wait, WAITS),
+    (Calls.on_sleep, SLEEPS),
     (Calls.on_ptrace, ("ptrace",)),
     (Calls.on_kill, ("kill", "tkill", "tgkill", "rt_sigqueueinfo", "rt_tgsigqueueinfo", "pidfd_open")),
     (Calls.on_umask, ("umask",)),
@@ -396,6 +400,9 @@ METHODS: Tuple[Tuple[Handler, Iterable[str]], ...] = (
     (Calls.on_fcntl, ("fcntl", "fcntl64")),
     (Calls.on_ioctl, ("ioctl",)),
     (Calls.on_flock, ("flock",)),
+    (Calls.on_write, WRITES | COPIES),
+    (Calls.on_double, DOUBLES),
+    (Calls.on_no_file, NO_FILES | PAIRS),
     (Calls.on_socket, ("socket",)),
     (Calls.on_bind, ("bind", "connect")),
     (Calls.on_watch, ("inotify_add_watch", "fanotify_mark")),

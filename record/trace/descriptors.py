@@ -4,11 +4,12 @@ import re
 from typing import List, Set
 
 from record.commands import shelltext
-from record.trace.classes import HIDING, LEFT_OUT, SHARING, UNFOLLOWED, named
-from record.trace.events import CREATED, LOCKED, MAKER_SEEN, MODE_GIVEN
+from record.trace.classes import HIDING, LEFT_OUT, NO_FILES, SHARING, UNFOLLOWED, WRITES, named
+from record.trace.events import CREATED, LOCKED, MAKER_SEEN, MODE_GIVEN, OUTPUT
 from record.trace.lives import Life
 from record.trace.names import Found, Inode
 from record.trace.processes import Processes
+from record.trace.replay import DEVICES
 from record.trace.strace import Call, folders
 
 REQUEST = re.compile(r"\d+<(?:[^<>\\]|\\.)*>(?:\(deleted\))?, ([^,]+)")
@@ -25,6 +26,9 @@ WAITS = re.compile(r", F_(?:OFD_)?SETLKW(?:64)?, (?!\{l_type=F_UNLCK)")  # one t
 LOCK_FILE = re.compile(r", O_RDONLY\|O_CREAT(?:\|O_(?:NOCTTY|CLOEXEC|LARGEFILE))*, 0666$")  # how `flock` opens it
 FOR_A_WHILE = re.compile(r"-\w*[nw]|--[nwt]")  # options of `flock`: `-n`, `-w SECONDS`
 STATUS = re.compile(r"-\w*E|--c[a-z-]*")  # and one that has a word behind it: `-E NUMBER`
+NUMBER_FIRST = re.compile(r"\d+")
+NUMBERS = re.compile(r"[\[ ](\d+)<")  # of `pipe2([3<pipe:[7]>, 4<pipe:[7]>], 0)`
+FROM_TO = re.compile(r"(?:^|, )(\d+)<(?:[^<>\\]|\\.)*>")  # the descriptors of a copy
 LEASE = re.compile(r", F_(?:SETLEASE|NOTIFY), ")
 LOOSE = re.compile(r"AF_(?:INET6?|UNIX), SOCK_(?:DGRAM|RAW)\b")  # a socket that may send without being connected
 STAND_IN = "a program read make itself, and found the recorder's copy in its place: "
@@ -61,6 +65,36 @@ class Opened(Processes):
             self.wait_for_lock(life, call)
         elif ok and LEASE.search(call.args):  # guard: leases-said
             self.watchers.append(" ".join(life.argv)[:100])
+        elif ok and ", F_DUPFD" in call.args:
+            self.on_double(life, call, ok)
+
+    def hold(self, life: Life, call: Call, changes: bool) -> None:
+        """A process gets a descriptor, perhaps of a file that it may write."""
+        if changes and call.opened.startswith("/") and not DEVICES.match(call.opened) and not call.opened.startswith(self.own):
+            life.course.files[call.result] = (call.opened, "O_CLOEXEC" not in call.args)
+        else:
+            life.course.files.pop(call.result, None)
+
+    def on_write(self, life: Life, call: Call, ok: bool) -> None:
+        """Something is written into what is open, perhaps by another process than the one that opened it."""
+        number = int(call.args.partition(",")[0], 0) if call.name in WRITES else int(FROM_TO.findall(call.args)[0 if "sendfile" in call.name else -1])
+        found = life.course.files.get(number)
+        if ok and found is not None:
+            self.keep(life, OUTPUT, found[0])  # guard: who-writes-through-descriptor
+
+    def on_double(self, life: Life, call: Call, ok: bool) -> None:
+        """A descriptor has a second number."""
+        files = life.course.files
+        found = files.get(int(NUMBER_FIRST.match(call.args)[0])) if files else None  # type: ignore[index]
+        if ok and found is not None:
+            files[call.result] = (found[0], "CLOEXEC" not in call.args)  # guard: second-numbers
+        elif ok:
+            files.pop(call.result, None)  # guard: numbers-that-lead-elsewhere
+
+    def on_no_file(self, life: Life, call: Call, ok: bool) -> None:
+        """A descriptor leads to no file from now on."""
+        for number in [call.result] if call.name in NO_FILES else map(int, NUMBERS.findall(call.args)) if life.course.files else ():
+            life.course.files.pop(number, None)  # guard: numbers-of-pipes
 
     def wait_for_lock(self, life: Life, call: Call) -> None:
         """Whose recipe has taken another lock may wait for ever, where a second recipe takes the two in another order."""
@@ -100,6 +134,7 @@ class Opened(Processes):
 
     def on_socket(self, life: Life, call: Call, ok: bool) -> None:
         """Datagrams go to a server without a call that connects."""
+        life.course.files.pop(call.result, None)
         if ok and LOOSE.search(call.args):  # guard: datagrams-said
             self.sockets.append(" ".join(life.argv)[:100])
 

@@ -23,6 +23,7 @@ MAKE_OPENED = "q"  # a make opened a folder: it asks for names there, or lists t
 
 # Changes.
 WRITTEN = "W"  # what a file holds, or what is known of it
+OUTPUT = "w"  # a file that is open was written: by who opened it, or by who has the descriptor from there
 CREATED = "C"  # a name came; that of a folder has a slash behind it
 REMOVED = "D"  # a name went
 LOCKED = "F"  # a file was opened for a lock: it is made where it is not there, and nothing is read or written

@@ -4,11 +4,11 @@ A process number comes again, so a life is what counts. An event is a kind and a
 """
 
 from dataclasses import dataclass, field
+from functools import cached_property
 from typing import Dict, Iterable, List, NamedTuple, Optional, Set, Tuple
 
 from record.commands.shelltext import Traits
-
-Key = Tuple[str, str]
+from record.trace.courses import Course, Key
 
 
 @dataclass
@@ -74,6 +74,11 @@ class Life:
     known: Optional[Traits] = None
     begun: int = 0  # where the program began that runs now
     programs: List[Program] = field(default_factory=list)  # all that it ran itself
+
+    @cached_property
+    def course(self) -> Course:
+        """How it went: of a thread how its process did."""
+        return Course(self)
 
     def traits(self) -> Traits:
         """What the words say of its looks."""

@@ -15,6 +15,9 @@ from record.trace.strace import Call
 
 SETTERS = ("prlimit", "taskset", "chrt", "ionice")
 OTHER = re.compile(r"-[a-zA-Z]*[pPu]|--(?:pid|pgid|uid)")  # the word behind which they name a process
+ANY_CHILD = re.compile(r"-|0,|P_(?:ALL|PGID)\b")  # a wait for any child, or any of a group
+WAITED = re.compile(r"\bsi_pid=(\d+)")
+STOPPED = re.compile(r"WIFSTOPPED|WIFCONTINUED|CLD_(?:STOPPED|CONTINUED|TRAPPED)")
 NUMBER = re.compile(r"-?(\d+)\b")  # of a process, or of the first one of a group
 
 
@@ -55,7 +58,24 @@ class Processes(Moves):
         if ok and "CLONE_UNTRACED" in call.args:  # guard: processes-that-run-unseen
             self.holes.append("a process runs unseen (CLONE_UNTRACED, as that of LeakSanitizer does): " + " ".join(life.argv)[:100])
         elif ok and call.result > 0:
-            self.child(life, call.result, "CLONE_FS" in call.args)
+            self.child(life, call.result, "CLONE_FS" in call.args, call.name + call.args)
+
+    def on_wait(self, life: Life, call: Call, ok: bool) -> None:
+        """A process waits for the end of others: for one that it names, or for any child."""
+        is_any, is_blocking = bool(ANY_CHILD.match(call.args)), "WNOHANG" not in call.args  # guard: waits-for-any-child
+        course, found = life.course, WAITED.search(call.args) if call.name == "waitid" else None
+        pid = int(found.group(1)) if found is not None else call.result if call.name != "waitid" else 0
+        if ok and pid > 0 and not STOPPED.search(call.args):  # guard: child-that-is-stopped
+            child = self.lives.get(pid)
+            if child is not None:
+                course.wait(child.course, self.place, not is_any, is_blocking)
+        elif call.error == "ECHILD" and is_any and is_blocking:  # guard: child-that-ends-unheard
+            course.wait_for_all(self.place)
+        course.has_slept = course.has_slept and not is_blocking  # guard: sleep-before-other-wait
+
+    def on_sleep(self, life: Life, call: Call, ok: bool) -> None:
+        """A process sleeps until a signal comes, such as that of the end of a child."""
+        life.course.has_slept = True  # guard: sleeps-until-child-ends
 
     def on_core(self, life: Life, call: Call, ok: bool) -> None:
         """The kernel keeps the memory of a process that a signal ends, in a file of whose name the trace says nothing."""
@@ -90,6 +110,7 @@ class Processes(Moves):
     def begin_program(self, life: Life, words: List[str], first: List[str]) -> None:
         """What a process runs from now on; which script, where it is a shell. `words`: the program, and the words that it is handed; `first`: the
         words of the first line, where that is a script."""
+        life.course.run(self.place)
         name = shelltext.script_of(life.argv)
         script = self.names.find(life.folder, name, True).path if name else ""
         shell = self.names.find(life.folder, first[0], True).path if name and first else life.program if name else ""

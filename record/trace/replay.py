@@ -10,6 +10,7 @@ from record.commands.system import OF_SYSTEM
 from record.trace.events import (
     ABSENT, AGE_SEEN, AGE_UNKNOWN, CHANGES, CREATED, ENTERED, FOLDER_REMOVED, MADE, MADE_QUIETLY, MAKER_SEEN, MAKE_OPENED, READ, REMOVED, SEEN, TREE_CHANGES, WAY_ABSENT, WRITTEN,
 )
+from record.trace.courses import Course
 from record.trace.lives import Act, Life, Listed
 from record.trace.names import Found, Inode, Names
 from record.trace.proc import NUMBER, is_hidden, plain_path
@@ -110,6 +111,7 @@ class Replay:
         """What a process has from who started it: its folder, its mask, and until it runs a program of its own the words."""
         if not child.is_heir:  # else it may have changed these since  # guard: what-process-changed-before-its-start-is-finished
             child.folder, child.mask = parent.folder, parent.mask
+            child.course.files = {**parent.course.files}  # guard: descriptors-of-who-started-it
             child.cut, child.taken, child.compares_here, child.looks = parent.cut, parent.taken, parent.compares_here, parent.looks  # guard: ages-of-folder-in-part-of-script
         child.argv = child.argv or parent.argv
 
@@ -146,10 +148,12 @@ class Replay:
             self.begun.append(event.pid)
             self.sharing.update([event.pid] if event.shares else [])
         else:
-            self.life(event.pid).died = self.place
+            life = self.life(event.pid)
+            life.died = self.place
+            life.course.end_row(False)  # guard: waits-until-end
 
-    def child(self, parent: Life, pid: int, is_thread: bool) -> None:
-        """A process has started another, or a thread, which is in one folder with it at all times."""
+    def child(self, parent: Life, pid: int, is_thread: bool, flags: str = "") -> None:
+        """A process has started another, or a thread, which is in one folder with it at all times. `flags`: those of the call."""
         child = self.lives.get(pid)
         if child is None or child.adopted:
             child = Life(pid, born=self.place)
@@ -159,10 +163,20 @@ class Replay:
             self.inherit(child, parent)
         child.parent, child.adopted = parent, True
         parent.children.append(child)
+        self.place_course(parent.course, child, flags)
         if is_thread:  # guard: threads-change-their-folder-together
             parent.join_threads(child)
         for event in self.waiting.pop(pid, []):
             self.take(event)
+
+    def place_course(self, parent: Course, child: Life, flags: str) -> None:
+        """A thread is in the course of its process; another process has one of its own."""
+        if "CLONE_THREAD" in flags:  # guard: threads-are-one-process
+            parent.lives.append(child)
+            child.course = parent
+        else:
+            is_other = "CLONE_PARENT" in flags and parent.waiter is not None
+            parent.fork(child.course, self.place, "vfork" in flags.lower(), parent.waiter if is_other and parent.waiter else parent)  # guard: parent-waits-for-program
 
     # ---------------------------------------------------------------- events
     def put(self, life: Life, kind: str, path: str, word: str = "") -> None:
@@ -182,12 +196,18 @@ class Replay:
             self.outside[path.rstrip("/")] = None  # guard: names-outside-of-project
         if life.is_make and life.number >= 0 or life.is_ninja and kind in (READ, ENTERED):
             life.acts.append(Act(self.place, kind, path, word))
-        if (kind, path) not in life.events:
-            life.events[kind, path] = self.place
+        self.keep(life, kind, path)
         if kind in CHANGES:
             life.changed[path] = self.place
         if kind in NAME_CHANGES:
             self.changes.append((self.place, kind, path))
+
+    def keep(self, life: Life, kind: str, path: str) -> None:
+        """Keeps the first place of an event, and the first one in each segment."""
+        key = (kind, path)
+        first = life.events.setdefault(key, self.place)
+        if first < life.course.limit:
+            life.course.note(key, first, self.place)
 
     def is_inside(self, path: str) -> bool:
         """Whether a path is in one of the folders that the build works in."""

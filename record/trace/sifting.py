@@ -25,13 +25,17 @@ LOOKING = (
     r"(?:" + READS + r'|(?!, O_)[^"\n={]*(?:\{[^"\n]*\}[^"\n=]*|)= |, "[^"\n]*"[^"\n={]*= )' + RESULT  # guard: opens-that-change-something
     + r'|newfstatat\(\d+<[^>\n]*>, "", [^"\n]* = 0(?=\n|$)'
     + r'|rt_sigprocmask\([^\n]*= 0(?=\n|$)'
-    + r'|(?:fcntl|ioctl)\(\d+(?:<[^>\n]*>|)(?:\(deleted\)|), (?:F_[GS]ETF[DL]|F_DUPFD(?:_CLOEXEC|)|FIOCLEX|TCGETS|TIOCG\w+)\b[^\n]*= ' + RESULT + ")")  # guard: not-sifted-where-they-say
+    + r'|wait4\(-1, [^\n]*WNOHANG[^\n]* = (?:0|-1 ECHILD [^\n]*)(?=\n|$)'  # guard: waits-that-find-child
+    + r'|fcntl\(\d+<[^/\n][^>\n]*>, F_DUPFD(?:_CLOEXEC|)\b[^\n]*= ' + RESULT  # guard: doubles-of-files
+    + r'|(?:fcntl|ioctl)\(\d+(?:<[^>\n]*>|)(?:\(deleted\)|), (?:F_[GS]ETF[DL]|FIOCLEX|TCGETS|TIOCG\w+)\b[^\n]*= ' + RESULT + ")")  # guard: not-sifted-where-they-say
 NAMES = r"(?:creat|rename\w*|unlink\w*|rmdir|mkdir\w*|mknod\w*|link\w*|symlink\w*|truncate|[fl]?ch(?:mod|own)\w*|utime\w*|futimesat)\("
 FLAGS = r"O_(?:WRONLY|RDWR|CREAT|TRUNC)"
 # A name may be relative to a folder of the system: strace shows which file was opened, and where a call with a folder starts from.
 CHANGING = (
     r"\d+ +(?:open|openat2?)\(" + AT + r'"(?:(?:[^"\\]|\\.)*\.\.)?FOLDERS(?:[^"\\]|\\.)*", [^\n]*' + FLAGS + r"|\d+ +(?:open|openat2?)\([^\n]*" + FLAGS
     + r"[^\n]*= \d+<FOLDERS|\d+ +" + NAMES + r'[^\n]*(?:"(?:(?:[^"\\]|\\.)*\.\.)?|<)FOLDERS|\d+ +(?:chdir|fchdir)\([^\n]*(?:"(?:(?:[^"\\]|\\.)*\.\.)?|<)FOLDERS')
+# A row of writes into one descriptor: the first one says it all.
+ROW = re.compile(rb"(\n(\d+) +write\((0x[0-9a-f]+), [^\n]*)(?:\n\2 +write\(\3, [^\n]*(?<!\.\.\.>)(?=\n|\Z))+")  # guard: one-process-and-one-descriptor
 # Texts of Python that do not come with it: python.py asks whether they list folders. Modules of OCaml: modules.py asks which names they hold.
 MODULES = re.compile(rb"(?!.*/lib(?:32|64)?/python[\d.]*/(?!(?:site|dist)-packages/)).*\.pyc?$|.*/(?:site|dist)-packages/.*\.so$|.*\.(?:zip|egg|whl|pyz|cm[iox])$", re.S)  # guard: those-of-system
 # What each line that changes something has: a look for these is quick, and few lines have one.
@@ -128,7 +132,7 @@ def sift(trace: Path, tops: List[str], to: Path, has_ended: Callable[[float], ob
     size = 0
     with open(part, "wb") as file:
         for piece in pieces(trace, has_ended):
-            left = skip.rest(b"\n" + piece.rstrip(b"\n"))
+            left = ROW.sub(rb"\1", skip.rest(b"\n" + piece.rstrip(b"\n")))
             if has_change(left, skip.changes):  # guard: what-somebody-changes-is-read
                 return
             size += file.write(left)

@@ -5,6 +5,8 @@ from dataclasses import dataclass
 from functools import lru_cache
 from typing import Callable, Dict, Iterable, Iterator, List, NamedTuple, Optional, Tuple, TypeVar, Union
 
+from record.trace.classes import SLEEPS
+
 KEPT, SHORT = 1 << 14, 1000  # how many texts are remembered, and how long they are at most
 Answer = TypeVar("Answer")
 # A whole call: its name, its arguments, its result, what the descriptor that it gave leads to, and the error.
@@ -148,6 +150,8 @@ def read_trace(lines: Iterable[str]) -> Iterator[Event]:
                 yield Unread(line.strip())
         elif call.result is not None:
             yield Call(pid, *call)  # type: ignore[arg-type]
+        elif call.name in SLEEPS:  # guard: sleeps-that-signal-ends
+            yield Call(pid, call.name, call.args, -1, call.error)
         elif call.name.startswith("open"):  # it waited for another process, as at a named pipe, until a signal came  # guard: opens-that-signal-ends
             yield Call(pid, call.name, call.args, -1, "ENXIO")
 

@@ -154,7 +154,7 @@ GUARDS: List[Guard] = [
         ("files-before-folders", "pass", "small.Makefiles.files_before_folders", UNSAID),
     ),
     *guards("main.py",
-        ("long-commands", 'STRACE = ["strace", "-f", "-q", "-y", "--seccomp-bpf", "-s", "4096", "-e", "signal=hup,int,quit,abrt,kill,segv,pipe,term,xfsz", "-e", "trace=" + traced()]',
+        ("long-commands", 'STRACE = ["strace", "-f", "-q", "-y", "--seccomp-bpf", "-s", "4096", "-e", "signal=hup,int,quit,abrt,kill,segv,pipe,term,xfsz", "-e", "trace=" + traced(), "-e", "raw=" + shown_as_numbers()]',
          "ninja.Ninja.long_command", LOST_RACE),
         ("what-python-sets-of-locale", "pass", "callers.Places.signs_where_no_locale_is_set"),
         ("signal-when-build-has-just-begun", "held = cast(Set[signal.Signals], signal.pthread_sigmask(signal.SIG_BLOCK, ()))", "ends.Signals.terminated_when_the_build_has_just_begun"),

@@ -1,0 +1,162 @@
+"""How each process went, with its threads: a row of segments.
+
+A segment of a process ends where the process forks, ends, or has waited. It comes after the one before it, and after the fork that began its
+process. Until a child of `vfork` runs a program, its parent waits: what it does belongs to the segment of its parent. A segment comes after the end of a
+process too for which its own has waited; the wait is *known* where each build waits so: for a process by its number or descriptor, and for any child
+in a row of waits that leaves none. Of another wait for any child it is luck which one ends first.
+"""
+
+from bisect import bisect_right
+from typing import Dict, Iterator, List, Optional, Protocol, Tuple
+
+Key = Tuple[str, str]  # an event: its kind, and a path
+Segment = Tuple["Course", int]
+ALWAYS = 1 << 60  # a place behind all others
+
+
+class Living(Protocol):
+    """What of a process, or of a thread, counts here (lives.py)."""
+
+    events: Dict[Key, int]
+    died: int
+    is_heir: bool
+    is_make: bool
+    is_ninja: bool
+
+
+class Course:
+    """A process: its segments are numbered from 0 on."""
+
+    def __init__(self, life: Living) -> None:
+        self.lives = [life]  # the process, and its threads
+        self.parent: Optional["Course"] = None
+        self.waiter: Optional["Course"] = None  # whose child it is: of its parent, or of who started that
+        self.forked = 0  # it began when this segment of its parent ended
+        self.is_lent = False  # its parent waits until it runs a program
+        self.marks: List[int] = []  # where in the trace its later segments begin
+        self.again: List[Dict[Key, int]] = []  # for each of these: what it did in it, and had done before
+        self.limit = 0  # an event whose first place is before this one has to be noted
+        self.children: List["Course"] = []
+        self.left = 0  # so many of them may still be waited for
+        self.waited: Optional[Segment] = None  # who has waited for it, in the segment that began then
+        self.is_known = False  # whether it waits so in each build
+        self.others: List["Course"] = []  # children for which another process has waited
+        self.row: List[Tuple["Course", bool]] = []  # for whom it has waited since it did something else, and whether it slept meanwhile
+        self.has_slept = False
+        self.files: Dict[int, Tuple[str, bool]] = {}  # what it may write into, by descriptor; whether a program that it runs has it too
+
+    @property
+    def first(self) -> Living:
+        """The process, without its threads."""
+        return self.lives[0]
+
+    @property
+    def at(self) -> int:
+        """The number of its segment."""
+        return len(self.marks)
+
+    def mark(self, place: int) -> None:
+        """A segment ends."""
+        self.marks.append(place)
+        self.again.append({})
+        self.limit = place
+
+    def note(self, key: Key, first: int, place: int) -> None:
+        """It does something else than to wait, perhaps what it had done before this segment."""
+        self.end_row(False)
+        if self.marks and first < self.marks[-1]:
+            self.again[-1].setdefault(key, place)  # guard: what-is-done-again
+
+    def events_by_segment(self) -> List[Dict[Key, int]]:
+        """What it did in each segment, with the first place."""
+        found: List[Dict[Key, int]] = [{}, *({**one} for one in self.again)]
+        for life in self.lives:
+            for key, place in life.events.items():
+                table = found[bisect_right(self.marks, place)]
+                table[key] = min(place, table.get(key, place))
+        return found
+
+    # ---------------------------------------------------------------- forks
+    def fork(self, child: "Course", place: int, is_lent: bool, real: "Course") -> None:
+        """It has started a process, which is the child of `real`: itself, or who started it."""
+        self.end_row(False)
+        child.parent, child.waiter, child.forked, child.is_lent = self, real, self.at, is_lent
+        real.children.append(child)
+        real.left += 1
+        self.mark(place)
+
+    def run(self, place: int) -> None:
+        """It begins to run a program: from here on it is no part of its parent's segment, and has no file that it was to close."""
+        if self.is_lent or self.parent is None and self.first.is_heir:  # or whether it is lent will be said when the call is finished
+            self.mark(place)
+        self.files = {number: found for number, found in self.files.items() if found[1]}  # guard: descriptors-that-are-closed
+
+    # ---------------------------------------------------------------- waits
+    def wait(self, child: "Course", place: int, is_named: bool, is_blocking: bool) -> None:
+        """It has waited for the end of a process, by its number or for any child."""
+        if child.waited is not None:
+            return
+        self.mark(place)
+        child.waited, child.is_known = (self, self.at), is_named
+        if child.waiter is self:
+            self.left -= 1  # guard: children-that-are-left
+        elif child.parent is not None:
+            child.parent.others.append(child)
+        if not is_named:
+            self.row.append((child, is_blocking or self.has_slept))
+            self.limit = ALWAYS  # guard: rows-of-waits
+
+    def end_row(self, has_none: bool) -> None:
+        """A row of waits for any child ends. `has_none`: no child was left."""
+        if not self.row:
+            return
+        is_known = has_none or self.left == 0 and all(slept for _, slept in self.row) or self.first.is_make or self.first.is_ninja  # guard: luck
+        for child, _ in self.row:
+            child.is_known = is_known
+        self.row = []
+        self.limit = self.marks[-1]
+
+    def wait_for_all(self, place: int) -> None:
+        """It has waited until no child was left, and got the number of none, as one that ignores SIGCHLD."""
+        self.end_row(True)
+        for child in self.children if self.left else ():
+            if child.waited is None and child.first.died <= place:
+                self.wait(child, place, True, True)
+
+    # ---------------------------------------------------------------- order
+    def depth(self) -> int:
+        """How many processes are above it."""
+        return sum(1 for _ in self.up()) - 1
+
+    def up(self) -> Iterator["Course"]:
+        """It, and those above it."""
+        course: Optional["Course"] = self
+        while course is not None:
+            yield course
+            course = course.parent
+
+
+def before(first: Segment, second: Segment, by_luck: bool) -> bool:
+    """Whether a segment has ended when another one begins; `by_luck`: in the recorded build, else in each."""
+    last, number = second
+    todo, seen = [first], {id(last): ALWAYS}
+    above = {id(up): forked for up, forked in forks(last, number)}
+    while todo:
+        course, at = todo.pop()
+        if seen.get(id(course), ALWAYS) <= at:
+            continue
+        seen[id(course)] = at
+        if above.get(id(course), -1) >= at:
+            return True
+        if course.waited is not None and (by_luck or course.is_known):  # guard: waits-that-are-luck
+            todo.append(course.waited)
+        todo += [(child, child.at) for child in course.others if child.forked >= at and child.waited is not None]
+    return False
+
+
+def forks(course: "Course", number: int) -> Iterator[Segment]:
+    """A segment, and for each process above the last segment that comes before it."""
+    yield course, number
+    while course.parent is not None:
+        yield course.parent, course.forked
+        course = course.parent
