@@ -4,8 +4,8 @@ from dataclasses import dataclass
 from typing import Dict, List
 
 TEXTS = {
-    "serial": "make decides goals in this order, without --shuffle, and recipes do not use MAKEFLAGS, the number of processors, a terminal, standard input, descriptors of a job server, or files that were opened for them before make began",
-    "ninja": "commands of ninja do not use the number of jobs, the number of processors, a terminal, standard input, or files that were opened for them before ninja began, and nobody looks at the order of what ninja prints",
+    "serial": "make decides goals in this order, without --shuffle, and recipes do the same on the same looks: they do not go by how long things take, MAKEFLAGS, the number of processors, a terminal, standard input, descriptors of a job server, or files that were opened for them before make began",
+    "ninja": "commands of ninja do the same on the same looks: they do not go by how long things take, the number of jobs, the number of processors, a terminal, standard input, or files that were opened for them before ninja began; and nobody looks at the order of what ninja prints",
     "ties": "build statements with one command ran in the order that the log of ninja shows",
     "up-to-date": "builds start from this tree: targets that were up to date stay so",
     "configured": "builds start when ./configure has run: what it makes is there and up to date",
