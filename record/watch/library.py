@@ -10,8 +10,8 @@ from pathlib import Path
 SOURCE = Path(__file__).resolve().parent / "watch.c"
 INSTALLED = SOURCE.parents[4] / "lib" / "race" / "watch.so"  # beside share/race/record/watch
 OPTIONS = ("-std=gnu11", "-shared", "-fPIC", "-O1", "-fno-builtin", "-U_FORTIFY_SOURCE", "-s")
-NO_COMPILER = ("cc is missing, which builds the library that make has while it is recorded (Debian: apt-get install gcc libc6-dev); it is built once, "
-               "and an installed race-record has it")
+PACKAGES = "Debian: apt-get install gcc libc6-dev"
+NO_COMPILER = "cc is missing, which builds the library that make has while it is recorded (%s); it is built once, and an installed race-record has it" % PACKAGES
 
 
 class NotBuilt(Exception):
@@ -34,7 +34,8 @@ def build(to: Path) -> None:
         made = Path(room) / "watch.so"
         ran = subprocess.run([compiler, *OPTIONS, "-o", str(made), str(SOURCE), "-ldl"], capture_output=True, text=True, errors="replace", check=False)
         if ran.returncode != 0:
-            raise NotBuilt("%s cannot build the library that make has while it is recorded: %s" % (compiler, " ".join(ran.stderr.split())[:300]))
+            said = " ".join(ran.stderr.split())[:300]
+            raise NotBuilt("%s cannot build the library that make has while it is recorded (%s): %s" % (compiler, PACKAGES, said))
         to.parent.mkdir(parents=True, exist_ok=True)
         part = to.with_suffix(".%d" % os.getpid())
         shutil.copy(made, part)

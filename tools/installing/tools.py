@@ -8,7 +8,7 @@ from collections.abc import Mapping
 
 
 def lacking(tools: Mapping[str, str]) -> dict[str, str]:
-    """The tools of these that are not on PATH, with the Debian package of each."""
+    """The tools of these that are not on PATH, with the Debian packages of each, between blanks."""
     return {tool: package for tool, package in tools.items() if not shutil.which(tool)}
 
 
@@ -16,7 +16,7 @@ def provide(tools: Mapping[str, str]) -> list[str]:
     """Installs what is missing, as root on a machine with apt-get. What is missing then, each with how to get it."""
     missing = lacking(tools)
     if missing and os.geteuid() == 0 and shutil.which("apt-get"):
-        packages = [*dict.fromkeys(missing.values())]
+        packages = [*dict.fromkeys(" ".join(missing.values()).split())]
         print(f"apt-get install {' '.join(packages)}", flush=True)
         quiet = {"stdout": subprocess.DEVNULL, "stdin": subprocess.DEVNULL, "check": False, "env": {**os.environ, "DEBIAN_FRONTEND": "noninteractive"}}
         subprocess.run(["apt-get", "update", "-qq"], **quiet)
