@@ -10,8 +10,9 @@ import subprocess
 import sys
 import time
 import traceback
+from contextlib import contextmanager
 from importlib import import_module
-from typing import Callable, Dict, Iterable, Iterator, List
+from typing import Callable, ContextManager, Dict, Iterable, Iterator, List, Set
 
 from record.messages import reason
 
@@ -45,6 +46,23 @@ def hear() -> None:
     for one in STOPPING:
         if signal.getsignal(one) is not signal.SIG_IGN:
             signal.signal(one, stop)
+
+
+@contextmanager
+def masked(how: int, signals: Set[int]) -> Iterator[Set[int]]:
+    """Blocks signals, or those alone; gives those that were blocked before, and will be behind it."""
+    old: Set[int] = set(signal.pthread_sigmask(how, signals))
+    try:
+        yield old
+    finally:
+        signal.pthread_sigmask(signal.SIG_SETMASK, old)
+
+
+@contextmanager
+def in_one_step() -> Iterator[Callable[[], ContextManager[object]]]:
+    """Signals that end the program wait until this has ended, except in a `with` of what it gives."""
+    with masked(signal.SIG_BLOCK, {*STOPPING}) as old:  # guard: signals-while-folders-move
+        yield lambda: masked(signal.SIG_SETMASK, old)
 
 
 def read_of(pid: str, name: str) -> bytes:

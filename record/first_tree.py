@@ -1,6 +1,7 @@
 """The first tree: which tree a yes is about, and what an earlier build left in it.
 
-In a git work tree the tree is a commit, its changed files, and what `./configure` makes of it. Elsewhere it is the folder as it stands.
+In a git work tree the tree is a commit, its changed files, with `--fresh` its new ones, and what `./configure` makes of it. Elsewhere it is the folder as it
+stands.
 
 What an earlier build left may order recipes, or stand for what they wait for, and a new checkout does not have it. So a record is warm where the build
 used such a name:
@@ -14,7 +15,8 @@ import os
 import re
 import subprocess
 from dataclasses import dataclass, field
-from typing import TYPE_CHECKING, Dict, FrozenSet, Iterable, Iterator, List, Set, Tuple
+from functools import cached_property
+from typing import TYPE_CHECKING, Dict, FrozenSet, Iterable, Iterator, List, Sequence, Set, Tuple
 
 from record import machine
 from record.trace.events import CHANGES, CREATED, MADE, MADE_BEFORE, MADE_QUIETLY, READ, SEEN
@@ -40,23 +42,40 @@ class FirstTree:
     changed: int = 0  # tracked files that are not as in the commit
     new: Tuple[str, ...] = ()  # files that git does not track and does not ignore, where --fresh took them along; below the top
     tracked: FrozenSet[str] = field(default=frozenset(), repr=False)  # by whole path
+    left: Tuple[str, ...] = ()  # files that --fresh took out again, as an earlier build made them; whole paths
     said: str = ""  # how --fresh got it
     setup: str = ""  # what ran between the tree and the build
 
     def text(self) -> str:
         """What it is, behind `for`."""
         changes = [plural(count, kind) for count, kind in ((self.changed, "changed file"), (len(self.new), "new file")) if count]
-        names = " (%s%s)" % (", ".join(self.new[:NAMED]), ", .." if len(self.new) > NAMED else "") if self.new else ""
+        names = " (%s)" % first_names(self.new) if self.new else ""
         tree = self.said or ("a checkout of %s" % self.commit + (" with %s%s" % (" and ".join(changes), names) if changes else "") if self.commit else "this folder as it stood")
-        return tree + (", after %s" % self.setup if self.setup else "")
+        left = "%s that an earlier build left (%s)" % (plural(len(self.left), "file"), first_names([os.path.relpath(path, self.top or self.folder) for path in self.left]))
+        return tree + (", without " + left if self.left else "") + (", after %s" % self.setup if self.setup else "")
 
     def has(self, path: str) -> bool:
         """Whether git tracks a name, or a name below it."""
         return path in self.tracked
 
     def is_own(self, path: str) -> bool:
-        """Whether a path is in the work tree, and not in git's own folder."""
-        return bool(self.top) and path.startswith(self.top + "/") and not path.startswith(self.top + "/.git/") and path != self.top + "/.git"
+        """Whether a path is in the work tree, and neither in git's own folder nor among the new files."""
+        below = os.path.relpath(path, self.top) if self.top else ".."
+        return below.partition("/")[0] not in (".", "..", ".git") and below not in self.new_names
+
+    @cached_property
+    def new_names(self) -> Set[str]:
+        """The new files, and the folders that they are in."""
+        return {*with_folders(self.new, "")}
+
+    def may_go(self, path: str) -> bool:
+        """Whether --fresh may take a file out again: it is below the folder, and git does not track it, nor has an archive it."""
+        return path.startswith((self.top or self.folder) + "/") and not self.has(path)
+
+
+def first_names(names: Sequence[str]) -> str:
+    """The first of some names."""
+    return ", ".join(names[:NAMED]) + (", .." if len(names) > NAMED else "")
 
 
 def plural(count: int, word: str) -> str:
@@ -111,7 +130,7 @@ def left_behind(tree: FirstTree, before: Dict[str, str], lives: "Iterable[Life]"
     makefiles said when make read them."""
     tops = tuple(configured_tops(before))
     written = {path for build in builds for task in build.tasks if task.kind == "recipe" for path in task.writes}
-    found = {path for path in used(before, lives) if not tree.has(path) and (path in written or tree.is_own(path) and not path.startswith(tops))}
+    found = {path for path in used(before, lives) if not tree.has(path) and (path in written or tree.is_own(path) and not (path + "/").startswith(tops))}
     return {path for path in found if not (path + "/").startswith(kept + "/") and (path not in texts or has_rules(texts[path]))}  # guard: what-earlier-build-left
 
 
@@ -150,5 +169,5 @@ class Release:
         return cls(tree, written, float("inf") if tree.setup else max((machine.mtime(path) for path in statuses if machine.exists(path)), default=float("-inf")))
 
     def has(self, path: str) -> bool:
-        """Whether git tracks it, or it is older than the configuration and no recipe of this build wrote it."""
-        return self.tree.has(path) or path not in self.written and machine.exists(path) and machine.mtime(path) <= self.since
+        """Whether git tracks it, or, elsewhere, it is older than the configuration and no recipe of this build wrote it."""
+        return self.tree.has(path) or not self.tree.top and path not in self.written and machine.exists(path) and machine.mtime(path) <= self.since  # guard: what-came-with-release

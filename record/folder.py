@@ -12,6 +12,7 @@ from pathlib import Path
 from typing import TYPE_CHECKING, Any, Dict, Iterator, List, Optional
 
 from record import VERSION, machine
+from record.entry import in_one_step
 from record.first_tree import FirstTree
 from record.messages import reason
 from record.places import Places
@@ -242,14 +243,16 @@ def aside(folder: Path) -> Iterator[bool]:
     room = Path(tempfile.mkdtemp(prefix="race-record-older-", dir=ROOMS))
     older, is_away = room / "record", False
     try:
-        move(folder, older) if folder.exists() else folder.mkdir()  # where nothing can be written, nothing need be built
-        is_away = True
+        with in_one_step():
+            move(folder, older) if folder.exists() else folder.mkdir()  # where nothing can be written, nothing need be built
+            is_away = True
         shutil.rmtree(folder, ignore_errors=True)
         yield (older / "record.json").is_file()
     except BaseException:
-        if is_away or older.exists():
-            come_back(older, folder)
-        shutil.rmtree(room, ignore_errors=True)
+        with in_one_step():
+            if is_away or older.exists():
+                come_back(older, folder)
+            shutil.rmtree(room, ignore_errors=True)
         raise
     shutil.rmtree(room, ignore_errors=True)
 

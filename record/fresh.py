@@ -1,25 +1,26 @@
 """`--fresh`: records the tree that a checkout or an archive holds, in the project's own place. The work tree stays as it is.
 
 The tree is what git tracks, with the changes of the work tree and new files that are not ignored; with `--from`, what an archive holds; else a copy
-of the folder, as `make distclean` or `make clean` leaves it. Where the system gives this process mounts of its own, the tree lies over the project for
+of the folder, as `make distclean` or `make clean` leaves it, if these work. If the build shows that an earlier one left files there, it is recorded again without
+them. Where the system gives this process mounts of its own, the tree lies over the project for
 the build alone. Elsewhere the project is moved aside, and comes back.
 """
 
 import ctypes
 import os
 import re
-import shlex
 import shutil
 import signal
 import subprocess
 from contextlib import contextmanager
 from dataclasses import dataclass, replace
 from pathlib import Path
-from typing import Callable, Iterator, List, Optional
+from typing import Callable, ContextManager, Iterator, List, Optional, Set, Tuple
 
+from record.entry import in_one_step
 from record.first_tree import FirstTree, git, tree_of, with_folders
 from record.messages import reason
-from record.ninja.cold_copy import SAVED, CannotClean, Copier, left_over, remove
+from record.ninja.cold_copy import SAVED, CannotClean, Copier, left_over, moved_aside
 
 OWN_MOUNTS, BIND, ALL_BELOW, PRIVATE = 0x20000, 0x1000, 0x4000, 0x40000  # for unshare and mount
 WITH_PARENT = 1  # for prctl: which signal comes when the parent ends
@@ -35,20 +36,19 @@ class Fresh:
     top: str
 
 
-def fresh_tree(words: List[str], archive: Optional[str], setup: str, room: str, kept: str) -> Fresh:
-    """Makes the tree in a room. `kept`: the folder of the record, which is no part of it."""
+def fresh_tree(archive: Optional[str], setup: str, room: str, kept: str, left: Tuple[str, ...] = ()) -> Fresh:
+    """Makes the tree in a room. `kept`: the folder of the record, which is no part of it; `left`: what an earlier build left, neither."""
+    out = {kept, *left}
     folder, copy = os.path.realpath("."), os.path.join(room, "tree")
     if archive:
         return Fresh(of_archive(archive, folder, copy, room, setup), copy, folder)
     tree = tree_of(folder)
     if tree.top:
-        files = copy_work_tree(tree.top, copy, kept)
+        files = copy_work_tree(tree.top, copy, out)
         new = tuple(os.path.relpath(path, tree.top) for path in files if not tree.has(path))
-        return Fresh(replace(tree, new=new, tracked=frozenset(with_folders(files, tree.top)), setup=setup), copy, tree.top)
-    if not os.path.basename(words[0]) in ("make", "gmake"):
-        raise CannotClean("--fresh takes a clean tree from git, from an archive (--from FILE), or by make clean: %s is none of these" % shlex.join(words))
-    shutil.copytree(folder, copy, symlinks=True, copy_function=Copier().copy, ignore=lambda place, names: [name for name in names if os.path.join(place, name) == kept])
-    return Fresh(FirstTree(folder, setup=setup), copy, folder)
+        return Fresh(replace(tree, new=new, left=left, setup=setup), copy, tree.top)
+    shutil.copytree(folder, copy, symlinks=True, copy_function=Copier().copy, ignore=lambda place, names: [name for name in names if os.path.join(place, name) in out])
+    return Fresh(FirstTree(folder, left=left, setup=setup), copy, folder)
 
 
 def of_archive(archive: str, folder: str, copy: str, room: str, setup: str) -> FirstTree:
@@ -68,14 +68,14 @@ def of_archive(archive: str, folder: str, copy: str, room: str, setup: str) -> F
     return FirstTree(folder, tracked=frozenset(with_folders(files, folder)), said="the tree of " + os.path.basename(archive), setup=setup)
 
 
-def copy_work_tree(top: str, copy: str, kept: str) -> List[str]:
-    """Copies what git tracks, and new files that are not ignored; their paths. Its own folder too, with the objects as further names of the same files."""
+def copy_work_tree(top: str, copy: str, out: Set[str]) -> List[str]:
+    """Copies what git tracks, and new files that are not ignored, except what is to stay out; their paths. Its own folder too, with the objects as further names of the same files."""
     os.mkdir(copy)
     names = git(top, "ls-files", "-z", "--recurse-submodules") + git(top, "ls-files", "-z", "--others", "--exclude-standard")
     files, copier = [], Copier()
     for name in dict.fromkeys(filter(None, names.split("\0"))):
         source, target = os.path.join(top, name), os.path.join(copy, name)
-        if (source.rstrip("/") + "/").startswith(kept + "/") or not os.path.lexists(source):
+        if not out.isdisjoint([source.rstrip("/"), *map(str, Path(source).parents)]) or not os.path.lexists(source):
             continue
         os.makedirs(os.path.dirname(target), exist_ok=True)
         if os.path.isdir(source) and not os.path.islink(source):
@@ -119,61 +119,61 @@ def moved(fresh: Fresh) -> Iterator[None]:
     here, saved = os.path.realpath("."), fresh.top + SAVED
     if os.path.lexists(saved):
         raise CannotClean(left_over(fresh.top, saved))
-    try:
-        os.rename(fresh.top, saved)
-    except OSError as fault:
-        raise CannotClean("--fresh lays a clean tree in the place of %s, and the folder cannot get another name meanwhile (%s): run it as root, or record a clean "
-                          "checkout without --fresh" % (fresh.top, fault.strerror)) from None
-    try:
+    with moved_aside(fresh.top, saved, "run it as root, or record a clean checkout without --fresh"):
         shutil.move(fresh.copy, fresh.top)
         os.chdir(here)
         yield
-    finally:
-        remove(fresh.top)
-        os.rename(saved, fresh.top)
-        os.chdir(here)
 
 
 def clean(fresh: Fresh, words: List[str]) -> Fresh:
-    """Takes away what an earlier build made, by the project's own rule, where the tree is a copy of the folder; in the place of the project."""
-    if fresh.tree.top or fresh.tree.said:
+    """Takes away what an earlier build made, where the tree is a copy of the folder and the project has a rule for that; in the place of the project."""
+    if fresh.tree.top or fresh.tree.said or os.path.basename(words[0]) not in ("make", "gmake"):
         return fresh
     place = [word for at, word in enumerate(words[1:], 1) if FOLDERS.match(word) or word in ("-C", "-f") or words[at - 1] in ("-C", "-f")]
     for goal in ["distclean", "clean"] if fresh.tree.setup else ["clean"]:
         ran = subprocess.run([words[0], *place, goal], stdin=subprocess.DEVNULL, stdout=subprocess.DEVNULL, stderr=subprocess.DEVNULL, check=False)
         if ran.returncode == 0:
             return replace(fresh, tree=replace(fresh.tree, said="this folder as make %s leaves it" % goal))
-    raise CannotClean("make clean ended with %d here, so --fresh has no clean tree: name an archive of it by --from, or record a clean tree without --fresh" % ran.returncode)
+    return fresh
 
 
 def beside(work: Callable[[], None], fresh: Fresh, faults: Path) -> None:
     """Does some work in a process over whose project the tree is laid. Where it fails, it says why in a file, and so does this."""
-    child = os.fork()
-    if child == 0:
-        status = 3
+    with in_one_step() as heard:
+        child = os.fork()
+        if child == 0:
+            status = 3
+            try:
+                status = status_of(work, fresh, faults, heard)
+            finally:
+                os._exit(status)
         try:
-            ctypes.CDLL(None).prctl(WITH_PARENT, signal.SIGTERM)
-            here = os.path.realpath(".")
-            if lay(fresh.copy, fresh.top):
-                os.chdir(here)
-                work()
-            else:
-                raise CannotClean("the tree cannot be laid over " + fresh.top)
-            status = 0
-        except OSError as fault:
-            faults.write_text(reason(fault))
-        except BaseException as fault:
-            faults.write_text(str(fault) or type(fault).__name__)
-        finally:
-            os._exit(status)
-    try:
-        ended = os.waitpid(child, 0)[1]
-    except BaseException:
-        os.kill(child, signal.SIGTERM)
-        os.waitpid(child, 0)
-        raise
+            with heard():
+                ended = os.waitpid(child, 0)[1]
+        except BaseException:
+            os.kill(child, signal.SIGTERM)
+            os.waitpid(child, 0)
+            raise
     if ended:
         raise CannotClean(faults.read_text() if faults.exists() else "the recording ended with status %d, without a record" % ended)
+
+
+def status_of(work: Callable[[], None], fresh: Fresh, faults: Path, heard: Callable[[], ContextManager[object]]) -> int:
+    """Does it in this process; the status with which that ends."""
+    try:
+        with heard():
+            ctypes.CDLL(None).prctl(WITH_PARENT, signal.SIGTERM)
+            here = os.path.realpath(".")
+            if not lay(fresh.copy, fresh.top):
+                raise CannotClean("the tree cannot be laid over " + fresh.top)
+            os.chdir(here)
+            work()
+        return 0
+    except OSError as fault:
+        faults.write_text(reason(fault))
+    except BaseException as fault:
+        faults.write_text(str(fault) or type(fault).__name__)
+    return 3
 
 
 def can_lay(folder: str) -> bool:

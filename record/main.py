@@ -23,7 +23,7 @@ from record import RELEASE, VERSION, machine
 from record.entry import STOPPING, UNHEARD, Stopped, end_traced, forget_coerced
 from record.messages import printable
 from record.facts import Facts, begun, first_tree
-from record.first_tree import tree_of
+from record.first_tree import first_names, tree_of
 from record.folder import NO_ROOM, Idle, NotWhole, Record, Taken, accept_warm, alone, aside, is_record, reading, rewrite, room_of_programs, rooms_of_programs, seconds_of, what_stands
 from record.fresh import clean, fresh_tree, in_place
 from record.judge import find_race, judge, no_race
@@ -297,21 +297,44 @@ def record_all(options: argparse.Namespace, tools: Dict[str, str], out: Path) ->
 def record_fresh(options: argparse.Namespace, tools: Dict[str, str], out: Path) -> Record:
     """The record of a clean tree; the tree and what was built in it are gone afterwards."""
     with tempfile.TemporaryDirectory(prefix="race-record-", dir=room_of_programs([os.path.realpath(".")])) as room:
-        fresh, said = Path(room) / "record", Path(room) / "said"
+        fresh = Path(room) / "record"
         if has_ninja(options.words) and not (options.setup or options.archive):
             folder = fresh_folder(options.words)
             with cold_copy(folder, saved_name(folder, tops_of(options.words, options.top))) as options.linked:
-                said.write_bytes(pickle.dumps(record_all(options, tools, fresh)))
+                record = record_all(options, tools, fresh)
         else:
-            tree = fresh_tree(options.words, options.archive, options.setup, room, os.path.realpath(out))
+            record = record_tree(options, tools, fresh, os.path.realpath(out))
+        shutil.copytree(fresh, out, dirs_exist_ok=True)
+        return record
+
+
+def record_tree(options: argparse.Namespace, tools: Dict[str, str], fresh: Path, kept: str) -> Record:
+    """The record of a tree that is laid over the project. Where an earlier build has left files in it, as git does not ignore them, or `make clean` leaves
+    them, the build shows that: then it is recorded again without them, and that counts if it does not fail."""
+    records: List[Record] = []
+    left: Set[str] = set()
+    for number in range(1 + TRIES):
+        with tempfile.TemporaryDirectory(dir=fresh.parent) as room:
+            said, again = Path(room) / "said", Path(room) / "record"
+            tree = fresh_tree(options.archive, options.setup, room, kept, tuple(sorted(left)))
 
             def work() -> None:
                 options.tree = clean(tree, options.words).tree
-                said.write_bytes(pickle.dumps(record_all(options, tools, fresh)))
+                said.write_bytes(pickle.dumps(record_all(options, tools, again)))
 
             in_place(tree, Path(room) / "fault", work)
-        shutil.copytree(fresh, out, dirs_exist_ok=True)
-        return cast(Record, pickle.loads(said.read_bytes()))
+            record = cast(Record, pickle.loads(said.read_bytes()))
+            if records and record.status != 0:
+                break
+            records.append(record)
+            shutil.rmtree(fresh, ignore_errors=True)
+            again.rename(fresh)
+        more = {path for path in record.warm if record.first is not None and record.first.may_go(path)} - left
+        if not more or options.warm or record.status != 0 or number == TRIES:
+            break
+        left |= more
+        print("race-record: an earlier build left %s; recording again without that" % first_names([os.path.relpath(path) for path in sorted(more)]), file=sys.stderr, flush=True)
+    return records[-1]
 
 
 def run(options: argparse.Namespace) -> int:

@@ -15,6 +15,7 @@ from contextlib import contextmanager, suppress
 from pathlib import Path
 from typing import Dict, Iterator, List, Set, Tuple
 
+from record.entry import in_one_step
 from record.messages import reason
 from record.ninja.manifest import Manifest, Unreadable, read_manifest
 from record.ninja.retry import named_folders
@@ -121,16 +122,23 @@ def set_aside(paths: List[str], kept: List[str]) -> None:
     for path in paths:
         if os.path.lexists(path + SAVED):
             raise CannotClean("%s is there: another --fresh runs now, or was killed; it is %s as it was" % (path + SAVED, path))
-        os.rename(path, path + SAVED)
         kept.append(path)
+        os.rename(path, path + SAVED)
 
 
-def put_back(kept: List[str]) -> None:
-    """What was set aside comes back, in the place of what the recorded build made."""
-    for path in kept:
-        if os.path.isdir(path) and not os.path.islink(path):
-            remove(path)
-        os.replace(path + SAVED, path)
+@contextmanager
+def put_back(kept: List[str]) -> Iterator[None]:
+    """What is set aside comes back behind it, in the place of what the recorded build made."""
+    with in_one_step() as heard:
+        try:
+            with heard():
+                yield
+        finally:
+            for path in kept:
+                if os.path.lexists(path + SAVED):
+                    if os.path.isdir(path) and not os.path.islink(path):
+                        remove(path)
+                    os.replace(path + SAVED, path)  # guard: outputs-outside-come-back
 
 
 def remove(folder: str) -> None:
@@ -178,14 +186,32 @@ class Copier:
         return [path for key, path in self.copies.items() if self.names[key] > 0]
 
 
-def move_away(folder: str, saved: str) -> None:
-    """Gives the folder its other name."""
+@contextmanager
+def moved_aside(folder: str, saved: str, otherwise: str) -> Iterator[None]:
+    """Gives a folder its other name, and works in its place; it comes back, whatever happens. A signal that comes while it moves is heard behind that.
+    `otherwise`: what to do where it cannot get that name."""
+    here = os.path.realpath(".")
+    with in_one_step() as heard:
+        try:
+            os.rename(folder, saved)
+        except OSError as fault:
+            raise CannotClean("--fresh puts a clean tree in the place of %s, and the folder cannot get another name meanwhile (%s): %s" % (folder, fault.strerror, otherwise)) from None
+        try:
+            with heard():
+                print("race-record: %s is kept as %s meanwhile" % (folder, saved), file=sys.stderr, flush=True)
+                yield
+        finally:
+            come_back(folder, saved)
+            os.chdir(here)
+
+
+def come_back(folder: str, saved: str) -> None:
+    """Puts a folder back, in the place of what stands there."""
     try:
-        os.rename(folder, saved)
+        remove(folder)
+        os.rename(saved, folder)
     except OSError as fault:
-        raise CannotClean("--fresh puts a clean copy in the place of %s, and the folder cannot get another name meanwhile (%s): clean it (ninja -C %s -t clean) "
-                          "and record without --fresh" % (folder, fault.strerror, shlex.quote(folder))) from None
-    print("race-record: %s is kept as %s meanwhile" % (folder, saved), file=sys.stderr, flush=True)
+        raise OSError("%s cannot come back (%s): it is in %s" % (folder, reason(fault), saved)) from fault
 
 
 def clean(folder: str, manifest: Manifest) -> None:
@@ -212,11 +238,10 @@ def cold_copy(folder: str, saved: str) -> Iterator[List[str]]:
     that have names outside of the folder too."""
     here = os.path.realpath(".")
     check_kinds(folder)  # guard: nothing-that-cannot-be-copied
-    move_away(folder, saved)
     kept: List[str] = []
     copier = Copier()
     step = "copied"
-    try:
+    with put_back(kept), moved_aside(folder, saved, "clean it (ninja -C %s -t clean) and record without --fresh" % shlex.quote(folder)):
         try:
             shutil.copytree(saved, folder, symlinks=True, copy_function=copier.copy)
             os.chdir(here)
@@ -227,8 +252,3 @@ def cold_copy(folder: str, saved: str) -> Iterator[List[str]]:
         except (Unreadable, OSError) as fault:
             raise CannotClean("%s cannot be %s: %s" % (folder, step, reason(fault) if isinstance(fault, OSError) else fault)) from None
         yield copier.linked()
-    finally:
-        remove(folder)
-        os.rename(saved, folder)
-        os.chdir(here)
-        put_back(kept)  # guard: outputs-outside-come-back

@@ -2,6 +2,7 @@
 
 import os
 import shutil
+import subprocess
 import unittest
 from pathlib import Path
 from typing import Dict, Tuple
@@ -89,7 +90,22 @@ class Places(unittest.TestCase):
 
     def test_folder_that_cannot_be_moved(self) -> None:
         with self.assertRaisesRegex(cold_copy.CannotClean, r"cannot get another name meanwhile \(.*\): clean it \(ninja -C /proc/sys -t clean\) and record without --fresh"):
-            cold_copy.move_away("/proc/sys", "/proc/sys.race-saved")
+            with cold_copy.moved_aside("/proc/sys", "/proc/sys.race-saved", "clean it (ninja -C /proc/sys -t clean) and record without --fresh"):
+                self.fail("it was moved")
+
+    def test_signal_at_each_step(self) -> None:
+        """Behind each change of a name there is a signal once. All comes back."""
+        with support.Project({"b/build.ninja": RULES + sh("../gen/a", "", "echo 1 > ../gen/a")}) as project:
+            project.sh("ninja -C b > /dev/null")
+            before = state(project)
+            words = [str(support.RECORDER), "--race", support.race_program(), "--fresh", "--", *BUILD]
+            for number in range(1, 9):
+                inject = ["strace", "-o", os.devnull, "-e", "inject=rename,renameat,renameat2:signal=TERM:when=%d" % number]
+                ended = subprocess.run([*inject, *words], cwd=project.folder, capture_output=True, timeout=support.SECONDS, check=False)
+                self.assertEqual((before, ["project"]), (state(project), os.listdir(project.folder.parent)), (number, ended.stderr.decode()))
+                if ended.returncode != 3:
+                    break
+            self.assertEqual((0, True), (ended.returncode, number > 4), ended.stderr.decode())
 
     def test_folders_that_may_not_be_written(self) -> None:
         """They go too; else the folder itself could not come back."""

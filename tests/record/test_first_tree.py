@@ -66,6 +66,14 @@ class Left(unittest.TestCase):
     def test_changed_files_are_counted(self) -> None:
         self.assertIn(" with 1 changed file\n", self.recorded(SAFE, GIT + "; echo 2 > src").text())
 
+    def test_folder_that_cmake_configured(self) -> None:
+        """Its own files are no part of what git tracks, and no build made them."""
+        files = {**SAFE, "CMakeCache.txt": ""}
+        with support.Project({"b/" + name: text for name, text in files.items()}) as project:
+            project.sh("touch src; git init -q . && git add src && git -c user.name=x -c user.email=x@y commit -qm x")
+            outcome = project.record(["make", "-C", "b"])
+            self.assertEqual(0, outcome.status, outcome.text())
+
     def test_what_came_with_a_release(self) -> None:
         files = {**SAFE, "Makefile": "all: b man\nb: src ; cp src b\nman: src ; false\n", "man": "1\n", "config.status": "#!/bin/sh\n"}
         old = "touch -d 2001-01-01 src; touch -d 2002-01-01 man config.status"
@@ -100,12 +108,34 @@ class Fresh(unittest.TestCase):
         outcome = self.fresh(SAFE, "make -s")
         self.assertEqual(0, outcome.status, outcome.text())
         self.assertIn("for this folder as make clean leaves it\n", outcome.text())
-        self.assertEqual(2, self.fresh(DEPFILES, "make -s").status)  # its rule leaves a dependency file
+
+    def test_what_make_clean_leaves(self) -> None:
+        outcome = self.fresh(DEPFILES, "make -s")
+        self.assertEqual((1, ["gen.h"]), (outcome.status, support.races_of(outcome.text())), outcome.text())
+        self.assertIn(b"an earlier build left main.d; recording again without that", outcome.stderr)
+
+    def test_what_git_does_not_ignore(self) -> None:
+        for options, end in (([], ""), (["--setup", ":"], ", after :")):
+            outcome = self.fresh(SAFE, GIT + "; make -s", options)
+            self.assertEqual(0, outcome.status, outcome.text())
+            self.assertIn(", without 2 files that an earlier build left (a, b)%s\n" % end, outcome.text())
+
+    def test_what_an_earlier_build_cannot_do_without(self) -> None:
+        """Where the build fails without it, the record of the tree with it stays."""
+        outcome = self.fresh({"Makefile": "all: a b\na: p ; cat p > a\nb: ; echo > b\np: ; false\nclean: ; rm -f a b\n", "p": ""}, "make -s")
+        self.assertEqual(2, outcome.status)
+        self.assertIn("WARM  1 file", outcome.text())
 
     def test_no_rule_cleans(self) -> None:
-        outcome = self.fresh({"Makefile": "a: ; touch a\n"}, ":")
-        self.assertEqual(3, outcome.status)
-        self.assertIn("--from", outcome.stderr.decode())
+        outcome = self.fresh({**SAFE, "Makefile": SAFE["Makefile"].replace("clean", "tidy")}, "make -s")
+        self.assertEqual(0, outcome.status, outcome.text())
+        self.assertIn("\n      for this folder as it stood, without 2 files that an earlier build left (a, b)\n", outcome.text())
+
+    def test_release_that_is_not_configured(self) -> None:
+        files = {"Makefile.in": SAFE["Makefile"], "src": "1\n", "configure": "#!/bin/sh\ncp Makefile.in Makefile\n"}
+        outcome = self.fresh(files, "chmod +x configure", ["--setup", "./configure"])
+        self.assertEqual(0, outcome.status, outcome.text())
+        self.assertIn("\n      for this folder as it stood, after ./configure\n", outcome.text())
 
     def test_archive(self) -> None:
         outcome = self.fresh(DEPFILES, "mkdir x-1; cp Makefile main.c gen.in x-1; tar -czf ../x-1.tar.gz x-1; rm -r x-1; make -s", ["--from", "../x-1.tar.gz"])
@@ -151,6 +181,22 @@ class Fresh(unittest.TestCase):
             process.send_signal(signal.SIGTERM)
             self.assertEqual(3, process.wait(support.SECONDS))
             self.assertEqual(["Makefile"], sorted(tree(project.folder)))
+
+
+@unittest.skipUnless(os.geteuid() == 0, "needs root")
+class FullDisk(unittest.TestCase):
+    """No room for the tree, its trace or its record."""
+
+    def test_project_stays(self) -> None:
+        for size in (60, 200, 400):
+            with support.Project(SAFE, below="/var/tmp") as project:
+                project.sh("head -c 100000 /dev/zero > big; make -s")
+                before = tree(project.folder)
+                small = "mount -t tmpfs -o size=%dk none /tmp && exec \"$@\"" % size
+                words = ["unshare", "--mount", "sh", "-c", small, "sh", str(support.RECORDER), "--race", support.race_program(), "--fresh", "--", "make"]
+                ran = subprocess.run(words, cwd=project.folder, capture_output=True, timeout=support.SECONDS, check=False)
+                self.assertEqual((3, before), (ran.returncode, tree(project.folder)), ran.stdout + ran.stderr)
+                self.assertIn(b"No space left on device", ran.stderr)
 
 
 @unittest.skipUnless(os.geteuid() == 0 and shutil.which("setpriv"), "needs root and setpriv")
