@@ -6,7 +6,7 @@ from dataclasses import dataclass
 from typing import Any, Dict, Iterable, List, Optional, Tuple
 
 from record.judge import Race, Verdict
-from record.kinds import FORGOTTEN, OUTPUT, TEMPORARY, TWO, Kind, is_of_folder, kind_of, target
+from record.kinds import AT_ONCE, FORGOTTEN, LEFT, OUTPUT, TEMPORARY, TWO, Kind, is_of_folder, kind_of, target
 from record.ninja.fix import by_cmake, by_meson, owner
 from record.rules import Lines, edited, logical, parts, rule_above
 from record.build.text import file_of
@@ -48,6 +48,8 @@ class Remedy:
 def remedy(about: Dict[str, Any], race: Race) -> Remedy:
     """What ends a race of a build."""
     kind = kind_of(about, race)
+    if kind in (AT_ONCE, LEFT):  # guard: no-line-orders-processes
+        return Remedy(is_edge=False, advice=kind.fix.replace("`", ""))
     if kind is TWO:  # guard: one-rule-with-two-outputs
         return as_one(about, race)
     instead = without_line(about, race)

@@ -115,8 +115,12 @@ def write_build(folder: Path, build: "Build", within: Optional[Dict[str, str]], 
     for at, (label, task) in enumerate(zip(labels, build.tasks)):
         own = build.about(at)
         edited = places.of(task.node.name, own)
-        place = {key: shown(value) if isinstance(value, str) else value for key, value in own.items()}
+        place: Dict[str, Any] = {key: shown(value) if isinstance(value, str) else value for key, value in own.items()}
         lists = sorted(relative(root, path) for path in task.listed & task.reads)
+        part = task.part
+        if part is not None:
+            place["command"] = shown(part.words)
+            place.update({"left": True} if part.is_left else {})
         is_loose = task.kind == "recipe" and not machine.isfile(os.path.join(root, task.node.name))  # guard: who-waits-for-what-leaves-no-file
         about[label] = {"target": shown(task.node.name), "kind": task.kind, **place, **({"lists": lists} if lists else {}),
                         **({"order_only": True} if is_loose else {}), **({"place": [shown(edited[0]), edited[1]]} if edited else {})}

@@ -32,10 +32,12 @@ FOLDER = Kind(
 TIME = Kind("compared-time", "two files whose ages a recipe or `make` compares", "let prerequisites order all recipes that write what is compared")
 MACRO = Kind("changed-macro", "a macro of make that a recipe changes with `$(eval ..)`", "set it where the makefile is read, or give each recipe a macro of its own")
 PRINTED = Kind("order-of-output", "the order of what a make prints into a file", "let each recipe write a file of its own")
+AT_ONCE = Kind("one-recipe", "two processes of one recipe that run at once", "write `wait` between the two, or let one end before the other begins (`&&`)")
+LEFT = Kind("left-running", "a process that its recipe does not wait for", "let the recipe wait for it (`wait`), or start it in a recipe of its own that does")
 WIDE = Kind("wide-footprint", "a footprint that is too wide: a tree where a few files were meant", "write down the single files")
 
 # WIDE is advice for footprints that are written by hand: nothing in a race shows it, so no race is given this kind.
-KINDS = (FORGOTTEN, TWO, TEMPORARY, LOG, OUTPUT, ARCHIVE, FOLDER, TIME, MACRO, PRINTED, WIDE)
+KINDS = (FORGOTTEN, TWO, TEMPORARY, LOG, OUTPUT, ARCHIVE, FOLDER, TIME, MACRO, PRINTED, AT_ONCE, LEFT, WIDE)
 # Names that stand for something else than a file: an age, or that a folder was made.
 OF_AGE = re.compile(r"(?:^|/)@(?:time|age)(?:/|$)")
 OF_MACRO = re.compile(r"(?:^|/)@macro/")
@@ -74,8 +76,18 @@ def is_one_rule(about: Dict[str, Any], race: Race) -> bool:
     return bool(place) and about.get("tool", "make") == "make" and one != other and whole(about, race.path) in made
 
 
+def of_one_recipe(about: Dict[str, Any], race: Race) -> bool:
+    """Whether two parts of one recipe race."""
+    first, second = (about["labels"].get(it, {}) for it in (race.first, race.second))
+    return "command" in first and "command" in second and first.get("target") == second.get("target")
+
+
 def kind_of(about: Dict[str, Any], race: Race) -> Kind:
     """The kind of a race."""
+    if of_one_recipe(about, race):
+        return AT_ONCE
+    if any(about["labels"].get(it, {}).get("left") for it in (race.first, race.second)):
+        return LEFT
     is_writing = race.first_does == race.second_does == "writes"
     if OF_AGE.search(race.path):
         return TIME

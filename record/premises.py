@@ -1,9 +1,8 @@
 """What a whole build takes for granted, found when the words of its makes and the lives of its processes are known."""
 
 import re
-from typing import Iterator, List
+from typing import List, Optional
 
-from record.at_once import CHANGES, at_once_in, is_left
 from record.build.assumptions import Assumptions
 from record.build.work import Work
 from record.cleaned import Cleaned
@@ -11,6 +10,7 @@ from record.commands import shelltext
 from record.make.owners import Make, Owners
 from record.make.words import makefiles
 from record.ninja.runs import Ninja
+from record.trace.events import CHANGES, FOLDER_REMOVED, MAKES
 from record.trace.lives import Life
 from record.trace.names import Names
 from record.warm import is_beyond
@@ -25,11 +25,12 @@ def add_granted(owners: Owners, assumed: Assumptions) -> None:
     for make in owners.makes:
         for work in (w for w in (make.work.get(id(j)) for r in make.words.rounds for j in r.jobs) if w is not None):
             interpreters(work, assumed)
+        for job in (j for r in make.words.rounds for j in r.jobs):
+            lucky(make.work.get(id(job)), job.target, assumed)
         runs_guile(make, assumed)
         for name in make.words.loaded:
             assumed.add("loaded", name)  # guard: loaded-objects-said
-    at_once(owners, assumed)  # guard: two-processes-at-once
-    outlived(owners, assumed)
+    side_by_side_makes(owners, assumed)
     beside(owners, assumed)  # guard: said
     asked(owners, assumed)
     for make in owners.makes:
@@ -63,12 +64,11 @@ def runs_guile(make: Make, assumed: Assumptions) -> None:
             assumed.add("loaded", "$(guile ..) in %s" % name)
 
 
-def add_granted_by_ninja(ninjas: List[Ninja], owners: Owners, assumed: Assumptions) -> None:
+def add_granted_by_ninja(ninjas: List[Ninja], assumed: Assumptions) -> None:
     """The same over the commands of ninjas."""
     for job in (j for ninja in ninjas for stage in ninja.stages for j in stage.jobs):
         interpreters(job.work, assumed)
-        at_once_in(job.work, job.edge.label if job.edge is not None else job.text[:60], assumed)
-        outlived_of(job.life, owners, assumed)
+        lucky(job.work, job.edge.label if job.edge is not None else job.text[:60], assumed)
 
 
 def add_granted_by_ninjas(ninjas: List[Ninja], ties: List[str], owners: Owners, assumed: Assumptions) -> None:
@@ -80,7 +80,7 @@ def add_granted_by_ninjas(ninjas: List[Ninja], ties: List[str], owners: Owners, 
         assumed.add("ties", text[:60])
     for argv in side_by_side(ninjas, owners):
         assumed.add("tops", " ".join(argv)[:60])  # guard: two-beside-each-other
-    add_granted_by_ninja(ninjas, owners, assumed)
+    add_granted_by_ninja(ninjas, assumed)
     if ninjas:
         assumed.add("ninja", "")
 
@@ -114,23 +114,17 @@ def says_jobs(make: Make) -> bool:
 
 def does_more(owners: Owners, life: Life) -> bool:
     """Whether a process or one below it changes files, or is a make, which prints."""
-    return any(one.is_make or any(kind in CHANGES for kind, _ in one.events) for one in owners.below(life))
+    return any(one.is_make or any(kind in CHANGES + MAKES + FOLDER_REMOVED for kind, _ in one.events) for one in owners.below(life))
 
 
-def at_once(owners: Owners, assumed: Assumptions) -> None:
-    """Two processes of one recipe that touch a file at the same time."""
-    for make in owners.makes:
-        for job in (j for r in make.words.rounds for j in r.jobs):
-            work = make.work.get(id(job))
-            if work is not None:
-                at_once_in(work, job.target, assumed)
+def lucky(work: Optional[Work], target: str, assumed: Assumptions) -> None:
+    """Processes of one recipe that are ordered by a wait which may have been luck."""
+    for text in work.luck if work is not None else ():
+        assumed.add("luck", "%s in %s" % (text, target))
 
 
-def outlived(owners: Owners, assumed: Assumptions) -> None:
-    """Processes that act on files when their recipe has ended, and makes that run beside each other without a make above."""
-    for make in owners.makes:
-        for life in make.life.children:  # guard: processes-that-function-leaves
-            outlived_of(life, owners, assumed)
+def side_by_side_makes(owners: Owners, assumed: Assumptions) -> None:
+    """Makes that run beside each other without a make above."""
     tops = [m.life for m in owners.makes if not any(l.is_make for l in m.life.up() if l is not m.life)]
     tops.sort(key=lambda l: l.born)
     for first, second in zip(tops, tops[1:]):
@@ -148,23 +142,7 @@ def beside(owners: Owners, assumed: Assumptions) -> None:
 
 def changes_beside(life: Life, top: Life) -> bool:
     """Whether a process changes files while a make runs; one that is above the make may wait for it."""
-    places = [place for (kind, _), place in life.events.items() if kind in CHANGES]
+    places = [place for (kind, _), place in life.events.items() if kind in CHANGES + MAKES + FOLDER_REMOVED]
     if life in top.up():
         return any(top.born < place < top.died for place in places)  # guard: what-is-above
     return bool(places) and life.born < top.died and life.died > top.born
-
-
-def outlived_of(life: Life, owners: Owners, assumed: Assumptions) -> None:
-    """What a recipe, or a call of `$(shell ..)`, left running, or did not wait for, and what may then change files: those that it opens, and
-    those that it or who started it had opened."""
-    for one in owners.below(life):
-        if (one.died > life.died or is_left(one, life)) and any(k in CHANGES for up in until(one, life) for k, _ in up.events):  # guard: open-file
-            assumed.add("outlives", " ".join(one.argv)[:60])  # guard: processes-that-outlive-their-recipe
-
-
-def until(life: Life, last: Life) -> Iterator[Life]:
-    """A life and those above it, up to one of them."""
-    for up in life.up():
-        yield up
-        if up is last:
-            return

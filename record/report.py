@@ -10,7 +10,7 @@ from typing import Any, Dict, List, Sequence, Tuple
 
 from record.fixes import Remedy, is_needed, merged, remedy
 from record.judge import Race, Verdict, explained
-from record.kinds import kind_of, target, whole
+from record.kinds import kind_of, of_one_recipe, target, whole
 from record.ninja.fix import pool_text
 from record.pages import after_no_verdict
 from record.build.text import OWN_NAME, file_of, shown
@@ -90,10 +90,17 @@ def name_of(about: Dict[str, Any], path: str) -> str:
     return near(about, name, about.get("folder", "/")) + "/" * name.endswith("/") if name.startswith("/") else name
 
 
+def who(about: Dict[str, Any], race: Race, label: str) -> str:
+    """A recipe of a race, by its target; by its command, where that is a process of it that races with another one, or that it leaves running."""
+    found, name = about["labels"].get(label, {}), target(about, label)
+    command: str = found.get("command", "")
+    return command if of_one_recipe(about, race) else "%s (%s)" % (name, command) if found.get("left") else name
+
+
 def rows(about: Dict[str, Any], race: Race) -> List[str]:
     """The two recipes of a race with their places and what they do, and who asks where only their ages count, in columns."""
-    found = [(target(about, race.first), place(about, race.first), verb(about, race.first, race.first_does, race.path)),
-             (target(about, race.second), place(about, race.second), verb(about, race.second, race.second_does, race.path) + ", and nothing orders the two")]
+    found = [(who(about, race, race.first), place(about, race.first), verb(about, race.first, race.first_does, race.path)),
+             (who(about, race, race.second), place(about, race.second), verb(about, race.second, race.second_does, race.path) + ", and nothing orders the two")]
     asker = about.get("askers", {}).get(race.path)
     found += [(target(about, asker) or NOBODY, place(about, asker), "may ask for it")] if asker is not None else []
     wide = [max(len(row[at]) for row in found) for at in (0, 1)]
@@ -126,7 +133,8 @@ def race_text(about: Dict[str, Any], races: List[Race], verdict: Verdict) -> Lis
     remedies = [one for race, one in found if is_needed(verdict, race) or not one.is_edge]
     ended = ["  the lines of other races end this one too"] if not remedies else []
     more = [more_text(about, group_of(about, races[0]), races)] if len(races) > 1 else []
-    return ["RACE  " + heading(about, races[0].path), *rows(about, races[0]), *more, *ended, *remedy_text(about, remedies, verdict.is_fixed)]
+    inside = "  in %s: %s, %s" % (target(about, races[0].first), *(who(about, races[0], it) for it in (races[0].first, races[0].second))) if of_one_recipe(about, races[0]) else ""
+    return ["RACE  " + heading(about, races[0].path) + inside, *rows(about, races[0]), *more, *ended, *remedy_text(about, remedies, verdict.is_fixed)]
 
 
 def short(words: str) -> str:

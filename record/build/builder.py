@@ -5,7 +5,7 @@ from typing import Dict, Iterable, List, NamedTuple, Optional, Protocol, Set, Tu
 
 from record.build.assumptions import Assumptions
 from record.build.tasks import Build, Node, Task
-from record.build.work import Tool, Work
+from record.build.work import Tool, Work, settle_parts
 from record.trace.events import AGE_SEEN, ASKS, CHANGES, CREATED, ENTERED, FOLDER_KEPT, FOLDER_REMOVED, LISTED, MAKES, REMOVED
 from record.trace.lists import fits
 from record.trace.names import Names, join
@@ -55,9 +55,40 @@ class Builder:
         return []
 
     def events(self, task: Task) -> Iterable[Tuple[str, str]]:
-        """The kinds and paths of all that the processes of a task did."""
-        for work in task.works:
+        """The kinds and paths of all that is judged as a task."""
+        for work in task.judged:
             yield from work.events
+
+    def add_parts(self, at: int) -> List[Task]:
+        """The tasks of the parts of a recipe that is divided, behind the last task that there is."""
+        task, begin = self.build.tasks[at], len(self.build.tasks)
+        work = next((work for work in task.works if work.parts), Work())
+        settle_parts(work)
+        if work.parts:
+            task.part = work.parts[-1]
+            task.parts = [begin + number for number in range(len(work.parts) - 1)]
+        return [Task("%s&%d" % (task.label, number), task.node, "part", part=part) for number, part in enumerate(work.parts[:-1], 1)]
+
+    def order_parts(self, at: int, after: List[Set[int]]) -> None:
+        """Which parts of a recipe come after which, and after which tasks: all that the recipe waits for. `after`: of each task."""
+        row = [*self.build.tasks[at].parts, at]
+        for one in row[:-1]:
+            after[one] = after[at] | self.behind(one, row)
+        after[at] |= self.behind(at, row)
+
+    def behind(self, at: int, row: List[int]) -> Set[int]:
+        """The tasks of a recipe, in the order of its parts, after which one of them comes."""
+        part = self.build.tasks[at].part
+        return {row[number] for number in part.after} if part is not None else set()
+
+    def note_late(self) -> None:
+        """Files on which recipes meet that wait for a process by luck alone: it may still run beside what comes later."""
+        for at, task in enumerate(self.build.tasks):
+            row = [self.build.tasks[one] for one in (*task.parts, at)]
+            writes, reads = set().union(*(one.writes for one in row)), set().union(*(one.reads for one in row))
+            for (kind, path), words in (found for work in task.works for found in work.late.items()):
+                if kind in CHANGES and path in writes or path in reads and any(self.build.is_before(at, other) for other in self.build.writers.get(path, ())):
+                    self.assumed.add("luck", "%s by %s in %s" % (path, words, task.label))
 
     @property
     def acts_at(self) -> Dict[str, int]:
@@ -102,10 +133,10 @@ class Builder:
         """By folder: the names that recipes create or remove directly in it."""
         table: Dict[str, Dict[str, Set[int]]] = {}
         for at, task in enumerate(self.build.tasks):
-            if task.kind != "recipe":
+            if task.kind not in ("recipe", "part"):
                 continue
-            looker = self.acts_at.get(task.label, at)
-            for who, events in ((at, self.events(task)), (looker, self.acts_of(task.node))):
+            looker, acts = self.acts_at.get(task.label, at), self.acts_of(task.node) if task.kind == "recipe" else ()
+            for who, events in ((at, self.events(task)), (looker, acts)):
                 for kind, path in events:
                     if kind in (CREATED, REMOVED, FOLDER_REMOVED):
                         path = path.rstrip("/")

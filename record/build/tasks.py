@@ -2,9 +2,9 @@
 
 import heapq
 from dataclasses import dataclass, field
-from typing import Any, Dict, List, Protocol, Set, Tuple
+from typing import Any, Dict, List, Optional, Protocol, Set, Tuple
 
-from record.build.work import Tool, Work
+from record.build.work import Part, Tool, Work
 
 
 class Run(Protocol):
@@ -37,12 +37,19 @@ class Task:
 
     label: str
     node: Node
-    kind: str  # recipe, decision, look, group
+    kind: str  # recipe, part, decision, look, group
     after: Set[int] = field(default_factory=set)
     reads: Set[str] = field(default_factory=set)
     writes: Set[str] = field(default_factory=set)
     works: List[Work] = field(default_factory=list)
     listed: Set[str] = field(default_factory=set)  # what it reads by a list of the folder alone
+    part: Optional[Part] = None  # of a recipe, that is judged as this task: of one that is divided the one with which it ends
+    parts: List[int] = field(default_factory=list)  # of a recipe that is divided: the tasks of its other parts, in order
+
+    @property
+    def judged(self) -> List[Work]:
+        """What is judged as this task."""
+        return [self.part.work] if self.part is not None else self.works
 
     def read(self, path: str) -> None:
         """Reads a name, or asks for it."""
@@ -131,6 +138,14 @@ def order_tasks(tasks: List[Task], after: List[Set[int]], keys: List[Tuple[int, 
                 if left[user] == 0:
                     heapq.heappush(heap, (keys[user], user))
     return order, dropped
+
+
+def renumber(tasks: List[Task], order: List[int], after: List[Set[int]]) -> Tuple[List[Task], Dict[int, int]]:
+    """The tasks in an order, each with those that it waits for, and the new number of each old one. `after`: by the old number, the old numbers of these."""
+    number = {old: new for new, old in enumerate(order)}
+    for old in order:
+        tasks[old].after, tasks[old].parts = {number[one] for one in after[old]}, [number[one] for one in tasks[old].parts]
+    return [tasks[old] for old in order], number
 
 
 def befores(after: List[Set[int]], order: List[int]) -> List[int]:

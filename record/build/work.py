@@ -1,7 +1,7 @@
 """Who did what: what the processes of a recipe did, and the makes and ninjas below it."""
 
 from dataclasses import dataclass, field
-from typing import Dict, Iterable, Iterator, List, Tuple
+from typing import Dict, Iterable, Iterator, List, Set, Tuple
 
 from record.trace.events import CHANGES
 from record.trace.courses import Key
@@ -18,12 +18,25 @@ class Work:
     lives: List[Life] = field(default_factory=list)
     makes: List["Tool"] = field(default_factory=list)
     ninjas: List["Tool"] = field(default_factory=list)
+    parts: List["Part"] = field(default_factory=list)  # those that are tasks of their own (parts.py), that with which it ends last; none where it is one task
+    luck: List[str] = field(default_factory=list)  # files on which two of its processes meet that a wait orders by luck, with the two
+    late: Dict[Key, str] = field(default_factory=dict)  # what processes did for which it has waited by luck alone, with their commands
 
     def add(self, kind: str, path: str, place: int) -> None:
         """Takes one event; its first place counts."""
         key = (kind, path)
         if key not in self.events or self.events[key] > place:
             self.events[key] = place
+
+
+@dataclass(eq=False)
+class Part:
+    """A part of a recipe: what it did, the parts that end before it begins, by their numbers, its command, and whether the recipe ends without it."""
+
+    work: Work = field(default_factory=Work)
+    after: Set[int] = field(default_factory=set)
+    words: str = ""
+    is_left: bool = False
 
 
 class Tool:
@@ -41,6 +54,17 @@ class Tool:
         """The same of all stages."""
         for pairs in self.compared_by_stage():
             yield from pairs
+
+
+def settle_parts(work: Work) -> None:
+    """The makes and ninjas of a recipe belong to its parts, and to that with which it ends what none of them did: what ninja itself does for it."""
+    done = set().union(*(part.work.events for part in work.parts))
+    for part in work.parts:
+        own = {id(life) for life in part.work.lives}
+        part.work.makes, part.work.ninjas = ([tool for tool in tools if id(tool.life) in own] for tools in (work.makes, work.ninjas))
+    for (kind, path), place in work.events.items() if work.parts else ():
+        if (kind, path) not in done:
+            work.parts[-1].work.add(kind, path, place)
 
 
 def take_piece(work: Work, ran: Work, events: List[Tuple[str, str, int]]) -> None:

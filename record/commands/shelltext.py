@@ -34,7 +34,6 @@ PASSING = ("env", "nice", "ionice", "setsid", "timeout", "flock", "time", "stdbu
 
 # Words of programs.
 NAMES_NEXT = re.compile(r"[-+]\w*[oO]\w*|--rcfile|--init-file")  # options of a shell whose value is the next word: `-euo pipefail`
-AT_ONCE = re.compile(r"\s(?:-\w*P\s*|--max-procs[= ])(?!\s|1\s)")  # of xargs, by which it runs several programs at once: `-P 4`  # guard: xargs-of-one-job
 FORCES, SAYS = re.compile(r"-[a-zA-Z]*f[a-zA-Z]*|--force"), re.compile(r"-[a-zA-Z]*[viI][a-zA-Z]*|--(?:verbose|interactive.*)")  # of rm: `-rf`, `-v`
 SHOWS = re.compile(r"-(?:print|ls|fprint|fls|exec|ok)")  # what find does beside `-delete`
 FORMAT_OF_STAT = re.compile(r"\s(-\w*c|--f|--p)")  # `stat -c`, `--format`, `--printf`: it shows no more than that asks for
@@ -371,11 +370,6 @@ def takes_in(argv: List[str], path: str) -> bool:
 def is_input(path: str, text: str) -> bool:
     """Whether the text of a shell names a file as input."""
     return re.search(r"<\s*[^\s;|&<>()]*" + re.escape(os.path.basename(path)), text) is not None
-
-
-def runs_at_once(argv: List[str]) -> bool:
-    """Whether a program runs several others at once, and waits for them when it ends."""
-    return base_name(argv) == "parallel" or base_name(argv) == "xargs" and bool(AT_ONCE.search(" ".join(argv) + " "))
 
 
 def hands_on(argv: List[str]) -> bool:

@@ -3,7 +3,7 @@
 import os
 import re
 from functools import lru_cache
-from itertools import combinations
+from itertools import chain, combinations
 from typing import Dict, Iterator, List, Set, Tuple
 
 from record.build.builder import Builder
@@ -32,7 +32,7 @@ def add_ages(builder: RoundBuilder) -> None:
         names = builder.looked_at(node, at)
         for path in names[1:]:
             compare(builder, at, names[0], path, node.name)
-        for who, work in works_of(builder, at):
+        for who, work in chain.from_iterable(works_of(builder, one) for one in (at, *build.tasks[at].parts)):
             inner_ages(builder, who, work)  # guard: inner-makes
             ages_by_words(builder, who, work)  # guard: words-of-program
             ages_in_archives(builder, who, work)  # guard: ages-by-ar
@@ -42,7 +42,7 @@ def works_of(builder: Builder, at: int) -> List[Tuple[int, Work]]:
     """What a task ran, and what make itself ran for it, as by `$(shell ..)`, with the task that has that."""
     task = builder.build.tasks[at]
     acts = builder.acts_work(task.node) if builder.build.tool == "make" and task.kind == "recipe" else None
-    return [*((at, work) for work in task.works), *([(builder.acts_at.get(task.label, at), acts)] if acts is not None else [])]
+    return [*((at, work) for work in task.judged), *([(builder.acts_at.get(task.label, at), acts)] if acts is not None else [])]
 
 
 def note_sources(builder: Builder) -> None:

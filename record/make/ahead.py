@@ -29,7 +29,7 @@ def makes_ahead(builder: Builder, at: int, folder: str) -> bool:
     recipe comes first makes the folder, before anything of it runs.
     """
     task = builder.build.tasks[at]
-    if not isinstance(builder, RoundBuilder) or task.kind not in ("recipe", "look"):
+    if not isinstance(builder, RoundBuilder) or task.kind not in ("recipe", "part", "look"):
         return False
     base, known = builder.graph.base, builder.known
     if builder.make.words.exports_to_shell and any(ACTS.search(known.text_of(name)) for name in known.handed_on):  # guard: shells-that-get-exported-macros

@@ -3,7 +3,7 @@
 import bisect
 from typing import Dict, List, Set
 
-from record.build.tasks import Build, Node, Task, befores, drop_lonely, order_tasks
+from record.build.tasks import Build, Node, Task, befores, drop_lonely, order_tasks, renumber
 from record.make.ages import add_ages
 from record.make.considered import Considered, is_row
 from record.make.elsewhere import add_elsewhere, find_askers
@@ -16,6 +16,9 @@ from record.make.targets import RoundBuilder
 from record.make.unfiled import add_macros, add_outputs, count_listings
 from record.make.words import makefiles
 from record.trace.events import CREATED, MAKES, WRITTEN
+
+
+CALLED = "$(shell ..)"  # the label of what a call of make leaves running
 
 
 class MakeBuilder(RoundBuilder):
@@ -42,7 +45,7 @@ class MakeBuilder(RoundBuilder):
         for label, at in self.of_node.items():
             node = self.graph.nodes[label]
             own = {node.path, self.names.find(self.make.folder, node.name, False).path, *self.seen(node)}
-            if node.jobs and not node.phony and not any(kind in WRITTEN + CREATED + MAKES and path in own for kind, path in self.events(self.build.tasks[at])):
+            if node.jobs and not node.phony and not any(kind in WRITTEN + CREATED + MAKES and path in own for work in self.build.tasks[at].works for kind, path in work.events):
                 self.assumed.add("unwritten", node.name)  # guard: recipes-that-leave-their-target-alone
 
     # ---------------------------------------------------------------- tasks
@@ -60,6 +63,9 @@ class MakeBuilder(RoundBuilder):
                 self.of_node[node.label] = at
                 task = self.build.tasks[at]
                 task.works = [self.make.work[id(j)] for j in node.jobs if id(j) in self.make.work]
+                self.build.tasks += self.add_parts(at)
+        for part in self.make.left:
+            self.build.tasks.append(Task(CALLED, Node(CALLED, CALLED, 0, 0), "part", part=part))
 
     def make_decisions(self) -> None:
         """A target that somebody writes, or one of whose prerequisites is written, is looked at, recipe or not."""
@@ -126,6 +132,8 @@ class MakeBuilder(RoundBuilder):
             row = [self.of_node[label] for label in self.labels_of_jobs()]
             for first, second in zip(row, row[1:]):
                 after[second].add(first)
+        for at in (at for at, task in enumerate(tasks) if task.kind == "recipe"):
+            self.order_parts(at, after)
         for at, earlier in enumerate(after):
             earlier.discard(at)
         jobs = {label: n for n, label in enumerate(self.labels_of_jobs())}
@@ -178,12 +186,11 @@ class MakeBuilder(RoundBuilder):
     def renumber(self, order: List[int], after: List[Set[int]]) -> None:
         """Puts the tasks in an order, each with those that it waits for. `after`: by the old number, the old numbers of these."""
         if self.is_serial():
-            for first, second in zip(order, order[1:]):
-                after[second].add(first)
-        number = {old: new for new, old in enumerate(order)}
-        tasks = [self.build.tasks[old] for old in order]
-        for old, task in zip(order, tasks):
-            task.after = {number[a] for a in after[old]}
+            row = [at for at in order if self.build.tasks[at].kind != "part"]
+            for first, second in zip(row, row[1:]):
+                for at in (second, *self.build.tasks[second].parts):
+                    after[at].add(first)
+        tasks, number = renumber(self.build.tasks, order, after)
         self.of_node = {n: number[a] for n, a in self.of_node.items()}
         self.look_of = {n: number[a] for n, a in self.look_of.items()}
         self.first_of = {n: number[a] for n, a in self.first_of.items()}
@@ -202,6 +209,9 @@ class MakeBuilder(RoundBuilder):
             self.add_events(self.acts_at.get(label, at), self.acts_of(node), created)
             if task.kind != "group":
                 self.add_decision(looker, at, node, node.label in asked)
+        for at, task in enumerate(build.tasks):
+            if task.kind == "part":
+                self.add_events(at, self.events(task), created)
         for label, at in self.first_of.items():
             build.tasks[at].reads.update(self.asked[label])
         add_inner(self, created)
@@ -215,6 +225,7 @@ class MakeBuilder(RoundBuilder):
         pass_locks(self)
         # the next build reads the makefiles that this one looked for
         drop_lonely(self.build.tasks, {self.names.find(self.make.folder, name, True).path for name in makefiles(self.make.words)})
+        self.note_late()
 
     def add_decision(self, looker: int, at: int, node: Node, is_asked: bool) -> None:
         """Make looks at a target and at its prerequisites. The age of a target alone counts where others ask for it."""
@@ -226,4 +237,3 @@ class MakeBuilder(RoundBuilder):
             if len(names) > 1 or is_asked:  # guard: ages-that-nobody-asks
                 self.timed.setdefault(path, set()).add(looker)
         task.reads.update(path for path in self.followed(node, at) if writers.get(path, set()) - {at, looker})  # guard: they-are-read
-

@@ -120,9 +120,9 @@ def put_together(builder: Builder) -> Events:
     not there it makes no difference whether its folder is."""
     found = []
     for at, task in enumerate(builder.build.tasks):
-        if task.kind == "recipe":
-            found.append((at, [(k, p, s) for w in task.works for (k, p), s in w.events.items()]))
-            acts = builder.acts_work(task.node) if builder.build.tool == "make" else None
+        if task.kind in ("recipe", "part"):
+            found.append((at, [(k, p, s) for w in task.judged for (k, p), s in w.events.items()]))
+            acts = builder.acts_work(task.node) if builder.build.tool == "make" and task.kind == "recipe" else None
             if acts is not None:
                 looker = builder.acts_at.get(task.label, at)
                 found.append((looker, [(k, p, s) for (k, p), s in acts.events.items()]))
@@ -228,7 +228,7 @@ def part_modes(builder: Builder, path: str, folder: Folder, makers: Set[int]) ->
 
 def masks(builder: Builder, at: int, path: str) -> FrozenSet[int]:
     """The bits without which the processes of a task make names: those that make a folder, else those that ask for it, else all."""
-    lives = [life for work in builder.build.tasks[at].works for life in work.lives]
+    lives = [life for work in builder.build.tasks[at].judged for life in work.lives]
     makers, lookers = ([life for life in lives if any((kind, path) in life.events for kind in kinds)] for kinds in (MAKER_SEEN + MADE_QUIETLY + STRICT, SEEN + ABSENT))
     return frozenset(bits(life) for life in makers or lookers or lives)
 

@@ -9,7 +9,8 @@ from functools import cached_property
 from typing import Container, Dict, Iterable, Iterator, List, Optional, Sequence, Set, Tuple
 
 from record import machine
-from record.build.work import Tool, Work, take_piece, written_by
+from record.build.parts import divide
+from record.build.work import Part, Tool, Work, take_piece, written_by
 from record.commands.system import OF_SYSTEM
 from record.commands.texts import text_of
 from record.make.asked import EVERYTHING, Asked, asked_in, is_of_linker
@@ -20,7 +21,7 @@ from record.make.one_job import has_one_job
 from record.make.programs import Programs
 from record.make.searches import asked_names
 from record.make.words import Job, Round, Words, makefiles
-from record.trace.events import ABSENT, ENTERED, LISTED, LOOKS, MAKE_LISTED, MAKE_OPENED, ORDER_SEEN, READ, REMOVED, SEEN
+from record.trace.events import ABSENT, ENTERED, INSIDE, LISTED, LOOKS, MAKE_LISTED, MAKE_OPENED, ORDER_SEEN, READ, REMOVED, SEEN
 from record.trace.lives import Life
 
 SHELL = re.compile(r"\$[({]shell\s|!=")  # what calls a program while make reads or expands a text
@@ -47,6 +48,7 @@ class Make(Tool):
     stale: Set[str] = field(default_factory=set)  # makefiles that say something else by now
     callers: Sequence[str] = ()  # the lines of the recipe that called it, as they stand in the makefile
     pieces: List[Tuple[int, List[Tuple[str, str, int]]]] = field(default_factory=list)  # what it did by itself, where it expands prerequisites late
+    left: List[Part] = field(default_factory=list)  # processes that its own calls leave running, as `$(shell a &)`
 
     @cached_property
     def kinds(self) -> Dict[str, Set[str]]:
@@ -160,6 +162,7 @@ class Owners:
         self.makes: List[Make] = []
         self.of_life: Dict[int, Make] = {}
         self.written = written_by(lives)
+        self.has_waits = any(life.course.waited is not None for life in lives)  # a trace that was kept before waits were traced has none: then a recipe is one task
         self.jobs: Dict[int, Job] = {}  # by id of a life that make started
         self.births: Dict[int, int] = {}  # by id of a job: when its first process was born
         self.lasts: Dict[int, int] = {}  # by id of a job: when its last process was born
@@ -180,6 +183,10 @@ class Owners:
         for make in self.makes:
             make.is_called, make.callers = self.is_called(make), self.callers_of(make)
             self.collect(make)
+        for make in self.makes:
+            for work in make.work.values():
+                self.divide(work)
+            make.left = [part for work in self.called(make) for part in self.divide(work) if part.is_left]
 
     def add_make(self, life: Life, words: Words) -> None:
         """One more make, with what it said; that it did not end, or failed, is a hole."""
@@ -287,7 +294,7 @@ class Owners:
                         work.add(LISTED, key[1] + "\0" + pattern, place)
                     if not self.is_sorted:
                         work.add(ORDER_SEEN, key[1], place)  # guard: makes-inside
-                elif work.events.get(key, place + 1) > place:
+                elif key[0] not in INSIDE and work.events.get(key, place + 1) > place:
                     work.add(SEEN if key[0] == MAKE_OPENED else key[0], key[1], place)
 
     def collect(self, make: Make) -> None:
@@ -306,6 +313,20 @@ class Owners:
             end = make.life.starts[start + 1][0] if start + 1 < len(make.life.starts) else 1 << 60
             make.ready.append(self.read_by(make, start, begin, end))
             self.place_acts(make, start, make.ready[-1], end)
+
+    def divide(self, work: Work) -> List[Part]:
+        """The parts of a recipe."""
+        if self.has_waits:
+            divide(work, self.written)
+        return work.parts
+
+    def called(self, make: Make) -> Iterator[Work]:
+        """What each call of a make's own does, as by `$(shell ..)`."""
+        for life in make.life.children:
+            if id(life) not in self.jobs:  # guard: calls-of-make-that-leave-processes
+                work = Work()
+                self.take(work, life)
+                yield work
 
     def read_by(self, make: Make, start: int, begin: int, end: int) -> int:
         """When make had read its makefiles, or found that they are not there: it looks at the first of them again."""

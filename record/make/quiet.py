@@ -14,7 +14,7 @@ from record.trace.lives import Life
 
 def excused(builder: Builder, at: int, folder: str) -> bool:
     """Whether a recipe makes a folder in a quiet form, which does not show who was first."""
-    lives = [life for work in builder.build.tasks[at].works for life in work.lives]
+    lives = [life for work in builder.build.tasks[at].judged for life in work.lives]
     kept = builder.make.words.kept_errors if isinstance(builder, RoundBuilder) else ""  # guard: errors-that-make-above-keeps
     if makes_quietly(lives, folder, bool(kept)) or not kept and is_ignored(builder, at, folder):  # guard: lines-that-may-fail
         return True
@@ -43,9 +43,9 @@ def is_of_form(life: Life, folder: str, is_kept: bool) -> bool:
 def is_ignored(builder: Builder, at: int, folder: str) -> bool:
     """Whether it is `-mkdir d` that makes a folder in a recipe: make itself runs it, and goes on where the folder is there."""
     task = builder.build.tasks[at]
-    if not isinstance(builder, RoundBuilder) or task.kind != "recipe":
+    if not isinstance(builder, RoundBuilder) or task.kind not in ("recipe", "part"):
         return False
-    makers = [life for work in task.works for life in work.lives if life.events.keys() & {(MADE, folder), (MADE_BEFORE, folder)}]
+    makers = [life for work in task.judged for life in work.lives if life.events.keys() & {(MADE, folder), (MADE_BEFORE, folder)}]
     heeded = [line for line in builder.graph.base.recipes.get(task.node.name, []) if not re.match(r"\s*[@+]*-", line)]
     return bool(makers) and all(is_plain_mkdir(life) for life in makers) and not any(re.match(r"\s*[@+]*\s*(\S*mkdir|\$)", line) for line in heeded)  # guard: lines-that-may-not-fail
 

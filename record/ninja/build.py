@@ -5,7 +5,7 @@ from typing import Any, Dict, List, Set
 
 from record.build.assumptions import Assumptions
 from record.build.builder import Builder
-from record.build.tasks import Build, Node, Task, befores, drop_lonely, order_tasks
+from record.build.tasks import Build, Node, Task, befores, drop_lonely, order_tasks, renumber
 from record.build.work import Work
 from record.make.ages import ages_by_words, ages_in_archives, inner_ages, note_sources
 from record.make.elsewhere import add_elsewhere, find_askers
@@ -106,7 +106,26 @@ class NinjaBuilder(Builder):
             self.of_node[edge.label] = len(self.build.tasks)
             self.build.tasks.append(task)
             self.build.edges.append(edge)
-        self.build.bits = befores([t.after for t in self.build.tasks], list(range(len(order))))
+        self.divide_tasks()
+        self.build.bits = befores([t.after for t in self.build.tasks], list(range(len(self.build.tasks))))
+
+    def divide_tasks(self) -> None:
+        """Puts the parts of commands that are divided in front of their ends."""
+        build, count = self.build, len(self.build.tasks)
+        owners = list(range(count))
+        for at in range(count):
+            parts = self.add_parts(at)
+            build.tasks += parts
+            owners += [at] * len(parts)
+        if len(owners) == count:
+            return
+        after = [{*task.after} for task in build.tasks]
+        for at in range(count):
+            self.order_parts(at, after)
+        order = sorted(range(len(owners)), key=lambda at: (owners[at], build.tasks[at].kind != "part", at))
+        build.edges = [build.edges[owners[old]] for old in order]
+        build.tasks, number = renumber(build.tasks, order, after)
+        self.of_node = {label: number[at] for label, at in self.of_node.items()}
 
     def first(self) -> Set[int]:
         """The statements that ran before all others: ninja first makes its manifest. They are those at the head of the run which it needs, and which
@@ -227,13 +246,14 @@ class NinjaBuilder(Builder):
         self.add_files_of_dyndep()  # guard: outputs-that-dyndep-file-adds
         note_sources(self)
         for at, task in enumerate(self.build.tasks):
-            for work in task.works:
+            for work in task.judged:
                 inner_ages(self, at, work)
                 ages_by_words(self, at, work)
                 ages_in_archives(self, at, work)
         add_elsewhere(self, created)
         pass_locks(self)  # guard: ninja
         drop_lonely(self.build.tasks, set())
+        self.note_late()
 
     def add_logs(self) -> None:
         """A command that reads the logs of its ninja sees which commands have ended: ninja writes a line for each. One that lists their folder, or
@@ -246,14 +266,14 @@ class NinjaBuilder(Builder):
             if is_new and folder in self.timed:  # guard: its-log-and-age-of-folder
                 self.timers.setdefault(folder, set()).update(makers)
             for at in sorted(ran):
-                if any(kind in "RSN" and found == path for kind, found in self.events(tasks[at])):
+                if any(kind in "RSN" and found == path for work in tasks[at].works for kind, found in work.events):
                     apart(self, path + "/@output", "which commands stand in the log of ninja", at, ran - {at})
                 elif is_new and self.lists(at, path) and not any(self.build.is_before(maker, at) for maker in makers):  # guard: its-log-among-names
                     apart(self, path + "/@output", "that the log of ninja is there", at, makers - {at})
 
     def lists(self, at: int, path: str) -> bool:
         """Whether a task lists the folder of a path for such names."""
-        found = (name.split("\0") for kind, name in self.events(self.build.tasks[at]) if kind == "L")
+        found = (name.split("\0") for work in self.build.tasks[at].works for kind, name in work.events if kind == "L")
         return any(folder == os.path.dirname(path) and fits(pattern, path, self.names) for folder, pattern in found)  # guard: log-that-does-not-fit
 
     def put_makers_first(self) -> None:
@@ -267,9 +287,6 @@ class NinjaBuilder(Builder):
         order, dropped = order_tasks(tasks, after, [(at, 0) for at in range(len(tasks))])
         if dropped:
             return
-        number = {old: new for new, old in enumerate(order)}
-        for task in tasks:
-            task.after = {number[one] for one in task.after}
-        self.build.tasks = [tasks[old] for old in order]
+        self.build.tasks, _ = renumber(tasks, order, [task.after for task in tasks])
         self.build.edges = [edges[old] for old in order]
         self.build.bits = befores([task.after for task in self.build.tasks], list(range(len(order))))

@@ -280,6 +280,7 @@ class Runs:
                 self.break_tie(text, jobs, edges, logged)
         for job in stage.jobs:
             self.owners.take(job.work, job.life)  # guard: processes-of-command
+            self.owners.divide(job.work)
         for text, jobs in sorted(groups.items()):
             self.check_tie(text, jobs)  # guard: two-of-one-command-at-once
 

@@ -2,8 +2,9 @@
 
 A segment of a process ends where the process forks, ends, or has waited. It comes after the one before it, and after the fork that began its
 process. Until a child of `vfork` runs a program, its parent waits: what it does belongs to the segment of its parent. A segment comes after the end of a
-process too for which its own has waited; the wait is *known* where each build waits so: for a process by its number or descriptor, and for any child
-in a row of waits that leaves none. Of another wait for any child it is luck which one ends first.
+process too for which its own has waited. The wait is *known* where each build waits so: for a process by its number or descriptor, and in a row of
+waits for any child that leaves none, for the last of them. Else it is luck: a shell that waits for what it runs in front also hears of what has ended
+in the background by then, and does not wait for it again.
 """
 
 from bisect import bisect_right
@@ -22,6 +23,7 @@ class Living(Protocol):
     is_heir: bool
     is_make: bool
     is_ninja: bool
+    number: int
 
 
 class Course:
@@ -110,9 +112,10 @@ class Course:
         """A row of waits for any child ends. `has_none`: no child was left."""
         if not self.row:
             return
-        is_known = has_none or self.left == 0 and all(slept for _, slept in self.row) or self.first.is_make or self.first.is_ninja  # guard: luck
-        for child, _ in self.row:
-            child.is_known = is_known
+        self.row[-1][0].is_known = self.left == 0 and self.row[-1][1]  # guard: luck
+        if has_none or self.first.is_make or self.first.is_ninja:  # (make and ninja wait for each)
+            for child, _ in self.row:
+                child.is_known = True
         self.row = []
         self.limit = self.marks[-1]
 
@@ -124,10 +127,6 @@ class Course:
                 self.wait(child, place, True, True)
 
     # ---------------------------------------------------------------- order
-    def depth(self) -> int:
-        """How many processes are above it."""
-        return sum(1 for _ in self.up()) - 1
-
     def up(self) -> Iterator["Course"]:
         """It, and those above it."""
         course: Optional["Course"] = self

@@ -5,7 +5,7 @@ from typing import List, Set
 
 from record.commands import shelltext
 from record.trace.classes import HIDING, LEFT_OUT, NO_FILES, SHARING, UNFOLLOWED, WRITES, named
-from record.trace.events import CREATED, LOCKED, MAKER_SEEN, MODE_GIVEN, OUTPUT
+from record.trace.events import CREATED, HELD, LOCKED, MAKER_SEEN, MODE_GIVEN, OUTPUT
 from record.trace.lives import Life
 from record.trace.names import Found, Inode
 from record.trace.processes import Processes
@@ -22,6 +22,7 @@ READING = set("""FIOCLEX FIONCLEX FIONBIO FIOASYNC FIONREAD FIOQSIZE FIGETBSZ FI
 CHANGING = set("""FS_IOC_SETFLAGS FS_IOC32_SETFLAGS FS_IOC_SETVERSION FS_IOC32_SETVERSION FS_IOC_FSSETXATTR FS_IOC_ENABLE_VERITY FS_IOC_SET_ENCRYPTION_POLICY
     FAT_IOCTL_SET_ATTRIBUTES""".split())
 NO_WAIT = re.compile(r", F_(?:OFD_)?(?:GETLK|SETLK)(?:64)?, (?!\{l_type=F_UNLCK)")  # a lock that is asked for and not waited for  # guard: not-where-they-are-given-back
+TAKES_LOCK = re.compile(r", F_(?:OFD_)?SETLKW?(?:64)?, (?!\{l_type=F_UNLCK)")
 WAITS = re.compile(r", F_(?:OFD_)?SETLKW(?:64)?, (?!\{l_type=F_UNLCK)")  # one that is waited for
 LOCK_FILE = re.compile(r", O_RDONLY\|O_CREAT(?:\|O_(?:NOCTTY|CLOEXEC|LARGEFILE))*, 0666$")  # how `flock` opens it
 FOR_A_WHILE = re.compile(r"-\w*[nw]|--[nwt]")  # options of `flock`: `-n`, `-w SECONDS`
@@ -59,6 +60,8 @@ class Opened(Processes):
 
     def on_fcntl(self, life: Life, call: Call, ok: bool) -> None:
         """Locks that are not waited for, and leases, by which a process sees that another one opens a file."""
+        if ok and TAKES_LOCK.search(call.args):
+            self.keep(life, HELD, "".join(folders(call.args)[:1]))
         if NO_WAIT.search(call.args):  # guard: said
             self.locks.append("%s locks %s" % (" ".join(life.argv)[:60], "".join(folders(call.args)[:1])))
         elif ok and WAITS.search(call.args):

@@ -79,7 +79,6 @@ GUARDS: List[Guard] = [
         ("copies", 'SORTERS, NAMING = ("cp", "make", "gmake", "rm", "chmod", "chown", "rmdir", "git"), ("rm", "rmdir", "chmod", "chown")', "shelltext.Makefiles.order_of_a_folder_that_is_copied", UNSAID),
         ("tar-that-packs", r'UNPACKS = re.compile(r"\S+.* (?:-?[vzjJapmko]*x[a-zA-Z]*|--extract|--get)(?: |$)")', "shelltext.Looks.numbers_of_names", "True != False"),
         ("programs-that-hand-errors", 'PASSING = ("nice", "ionice", "setsid", "timeout", "flock", "time", "stdbuf")', "shelltext.Makefiles.folder_made_or_true_behind_env", FALSE_RACE),
-        ("xargs-of-one-job", r'AT_ONCE = re.compile(r"\s(?:-\w*P\s*|--max-procs[= ])")', "shelltext.Makefiles.one_at_a_time_by_xargs", "True is not false"),
         ("how-large-ls-shows", r'SHOWS_SIZES = {"ls": re.compile(r"\s(-\w*[S]|--si|--so\w*[= ]s)"), "find": re.compile(r"\s-size\s")}', "shelltext.Makefiles.size_of_a_folder_by_ls", YES),
         ("how-large-ls-shows", r'SHOWS_SIZES = {"ls": re.compile(r"\s(-\w*[sS]|--si|--so\w*[= ]s)")}', "shelltext.Makefiles.size_of_a_folder_by_find", YES),
         ("names-that-bash-completes", r'OPTIONS = re.compile(r"\b(shopt|GLOBIGNORE)\b|\s[-+]O\s")', "shelltext.Programs.texts_that_list_without_a_pattern"),

@@ -347,6 +347,7 @@ GUARDS: List[Guard] = [
         ("scripts", 'return [" ".join(argv), *([contents(os.path.join(life.folder, script))] if False else [])]', "small.Makefiles.one_job_of_a_script", FALSE_RACE),
     ),
     *guards("make/owners.py",
+        ("calls-of-make-that-leave-processes", "if False:", "parts.Makefiles.process_that_a_function_leaves", YES),
         ("what-they-say", r'return "\n".join(map(text_of, [os.path.join(self.folder, name)]))', "macros.Makefiles.export_in_a_makefile_that_is_written_again", YES),
         ("makefiles", "return False and ABSENT in kinds and READ not in kinds and not machine.lexists(path)", "small.Makefiles.search_that_lists_a_folder", FALSE_RACE),
         ("pieces", "found.setdefault(path, (place, place))", "replay.Traces.list_that_is_read_in_pieces"),

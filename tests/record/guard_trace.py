@@ -86,7 +86,7 @@ GUARDS: List[Guard] = [
     ),
     *guards("trace/courses.py",
         ("rows-of-waits", "pass", "courses.Orders.a_row_of_waits_that_leaves_no_child"),
-        ("luck", "is_known = True", "courses.Orders.a_wait_for_any_child"),
+        ("luck", "self.row[-1][0].is_known = True", "courses.Orders.a_wait_for_any_child"),
         ("what-is-done-again", "pass", "courses.Orders.what_is_done_again"),
         ("children-that-are-left", "pass", "courses.Orders.a_row_of_waits_that_leaves_no_child"),
         ("waits-that-are-luck", "if course.waited is not None:", "courses.Orders.a_wait_for_any_child"),

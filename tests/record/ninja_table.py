@@ -145,8 +145,9 @@ CASES += [
     Case("inner-ninja-that-fails", NONE, sh("x", "", "ninja -C sub || touch x"), ["ninja left no log"], files={"sub/build.ninja": RULES + sh("h", "", "false")}),
 ]
 CASES += [
-    Case("two-processes-of-one-command", SAFE, sh("a", "", "(sleep 0.3; echo 1 >> log) & (sleep 0.3; echo 2 >> log; sleep 0.2) & wait; touch a"), ["two processes of one recipe that may touch a file"]),
-    Case("process-that-outlives-its-command", SAFE, sh("a", "", "(sleep 0.5; echo > late) > /dev/null 2>&1 & touch a") + sh("b", "a", "sleep 1; touch b"), ["when its recipe has ended"]),
+    Case("process-that-its-command-leaves", RACE, sh("a", "", "(sleep 0.5; echo > late) > /dev/null 2>&1 & touch a") + sh("b", "a", "sleep 1; cat late > b"), ["late"]),
+    Case("processes-of-one-command", RACE, sh("a", "", "(sleep 0.1; echo 1 >> log) & (echo 2 >> log); wait; touch a"), ["log"]),
+    Case("process-that-its-command-leaves-alone", SAFE, sh("a", "", "(sleep 0.5; echo > late) > /dev/null 2>&1 & touch a") + sh("b", "a", "sleep 1; touch b")),
 ]
 LIAR = "rule liar\n  command = echo '$out: g' > $out.d; touch $out\n  deps = gcc\n  depfile = $out.d\n"
 CASES += [

@@ -61,17 +61,18 @@ class Orders(unittest.TestCase):
         self.says([*TWO, *child(2, "a"), ANY % 2, MAKE % (1, "c", "c"), *child(3, "b"), ANY % 3], {"ac": "luck", "cb": "no"})
 
     def test_a_row_of_waits_that_leaves_no_child(self) -> None:
-        self.says([*TWO, *child(2, "a"), ANY % 2, *child(3, "b"), ANY % 3, MAKE % (1, "c", "c")], {"ac": "always", "bc": "always"})
+        self.says([*TWO, *child(2, "a"), ANY % 2, *child(3, "b"), ANY % 3, MAKE % (1, "c", "c")], {"ac": "luck", "bc": "always"})
+        self.says([*TWO, *child(2, "a"), ANY % 2, MAKE % (1, "d", "d"), *child(3, "b"), ANY % 3, MAKE % (1, "c", "c")], {"ac": "luck", "ad": "luck", "bc": "always"})
 
     def test_a_look_whether_a_child_has_ended(self) -> None:
         lines = [*TWO, *child(2, "a"), *child(3, "b")]
         self.says([*lines, POLL % 2, POLL % 3, MAKE % (1, "c", "c")], {"ac": "luck", "bc": "luck"})
-        self.says([*lines, *SLEEP, POLL % 2, POLL % 3, MAKE % (1, "c", "c")], {"ac": "always", "bc": "always"})
+        self.says([*lines, *SLEEP, POLL % 2, POLL % 3, MAKE % (1, "c", "c")], {"ac": "luck", "bc": "always"})
         self.says([*TWO, *child(2, "a"), *SLEEP, POLL % 2, *child(3, "b"), NAMED % (3, 3), FORK % (1, 4), *child(4, "d"), POLL % 4, MAKE % (1, "c", "c")], {"bc": "always", "dc": "luck"})
 
     def test_the_end_of_a_process_ends_a_row(self) -> None:
         lines = [RUN % 1, FORK % (1, 2), RUN % 2, FORK % (2, 3), FORK % (2, 4), *child(3, "a"), "2" + ANY[1:] % 3, *child(4, "b"), "2" + ANY[1:] % 4, EXIT % 2]
-        self.says([*lines, NAMED % (2, 2), MAKE % (1, "c", "c")], {"ac": "always", "bc": "always"})
+        self.says([*lines, NAMED % (2, 2), MAKE % (1, "c", "c")], {"ac": "luck", "bc": "always"})
 
     def test_a_process_that_ignores_the_ends_of_its_children(self) -> None:
         none = "1 wait4(-1, 0x7ffd, 0, NULL) = -1 ECHILD (No child processes)"

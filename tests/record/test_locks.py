@@ -85,7 +85,6 @@ class Others(unittest.TestCase):
         with support.Project({"Makefile": "all: ; flock lock sleep 0.1 & test -f lock; wait; touch all\n"}) as project:
             outcome = project.record(["make"])
         self.assertEqual(0, outcome.status, outcome.text())
-        self.assertIn("two processes of one recipe", outcome.text())
 
     def test_opened_in_another_way(self) -> None:
         began = '1 execve("/usr/bin/flock", ["flock", "x", "true"], 0x1 /* 1 var */) = 0'

@@ -9,8 +9,6 @@ WAIT = "until test -e %s; do sleep 0.05; done; "
 KEEPS = "all: ; %s -s -f in.mk %s\n"
 BESIDE = "all: ; %s; touch all\n"
 KEPT = {"k": "k"}
-AT_ONCE, OUTLIVES = "two processes of one recipe", "when its recipe has ended"
-AT_ONCE, OUTLIVES = "two processes of one recipe", "when its recipe has ended"
 COMPILES = "cc -shared -fPIC -o obj.so obj.c"
 OBJECT = """#include <stdio.h>
 int plugin_is_GPL_compatible;
@@ -20,8 +18,6 @@ int obj_gmk_setup(const void *place) { gmk_add_function("writes", writes, 1, 1, 
 """
 WRITES = "all: s a b\ns: ; touch s\na: s ; touch a$(writes w)\n"
 Makefiles = makefiles(__name__, {
-    # what make does itself
-    "background_of_a_function": Small("safe", "X := $(shell (sleep 0.3; echo 1 > x) > /dev/null 2>&1 &)\nall: ; sleep 0.6; touch all\n", says="when its recipe has ended"),
     # what goes past files
     "process_beside_make": Small("safe", "all: ; touch go; " + WAIT % "x" + "touch all\n", says="files that a process which no recipe started"),
     "script_beside_make": Small("safe", "all: ; touch go; " + WAIT % "x" + "touch all\n", says="files that a process which no recipe started"),
@@ -32,8 +28,6 @@ Makefiles = makefiles(__name__, {
     "make_that_groups_what_it_prints": Small("safe", KEEPS % ("$(MAKE) -O", "> log"), {"in.mk": "all: ; @echo x\n"}, says="a make inside of a recipe, whose"),
     "make_with_jobs_that_keeps_errors": Small("safe", KEEPS % ("$(MAKE)", "2> log"), {"in.mk": "all: ; touch x\n"}, lacks="a make inside of a recipe, whose"),
     "make_without_jobs": Small("safe", KEEPS % ("make", "> log"), {"in.mk": "all: ; @touch x\n"}, lacks="a make inside of a recipe, whose"),
-    # a process in the background that has ended before another one begins
-    "background_that_nobody_waits_for": Small("safe", BESIDE % "cp k x & sleep 1", KEPT, says=OUTLIVES),
 })
 
 

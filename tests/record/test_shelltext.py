@@ -32,8 +32,6 @@ OTHER_LISTS = "all: b a\na: ; touch z.i a\nb: ; %s > b\n"
 FOLDER = "all: a b\na: ; %s\nb: ; mkdir -p d; touch b\n"
 TEXT = "all: a b\na: ; %s > a\nb: ; %s; touch b\n"
 TREE = "mkdir -p d/e; touch d/e/x.c"
-AT_ONCE, OUTLIVES = "two processes of one recipe", "when its recipe has ended"
-AT_ONCE, OUTLIVES = "two processes of one recipe", "when its recipe has ended"
 BESIDE = "all: ; %s; touch all\n"
 OWNED = "U := $(shell id -un)\nall: a b\na: ; install -d -o $U -m %s d; touch d/$@ $@\nb: ; install -d -o $U d -m %s; touch d/$@ $@\n"
 
@@ -203,7 +201,6 @@ Makefiles = makefiles(__name__, {
     "file_beside_folders_of_a_text": Small("safe", TEXT % ("echo */e/*.c", "touch y"), {}, TREE),
     "link_beside_folders_behind_a_quote": Small("race", TEXT % ("echo ''*/e/*.c", "ln -s d y"), {}, TREE),
     # a process in the background that has ended before another one begins
-    "one_at_a_time_by_xargs": Small("safe", BESIDE % "echo 1 2 | xargs -P 1 -n1 touch x", lacks=AT_ONCE),
     # folders that several recipes give an owner
     "folder_of_one_owner_and_two_modes": Small("race", OWNED % ("755", "700")),
 })

@@ -284,9 +284,6 @@ SMALL: Dict[str, Small] = {
     "act_of_the_next_target": Small("race", ".PHONY: e\nall: g e r u\ng: ; touch g\ne: g ; $(if $(wildcard g),)\nr: ; cat x > r || true\nu: g ; $(file >x,w)touch u\n"),
     "wildcard_that_is_computed": Small("race", "q = y\np = *.$q\nall: a b\na: ; echo a > d/n.y\nb: ; echo $(wildcard d/$p) > b\n", {"d/k": "k"}),
     # what is taken for granted
-    "outlives": Small("safe", "all: ; (sleep 0.2; echo x > x) > /dev/null 2>&1 &\n\techo y > y\n\tsleep 0.5\n", says="when its recipe has ended"),
-    "outlives_with_an_open_file": Small("safe", "all: a b\na: ; (sleep 0.4; echo x) > x & sleep 0.1; touch a\nb: a ; sleep 0.6; touch b\n", says="when its recipe has ended"),
-    "outlives_with_a_file_of_its_recipe": Small("safe", "all: a b\na: ; exec 3> x; (sleep 0.4; echo x >&3) & sleep 0.1; touch a\nb: a ; sleep 0.6; touch b\n", says="when its recipe has ended"),
     "killed_and_not_outliving": Small("safe", "all: ; sh -c 'echo x > x; kill -9 $$$$' || sleep 0.1; touch all\n", lacks="when its recipe has ended"),
     "up_to_date": Small("safe", "all: b\na: s ; cp s a\nb: a ; cp a b\n", {"s": "s", "a": "s"}, OLD + "s", says="targets that were up to date stay so (1, such"),
     "all_up_to_date": Small("no verdict", "a: s ; cp s a\n", {"s": "s", "a": "s"}, OLD + "s", says="targets that were up to date"),

@@ -1,0 +1,168 @@
+"""The parts of a recipe that are tasks of their own.
+
+A recipe is one task, except where two of its processes conflict that nothing orders, and where it leaves a process running. Then each segment of the
+process that started the two is a part, and each process that this one starts, with all below it. Those above are cut where that one begins and where it
+has been waited for. A process that nobody waits for is a part too, after which nothing comes.
+"""
+
+import os
+from bisect import bisect_left
+from typing import Container, Dict, List, Optional, Set, Tuple, cast
+
+from record.build.segments import Conflict, conflicts_in, courses_of, fork_of, owner
+from record.build.work import Part, Work
+from record.trace.courses import Course, Key, Segment
+from record.trace.events import CHANGES, LOOKS, MAKES, OUTPUT, WRITTEN
+from record.trace.lives import Life
+
+WORDS = 60  # signs of a command
+WHOLE = [0]  # the pieces of a process that is not cut: itself with all below it
+
+
+class Parts:
+    """Divides a recipe. `written`: the files that anybody changes."""
+
+    def __init__(self, work: Work, written: Container[str]) -> None:
+        self.courses = sorted(courses_of(work.lives), key=lambda course: lives_of(course)[0].born)
+        self.inside = {id(course) for course in self.courses}
+        self.roots = {id(course) for course in self.courses if id(course.parent) not in self.inside}  # those of its lines, for which make waits
+        self.conflicts: List[Conflict] = conflicts_in(work.lives)
+        self.cuts: Dict[int, Set[int]] = {}  # by process: the last segments of its pieces
+        self.left: Set[int] = set()
+        for course in self.courses:
+            if not self.is_waited(course) and any(matters(life, written) for life in lives_of(course)):  # guard: processes-that-are-left
+                self.left.add(id(course))
+                self.cut_above(course)
+        for one in self.conflicts:
+            if not one.is_luck:  # guard: conflicts-by-luck-alone
+                self.divide(fork_of(one.first, one.second))
+        self.parts: List[Part] = []
+        self.of: Dict[Tuple[int, int], int] = {}
+        self.end = -1  # the part with which it ends
+        if self.cuts:
+            self.make()
+
+    def is_waited(self, course: Course, by_luck: bool = True) -> bool:
+        """Whether the recipe ends only when a process of it has ended; `by_luck`: in the recorded build, else in each."""
+        while id(course) not in self.roots:
+            if course.waited is None or not (by_luck or course.is_known):
+                return False
+            course = course.waited[0]
+        return True
+
+    def late(self) -> Dict[Key, str]:
+        """What processes did for which the recipe has waited by luck alone, with their commands."""
+        lucky = (course for course in self.courses if not self.is_waited(course, False) and self.is_waited(course))
+        return {key: command(course) for course in lucky for life in lives_of(course) for key in life.events if key[0] in CHANGES + LOOKS}
+
+    # ---------------------------------------------------------------- pieces
+    def divide(self, course: Optional[Course]) -> None:
+        """Each segment of a process is a part."""
+        if course is not None and id(course) in self.inside:
+            self.cuts.setdefault(id(course), set()).update(range(course.at))
+            self.cut_above(course)
+
+    def cut_above(self, course: Course) -> None:
+        """Cuts the processes above one where it begins, and where its end has been waited for."""
+        while course.parent is not None and id(course.parent) in self.inside:
+            cuts = self.cuts.setdefault(id(course.parent), set())
+            cuts.add(course.forked)
+            if course.waited is not None and course.waited[0] is course.parent:
+                cuts.add(course.waited[1] - 1)
+            course = course.parent
+
+    def pieces(self, course: Course) -> List[int]:
+        """The last segments of the pieces of a process."""
+        return sorted({*self.cuts[id(course)], course.at}) if id(course) in self.cuts else WHOLE
+
+    def piece(self, course: Course, number: int) -> int:
+        """The piece of a process that has a segment."""
+        return bisect_left(self.pieces(course), number) if id(course) in self.cuts else 0
+
+    def is_merged(self, course: Course) -> bool:
+        """Whether a process that is not cut begins and ends in one piece of the one that started it."""
+        above = course.parent
+        if id(course) in self.cuts or id(course) in self.left or id(course) in self.roots or above is None:
+            return False
+        return not self.is_waited(course) or course.waited is not None and course.waited[0] is above and self.piece(above, course.forked) == self.piece(above, course.waited[1])
+
+    def part_of(self, segment: Segment) -> int:
+        """The part that has a segment; -1 outside of the recipe."""
+        course, number = owner(*segment)
+        while course.parent is not None and id(course) not in self.roots and (self.is_merged(course) or id(course) not in self.cuts and id(course.parent) not in self.cuts):
+            course, number = course.parent, course.forked
+        return self.of.get((id(course), self.piece(course, number)), -1)
+
+    # ---------------------------------------------------------------- parts
+    def make(self) -> None:
+        """All parts."""
+        heads = [course for course in self.courses if id(course) in self.cuts or id(course) in self.roots or id(course.parent) in self.cuts and not self.is_merged(course)]
+        for course in heads:
+            for number in range(len(self.pieces(course))):
+                self.of[id(course), number] = len(self.parts)
+                self.parts.append(Part(words=command(course), is_left=id(course) in self.left))
+        for course in self.courses:
+            self.fill(course)
+        for course in heads:
+            self.connect(course)
+
+    def fill(self, course: Course) -> None:
+        """Gives what a process did to the parts."""
+        for number, events in enumerate(course.events_by_segment()):
+            work = self.parts[self.part_of((course, number))].work
+            for (kind, path), place in events.items():
+                work.add(WRITTEN if kind == OUTPUT else kind, path, place)
+        for last in self.pieces(course) if id(course) in self.cuts else [course.at]:
+            self.parts[self.part_of((course, last))].work.lives += lives_of(course)
+
+    def connect(self, course: Course) -> None:
+        """Which part comes after which."""
+        row = [self.of[id(course), number] for number in range(len(self.pieces(course)))]
+        for first, second in zip(row, row[1:]):
+            self.parts[second].after.add(first)
+        if id(course) in self.roots:
+            begun, self.end = self.end, row[-1]  # guard: lines-of-recipe-in-order
+        else:
+            begun = self.part_of((cast(Course, course.parent), course.forked))
+        behind = self.part_of(course.waited) if course.waited is not None else -1
+        if begun >= 0:
+            self.parts[row[0]].after.add(begun)
+        if behind >= 0 and behind not in row:
+            self.parts[behind].after.add(row[-1])
+
+
+    def in_order(self) -> List[Part]:
+        """The parts, that with which the recipe ends last."""
+        order = [*(at for at in range(len(self.parts)) if at != self.end), self.end] if self.parts else []
+        number = {at: new for new, at in enumerate(order)}
+        for part in self.parts:
+            part.after = {number[at] for at in part.after}
+        return [self.parts[at] for at in order]
+
+
+def lives_of(course: Course) -> List[Life]:
+    """The process and its threads."""
+    return cast(List[Life], course.lives)
+
+
+def matters(life: Life, written: Container[str]) -> bool:
+    """Whether others may see that a process is left: it changes something, or looks at what somebody changes."""
+    return any(kind in CHANGES + MAKES or path in written for kind, path in life.events)
+
+
+def command(course: Course) -> str:
+    """What a process ran, or the first one below it that ran something, or the one above it."""
+    life = lives_of(course)[0]
+    below = next((one for one in life.children if one.ran), life)
+    ran = [up.ran[-1] for up in ((life, below) if life.ran else (below, *life.up())) if up.ran]
+    text = " ".join([os.path.basename(ran[0][0]), *ran[0][1:]]) if ran else ""
+    return text if len(text) <= WORDS else text[:WORDS] + ".."
+
+
+def divide(work: Work, written: Container[str]) -> None:
+    """Divides a recipe, and says where luck alone orders two of its processes."""
+    found = Parts(work, written)
+    lucky = {(one.path, command(one.first[0]), command(one.second[0])) for one in found.conflicts if one.is_luck}
+    work.luck = ["%s by %s and %s" % one for one in sorted(lucky)]
+    work.late = found.late()
+    work.parts = found.in_order()

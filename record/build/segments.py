@@ -1,0 +1,158 @@
+"""Which processes of one recipe run beside each other and conflict.
+
+Two segments of processes (record/trace/courses.py) that nothing orders conflict where one writes, makes or removes what the other reads, writes, looks for
+or uses. It is luck where a wait for any child orders them in this build alone. What a make or ninja inside the recipe orders is judged in its own build.
+
+These do not conflict: files on which somebody took a lock; a look alone at what is written; a look at a name by who has listed its folder; who makes
+a folder, and who uses it but has looked for it, or tried to make it.
+"""
+
+import os
+from dataclasses import dataclass
+from functools import lru_cache
+from typing import Dict, Iterable, Iterator, List, NamedTuple, Optional, Set, Tuple
+
+from record.trace.courses import Course, Segment, before
+from record.trace.events import (
+    ABSENT, CREATED, ENTERED, FOLDER_KEPT, FOLDER_REMOVED, HELD, LISTED, LOCKED, MADE, MADE_BEFORE, MADE_QUIETLY, OUTPUT, READ, REMOVED, SEEN, WAY_ABSENT, WRITTEN,
+)
+from record.trace.lives import Life
+
+MAKE, USE, LOOKED_USE, LISTED_LOOK = "K", "p", "q", "l"  # a folder was made; a name below it was used, or used by who had looked for it; a look by a list
+KINDS = {READ: READ, SEEN: SEEN, ENTERED: SEEN, FOLDER_KEPT: SEEN, ABSENT: ABSENT, WAY_ABSENT: ABSENT, WRITTEN: WRITTEN, OUTPUT: OUTPUT, CREATED: CREATED, REMOVED: REMOVED,
+         FOLDER_REMOVED: REMOVED, MADE: MADE_BEFORE, MADE_QUIETLY: MADE_BEFORE, MADE_BEFORE: MADE_BEFORE}  # (that it came is an event of its own)
+WRITES, COMES = WRITTEN + OUTPUT, CREATED + REMOVED  # of what a file holds; of the name
+GIVES = WRITES + COMES + MAKE
+PAIRS = {frozenset(pair) for pair in (
+    *((one, other) for one in WRITES for other in READ + WRITES), *((one, other) for one in COMES for other in READ + SEEN + ABSENT + MADE_BEFORE + USE + LOOKED_USE + GIVES),
+    (MAKE, USE), (MAKE, MAKE), (MAKE, READ))}
+
+
+class Did(NamedTuple):
+    """What was done to a path in a segment."""
+
+    place: int
+    course: Course
+    number: int
+    kind: str
+    path: str
+
+
+@dataclass(frozen=True)
+class Conflict:
+    """Two segments that nothing orders, or luck alone, and the path."""
+
+    path: str
+    first: Segment
+    second: Segment
+    is_luck: bool
+
+
+@lru_cache(1 << 14)
+def above(path: str) -> Tuple[str, ...]:
+    """The folders that a path is in."""
+    found = []
+    while len(path) > 1:
+        path = os.path.dirname(path)
+        found.append(path)
+    return tuple(found)
+
+
+def courses_of(lives: Iterable[Life]) -> List[Course]:
+    """The processes of some lives, each once."""
+    return list({id(life.course): life.course for life in lives}.values())
+
+
+def owner(course: Course, number: int) -> Segment:
+    """The segment to which another one belongs: until it runs a program, what a child of `vfork` does is done by its parent."""
+    while course.is_lent and number == 0 and course.parent is not None:
+        course, number = course.parent, course.forked
+    return course, number
+
+
+def done_by(courses: List[Course]) -> Iterator[Tuple[Course, int, int, str, str]]:
+    """All that they did: the process, its segment, the place, the kind and the path."""
+    for course in courses:
+        for number, events in enumerate(course.events_by_segment()):
+            who = owner(course, number)
+            for (kind, path), place in events.items():
+                yield (*who, place, kind, path)
+
+
+def conflicts_in(lives: List[Life]) -> List[Conflict]:
+    """The conflicts of the processes of one recipe, one for each pair and path."""
+    courses = courses_of(lives)
+    if len(courses) < 2 or not any(course.marks for course in courses):
+        return []
+    changed = {path.rstrip("/") for life in lives for kind, path in life.events if KINDS.get(kind, SEEN) in GIVES}
+    return Frontier(courses, changed).conflicts() if changed else []
+
+
+class Frontier:
+    """Goes over what was done in the order of the trace, and keeps of each path those segments that may still conflict with what comes."""
+
+    def __init__(self, courses: List[Course], changed: Set[str]) -> None:
+        self.changed, self.inside = changed, {id(course) for course in courses}
+        rows = (Did(place, course, number, MAKE if path.endswith("/") else KINDS.get(kind, kind), path.rstrip("/") if kind != LISTED else path.partition("\0")[0])
+                for course, number, place, kind, path in done_by(courses) if kind in KINDS or kind in HELD + LISTED + LOCKED)
+        self.rows = sorted(rows, key=lambda row: row.place)
+        self.made = {row.path for row in self.rows if row.kind in MAKE + REMOVED}
+        self.held = {row.path for row in self.rows if row.kind in HELD + LOCKED}  # guard: files-of-locks-inside
+        self.table: Dict[str, Dict[Tuple[int, int, str], Did]] = {}
+        self.asked: Set[Tuple[int, str]] = set()  # who has looked for which folder, or tried to make it
+        self.listed: Set[Tuple[int, str]] = set()
+        self.found: Dict[Tuple[str, int, int, int, int], Conflict] = {}
+
+    def conflicts(self) -> List[Conflict]:
+        """All of them."""
+        for row in self.rows:
+            if row.kind == LISTED:
+                self.listed.add((id(row.course), row.path))
+            if row.kind not in HELD + LOCKED + LISTED:
+                self.take(row)
+        return list(self.found.values())
+
+    def take(self, row: Did) -> None:
+        """One thing that was done, to its path and to the folders that the path is in."""
+        who = id(row.course)
+        if row.path in self.changed and (row.path not in self.held or row.kind in REMOVED + ABSENT):
+            is_by_list = row.kind == SEEN and (who, os.path.dirname(row.path)) in self.listed  # guard: looks-by-list
+            self.meet(row._replace(kind=LISTED_LOOK) if is_by_list else row)
+        if row.kind in SEEN + ABSENT + MADE_BEFORE + MAKE:
+            self.asked.update((who, path) for path in (row.path, *above(row.path)) if path in self.made)
+        for folder in above(row.path) if self.made and row.kind != ABSENT else ():  # what is not there is not there without its folder either
+            if folder in self.made:
+                is_asked = any((id(up), folder) in self.asked for up in row.course.up())  # guard: who-tries-to-make-folder
+                self.meet(row._replace(path=folder, kind=LOOKED_USE if is_asked else USE))
+
+    def is_of_make(self, course: Optional[Course]) -> bool:
+        """Whether a process from which two come is a make or ninja, or is below one inside of the recipe: what that orders is judged in its own build."""
+        if course is None or id(course) not in self.inside:
+            return True
+        above = (up.first for up in course.up() if id(up) in self.inside)
+        return any(life.is_make and life.number >= 0 or life.is_ninja for life in above)  # guard: what-make-inside-orders
+
+    def meet(self, row: Did) -> None:
+        """Holds it against what was done to its path before."""
+        rows = self.table.setdefault(row.path, {})
+        gone = []
+        for key, old in rows.items():
+            is_pair = frozenset((old.kind, row.kind)) in PAIRS
+            if old.course is row.course:
+                gone += [key] if old.kind == row.kind else []
+            elif is_pair or old.kind == row.kind:
+                first, second = (old.course, old.number), (row.course, row.number)
+                if before(first, second, False):
+                    gone += [key] if old.kind == row.kind or row.kind in GIVES else []
+                elif is_pair and not self.is_of_make(fork_of(first, second)):
+                    key_of = (row.path, id(old.course), old.number, id(row.course), row.number)
+                    self.found.setdefault(key_of, Conflict(row.path, first, second, before(first, second, True)))
+        for key in gone:
+            del rows[key]
+        rows[id(row.course), row.number, row.kind] = row
+
+
+def fork_of(first: Segment, second: Segment) -> Optional[Course]:
+    """The process from which two segments come."""
+    ups = {id(course) for course in first[0].up()}
+    return next((course for course in second[0].up() if id(course) in ups), None)
