@@ -9,7 +9,7 @@ import tempfile
 from contextlib import contextmanager
 from dataclasses import dataclass, field
 from pathlib import Path
-from typing import TYPE_CHECKING, Any, Dict, Iterator, List, Optional
+from typing import TYPE_CHECKING, Any, Container, Dict, Iterator, List, Optional
 
 from record import VERSION, machine
 from record.entry import in_one_step
@@ -81,6 +81,13 @@ class Record:
     up_to_date: List[str] = field(default_factory=list)  # files that the build makes, and that are part of that tree
     missingdeps: int = 0  # what `ninja -t missingdeps` finds
     missing: Optional[Dict[str, Any]] = None  # with --missing: what its answer takes for granted, and why there may be none
+
+    def bar(self, kinds: Container[str]) -> None:
+        """What is taken for granted of these kinds bars a yes."""
+        for one in self.assumptions:
+            if one["kind"] in kinds:
+                self.holes.append("--strict: %s (%d, such as %s)" % (one["text"], one["count"], one["example"]))
+        self.assumptions = [one for one in self.assumptions if one["kind"] not in kinds]
 
     def text(self) -> str:
         """As it is written."""

@@ -25,6 +25,7 @@ from record.messages import printable
 from record.facts import Facts, begun, first_tree
 from record.first_tree import first_names, tree_of
 from record.folder import NO_ROOM, Idle, NotWhole, Record, Taken, accept_warm, alone, aside, is_record, reading, rewrite, room_of_programs, rooms_of_programs, seconds_of, what_stands
+from record.build.assumptions import UNTRIED
 from record.fresh import clean, fresh_tree, in_place
 from record.judge import find_race, judge, no_race
 from record.ninja.retry import JOBS, TRIES, by_hand, hints, tops_of, undo, with_jobs
@@ -191,6 +192,7 @@ def parser_of_words() -> argparse.ArgumentParser:
     parser.add_argument("--setup", default="", metavar="COMMAND", help="with --fresh: what comes between the tree and the build, such as ./configure; it is recorded too")
     parser.add_argument("--keep-trace", action="store_true", help="keep the trace in the record")
     parser.add_argument("--footprints", action="store_true", help="keep a listing and footprints of each build, for race check --makefile")
+    parser.add_argument("--strict", action="store_true", help="no yes where waits that may be luck order processes, or a program looks at a folder that others change")
     parser.add_argument("--missing", action="store_true", help="report missing inputs too: files whose edit does not make a target again")
     parser.add_argument("-V", "--version", action="version", version="%(prog)s " + RELEASE, help="print the version")
     parser.add_argument("words", nargs=argparse.REMAINDER, metavar="-- COMMAND ..", help="what builds the project")
@@ -375,6 +377,9 @@ def record_and_judge(options: argparse.Namespace, tools: Dict[str, str], out: Pa
         record = record_fresh(options, tools, out) if options.fresh else record_all(options, tools, out)
         if has_older and import_module("record.importing").IDLE in record.holes:
             raise Idle(*record.holes)
+    if options.strict:
+        record.bar(UNTRIED)
+        rewrite(out, record)
     ended, judged = judge_record(out, race)
     if ended == 0 and record.warm and not (options.warm or record.stands_alone):  # guard: ninja-warm-no-yes
         ended = 2

@@ -12,6 +12,7 @@ TEXTS = {
     "unasked": "builds have the same goals: recipes that nothing asked for are not judged",
     "unwritten": "all processes of recipes that do not write their own target were seen",
     "luck": "processes that meet on a file come in this order in each build, though only a wait orders them that may have been luck",
+    "folders": "programs that look at a folder (stat) while another recipe makes or removes names in it use no more than that it is there: not its time, its size or the number of its links",
     "sockets": "servers that processes talk to keep no files of the build; ports that they open are free; memory is shared by processes of one recipe alone",
     "processes": "who lists the processes that run (ps, pgrep), signals or looks at one of another recipe, sets its limits (prlimit, renice, taskset), or waits for changes of files (inotify, leases), does the same whatever else runs",
     "read-times": "who asks when a file was read last (test -N, find -anewer, st_atime) does the same whoever has read it",
@@ -61,6 +62,9 @@ TEXTS = {
     "named": "sources that each recipe which reads them names are left out, as the text would be too large",
     "later-ring": "a prerequisite that closes a ring in a later build, which make drops, is not needed",
 }
+
+
+UNTRIED = ("luck", "folders")  # what nobody has tried out: with --strict it bars the yes
 
 
 @dataclass

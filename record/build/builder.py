@@ -6,7 +6,7 @@ from typing import Dict, Iterable, List, NamedTuple, Optional, Protocol, Set, Tu
 from record.build.assumptions import Assumptions
 from record.build.tasks import Build, Node, Task
 from record.build.work import Tool, Work, settle_parts
-from record.trace.events import AGE_SEEN, ASKS, CHANGES, CREATED, ENTERED, FOLDER_KEPT, FOLDER_REMOVED, LISTED, MAKES, REMOVED
+from record.trace.events import AGE_SEEN, ASKS, CHANGES, CREATED, ENTERED, FOLDER_ASKED, FOLDER_KEPT, FOLDER_REMOVED, LISTED, MAKES, REMOVED
 from record.trace.lists import fits
 from record.trace.names import Names, join
 
@@ -156,8 +156,16 @@ class Builder:
                 for name, who in created.get(folder, {}).items():
                     if (who != {at}) and join(folder, name) not in self.made and fits(pattern, join(folder, name), self.names):  # guard: patterns-keep-other-names-out
                         task.read_by_list(join(folder, name))  # guard: listings-see-what-is-created
+            elif kind == FOLDER_ASKED:
+                folder, program = path.split("\0")[:2]
+                self.note_asked(at, folder, program, created)
             elif kind == AGE_SEEN:
                 self.timed.setdefault(path, set()).add(at)
+
+    def note_asked(self, at: int, folder: str, program: str, created: Dict[str, Dict[str, Set[int]]]) -> None:
+        """A task asks for the time, the size or the links of a folder in which another one makes or removes names."""
+        if any(self.build.unordered(at, other) for who in created.get(folder, {}).values() for other in who):  # guard: folders-that-nobody-changes
+            self.assumed.add("folders", "%s of %s in %s" % (program, folder, self.build.tasks[at].label))
 
     def is_known(self, path: str) -> bool:
         """Whether the tree before the build says if a name was there."""

@@ -14,7 +14,7 @@ from record.trace.arguments import TEXT_END, Opening, opening, spelled
 from record.trace.classes import COPIES, DOUBLES, NO_FILES, PAIRS, SHARING, SLEEPS, WAITS, WRITES
 from record.trace.descriptors import CHANGING, OF_KERNEL, READING, requests
 from record.trace.events import (
-    ABSENT, AGE_SEEN, AGE_TAKEN, AGE_UNKNOWN, CREATED, ENTERED, FOLDER_KEPT, FOLDER_REMOVED, HELD, LINKS_CHANGED, LINKS_SEEN, LISTED, MADE,
+    ABSENT, AGE_SEEN, AGE_TAKEN, AGE_UNKNOWN, CREATED, ENTERED, FOLDER_ASKED, FOLDER_KEPT, FOLDER_REMOVED, HELD, LINKS_CHANGED, LINKS_SEEN, LISTED, MADE,
     MADE_BEFORE, MADE_QUIETLY, MAKE_LISTED, MODE_CHANGED, MODE_GIVEN, ORDER_SEEN, READ, REMOVED, SEEN, TIME_CHANGED,
 )
 from record.trace.lives import Life
@@ -102,6 +102,7 @@ class Calls(Started):
         if folder:
             life.folder = folder
         if not path or is_open:
+            self.on_fstat(life, call, ok)
             return
         if path.startswith("/proc/"):
             self.note_watcher(life, path)  # guard: looks
@@ -125,8 +126,21 @@ class Calls(Started):
                 self.put(life, AGE_SEEN, found.path)
         elif traits.asks_size and found.inode is not None and found.inode.kind == "d":  # guard: how-large
             self.put(life, AGE_SEEN, found.path)
-        elif self.is_unknown(life) and "access" not in call.name and "readlink" not in call.name and (found.path not in TEMPORARY or self.is_inside(found.path)):  # guard: folders-for-what
-            self.put(life, AGE_UNKNOWN, found.path)
+        elif "access" not in call.name and "readlink" not in call.name and (found.path not in TEMPORARY or self.is_inside(found.path)):  # guard: folders-for-what
+            self.note_unknown(life, found.path, found.inode is not None and found.inode.kind == "d")
+
+    def note_unknown(self, life: Life, path: str, is_folder: bool, how: str = "") -> None:
+        """A program that nobody knows may compare the age of what it looks at; of a folder it may also show the size, or the number of links. `how`: a
+        zero byte where it looks by a descriptor."""
+        if self.is_unknown(life) and not how:
+            self.put(life, AGE_UNKNOWN, path)
+        if self.is_unknown(life) and is_folder and self.is_inside(path):
+            self.put(life, FOLDER_ASKED, "%s\0%s%s" % (path, shelltext.base_name(life.argv), how))  # guard: folders-for-whom-nobody-knows
+
+    def on_fstat(self, life: Life, call: Call, ok: bool) -> None:
+        """A look at what is open. Who lists a folder asks for its size on the way."""
+        if ok and "_mode=S_IFDIR" in call.args and not life.is_ninja:
+            self.note_unknown(life, "".join(folders(call.args)[:1]), True, "\0")
 
     @staticmethod
     def is_own(life: Life, path: str, found: Found) -> bool:
@@ -263,6 +277,7 @@ class Calls(Started):
         where = folders(call.args)
         if not ok or not where:
             return
+        life.events.pop((FOLDER_ASKED, "%s\0%s\0" % (where[0], shelltext.base_name(life.argv))), None)  # guard: folders-that-are-listed
         if life.is_make:
             self.put(life, MAKE_LISTED, where[0])
         elif where[0] == "/proc":  # guard: listed-said
@@ -379,6 +394,7 @@ Handler = Callable[[Calls, Life, Call, bool], None]
 # The calls of Linux that each method takes. Their classes are in classes.py: a call without a class and without a method is a hole.
 METHODS: Tuple[Tuple[Handler, Iterable[str]], ...] = (
     (Calls.on_look, LOOKS),
+    (Calls.on_fstat, ("fstat", "fstat64", "oldfstat")),
     (Calls.on_change, CHANGES),
     (Calls.on_open, ("open", "openat", "openat2", "creat")),
     (Calls.on_list, ("getdents", "getdents64", "readdir")),

@@ -13,6 +13,7 @@ ENTERED = "U"  # a folder was entered
 LINKS_SEEN = "h"  # who looked may count its names
 AGE_SEEN = "A"  # a process looked that compares ages
 AGE_UNKNOWN = "a"  # a process looked of which nobody knows whether it compares ages
+FOLDER_ASKED = "g"  # who looked sees a folder's time, its size and the number of its links: FOLDER\0PROGRAM; with one more zero byte by a descriptor
 MAKER_SEEN = "K"  # a script looked at a folder that it makes for itself
 
 # Lists of folders.

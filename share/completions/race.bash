@@ -128,7 +128,7 @@ _race() {
       --from) mapfile -t COMPREPLY < <(compgen -f -- "$word"); return ;;
       --setup) COMPREPLY=(); return ;;
     esac
-    case $word in -*) mapfile -t COMPREPLY < <(compgen -W "-h --help -o --output --race --top --warm --fresh --from --setup --keep-trace --footprints --missing -V --version" -- "$word"); return ;; esac
+    case $word in -*) mapfile -t COMPREPLY < <(compgen -W "-h --help -o --output --race --top --warm --fresh --from --setup --keep-trace --footprints --strict --missing -V --version" -- "$word"); return ;; esac
     mapfile -t COMPREPLY < <(compgen -c -- "$word") ;;
   'race-report')
     case $before in

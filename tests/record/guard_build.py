@@ -6,6 +6,7 @@ from guard import FALSE_RACE, YES, Guard, guards
 
 GUARDS: List[Guard] = [
     *guards("build/builder.py",
+        ("folders-that-nobody-changes", "if created.get(folder):", "calls.Makefiles.folder_that_nobody_changes", "True is not false"),
         ("later-rules", "return self.make.acts.get((self.number, node.name)) if node.rule == 0 else None", "build.Makefiles.act_of_a_second_rule", YES),
         ("failed-looks-are-reads", 'elif kind in "RSPK" and path in writers:', "small.Makefiles.absent_file", YES),
         ("patterns-keep-other-names-out", "if (who != {at}) and join(folder, name) not in self.made:", "cases.Cases.glob_other_names", FALSE_RACE),
@@ -13,12 +14,12 @@ GUARDS: List[Guard] = [
     ),
     *guards("build/parts.py",
         ("processes-that-are-left", "if False:", "parts.Makefiles.process_that_its_recipe_leaves", YES),
-        ("conflicts-by-luck-alone", "if True:", "parts.Makefiles.wait_by_luck", FALSE_RACE),
+        ("conflicts-by-luck-alone", "if True:", "parts.Divided.recipes_that_are_whole"),
         ("lines-of-recipe-in-order", "begun, self.end = -1, row[-1]", "parts.Makefiles.lines_in_order"),
     ),
     *guards("build/segments.py",
         ("files-of-locks-inside", "self.held = set[str]()", "parts.Makefiles.file_that_is_locked", FALSE_RACE),
-        ("who-tries-to-make-folder", "is_asked = False", "parts.Makefiles.folder_that_is_made_twice", FALSE_RACE),
+        ("who-tries-to-make-folder", "is_asked = False", "parts.Divided.recipes_that_are_whole"),
         ("looks-by-list", "is_by_list = False", "parts.Makefiles.look_by_a_list", FALSE_RACE),
         ("what-make-inside-orders", "return False and [*above]", "parts.Makefiles.race_of_a_make_inside"),
     ),

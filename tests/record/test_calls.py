@@ -6,7 +6,9 @@ import tempfile
 import unittest
 from typing import Set, Tuple
 
+import support
 from record.trace.sifting import Skip
+from test_courses import RUN
 from test_replay import TOP, events_of, lives_of, played
 from test_small import Small, makefiles
 
@@ -44,6 +46,13 @@ IS_THERE = "RACE  d  (that the folder"
 # b looks for a file by way of d, which a makes.
 WAY = "all: a b\na: ; mkdir d; touch a\nb: ; cat %s > b || echo none > b\n"
 OWNED = "U := $(shell id -un)\nall: a b\na: ; install -d -o $U -m %s d; touch d/$@ $@\nb: ; install -d -o $U d -m %s; touch d/$@ $@\n"
+FOLDERS = "programs that look at a folder (stat)"
+LINKS = """#include <fcntl.h>
+#include <stdio.h>
+#include <sys/stat.h>
+int main(int n, char **a) { struct stat s; stat(a[1], &s); printf("%d\\n", (int)s.st_nlink); return 0; }
+"""
+ASKED = "all: a b\na: ; mkdir d/n; touch a\nb: ; %s\n"
 Makefiles = makefiles(__name__, {
     # sockets
     "socket_without_a_file_that_nobody_opened": Small("safe", "all: ; python3 t/s.py; touch all\n", {"t/s.py": SOCKET}, says="servers that processes talk to"),
@@ -59,6 +68,11 @@ Makefiles = makefiles(__name__, {
     "pattern_of_options_in_the_environment": Small("race", BASH + "export BASHOPTS = extglob\nall: a b\na: ; echo a > d/n\nb: ; echo d/@(n|m) e/*.x > b\n", {"d/k": "k", "e/1.x": ""}),
     # ages
     "size_of_a_folder": Small("race", "all: a b\na: ; echo 1 > d/n; touch a\nb: ; stat -c %s d > b\n", {"d/k": "k"}, below="/dev/shm"),
+    # what programs ask of a folder
+    "folder_that_an_unknown_program_asks_for": Small("safe", ASKED % "./l d > b", {"d/k": "", "l.c": LINKS}, "cc -o l l.c", says="such as l of d in b)"),
+    "open_folder_that_an_unknown_program_asks_for": Small("safe", ASKED % "./l d > b", {"d/k": "", "l.c": LINKS.replace("stat(a[1]", "fstat(open(a[1], 0)")}, "cc -o l l.c", says="such as l of d in b)"),
+    "folder_that_a_known_program_asks_for": Small("safe", ASKED % "cc -Id -c k.c -o b", {"d/k": "", "k.c": ""}, lacks=FOLDERS),
+    "folder_that_nobody_changes": Small("safe", (ASKED % "./l d > b").replace("b:", "b: a"), {"d/k": "", "l.c": LINKS}, "cc -o l l.c", lacks=FOLDERS),
     # what goes past files
     "name_of_a_socket": Small("race", "all: a b\na: ; python3 t/s.py; touch a\nb: ; if test -S s; then echo yes; fi > b\n", {"t/s.py": OTHER_SOCKET}),
     "memory": Small("safe", "all: ; python3 m.py; touch all\n", {"m.py": SHARED}, says="memory is shared"),
@@ -99,8 +113,26 @@ Makefiles = makefiles(__name__, {
 })
 
 
+class Strict(unittest.TestCase):
+    """With --strict what could be tried out bars the yes."""
+
+    def test_folders(self) -> None:
+        with support.Project({"Makefile": ASKED % "./l d > b", "d/k": "", "l.c": LINKS}) as project:
+            project.sh("cc -o l l.c")
+            outcome = project.record(["make"], ["--strict"])
+        self.assertEqual(2, outcome.status, outcome.text())
+        self.assertIn("--strict: programs that look at a folder", outcome.text())
+
+
 class Traces(unittest.TestCase):
     """Lines of a trace."""
+
+    def test_folder_that_is_open(self) -> None:
+        lines = [RUN % 1, '1 openat(AT_FDCWD<%s>, "d", O_RDONLY|O_DIRECTORY) = 3<%s/d>' % (TOP, TOP), '1 newfstatat(3<%s/d>, "", {st_mode=S_IFDIR|0755, st_size=40, ...}, AT_EMPTY_PATH) = 0' % TOP]
+        lists = "1 getdents64(3<%s/d>, 0x5 /* 0 entries */, 32768) = 0" % TOP
+        for more, wanted in (([], True), ([lists], False)):
+            found = events_of(lives_of(played(*lines, *more), 1)[0])
+            self.assertEqual(wanted, ("g", "d\0tool\0") in found, more)
 
     def test_attribute_by_a_number(self) -> None:
         for name in ("fsetxattr(3<%s/x>, \"user.k\", \"v\", 1, 0)", "fremovexattr(3<%s/x>, \"user.k\")"):

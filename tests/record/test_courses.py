@@ -70,6 +70,10 @@ class Orders(unittest.TestCase):
         self.says([*lines, *SLEEP, POLL % 2, POLL % 3, MAKE % (1, "c", "c")], {"ac": "luck", "bc": "always"})
         self.says([*TWO, *child(2, "a"), *SLEEP, POLL % 2, *child(3, "b"), NAMED % (3, 3), FORK % (1, 4), *child(4, "d"), POLL % 4, MAKE % (1, "c", "c")], {"bc": "always", "dc": "luck"})
 
+    def test_a_look_whether_one_has_ended(self) -> None:
+        look = "1 wait4(2, [{WIFEXITED(s) && WEXITSTATUS(s) == 0}], WNOHANG, NULL) = 2"
+        self.says([*TWO, *child(2, "a"), look, MAKE % (1, "c", "c")], {"ac": "luck"})
+
     def test_the_end_of_a_process_ends_a_row(self) -> None:
         lines = [RUN % 1, FORK % (1, 2), RUN % 2, FORK % (2, 3), FORK % (2, 4), *child(3, "a"), "2" + ANY[1:] % 3, *child(4, "b"), "2" + ANY[1:] % 4, EXIT % 2]
         self.says([*lines, NAMED % (2, 2), MAKE % (1, "c", "c")], {"ac": "luck", "bc": "always"})

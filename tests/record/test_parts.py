@@ -12,13 +12,14 @@ BASH = "SHELL = /bin/bash\n"
 MAKES = {"a/Makefile": "x: ; echo a >> ../log; touch x\n", "b/Makefile": "y: ; echo b >> ../log; touch y\n"}
 APART = {"a/Makefile": "x: ; echo a > x\n", "b/Makefile": "y: ; echo b > y\n"}
 IN = {"in": "3\n1\n"}
-LEAVES = "import subprocess, time\nsubprocess.Popen(['sh', '-c', 'echo x > o'])\ntime.sleep(0.3)\n"
+LEAVES = "import os, time\nif os.fork() == 0:\n    open('o', 'w').write('x')\n    os._exit(0)\ntime.sleep(0.3)\n"
+LOOKS = "import subprocess, time\np = subprocess.Popen(['sh', '-c', 'echo x > o'])\ntime.sleep(0.3)\np.poll()\n"
 Makefiles = makefiles(__name__, {
     # two processes of one recipe
     "makes_in_the_background": Small("race", TWO % "$(MAKE) -C a & $(MAKE) -C b & wait", MAKES, says="RACE  log  in all: make -C a, make -C b\n"),
     "makes_in_a_row": Small("safe", TWO % "$(MAKE) -C a; $(MAKE) -C b", MAKES, lacks=LUCK),
     "makes_that_share_nothing": Small("safe", TWO % "$(MAKE) -C a & $(MAKE) -C b & wait", APART, lacks=LUCK),
-    "advice": Small("race", TWO % "$(MAKE) -C a & $(MAKE) -C b & wait", MAKES, says="advice: write wait between the two"),
+    "advice": Small("race", TWO % "$(MAKE) -C a & $(MAKE) -C b & wait", MAKES, says="No line ends it."),
     "commands_that_make_one_file": Small("race", TWO % "cp in o & cp in o; wait", IN, says="RACE  o  in all: cp in o, cp in o\n"),
     "what_is_written_through_a_descriptor": Small("race", TWO % "(sort in & cat in & wait) > o", IN, says="in all: "),
     "what_a_shell_hands_on": Small("race", BASH + TWO % "exec > o; sort in & cat in & wait", IN),
@@ -28,7 +29,6 @@ Makefiles = makefiles(__name__, {
     "files_of_locks": Small("safe", TWO % "flock l sh -c 'echo 1 >> log' & flock l sh -c 'echo 2 > p' & wait"),
     "file_that_is_locked": Small("safe", TWO % "python3 l.py & python3 l.py & wait", {"l.py": "import fcntl\nf = open('log', 'a')\nfcntl.flock(f, fcntl.LOCK_EX)\nf.write('x')\n"}),
     "folder_that_both_make": Small("safe", TWO % "(mkdir -p d; echo 1 > d/1) & (mkdir -p d; echo 2 > d/2) & wait", lacks=LUCK),
-    "folder_that_is_made_twice": Small("safe", TWO % "python3 m.py & python3 m.py & wait", {"m.py": "import os\nos.makedirs('d', exist_ok=True)\nopen('d/%d' % os.getpid(), 'w')\n"}),
     "folder_that_one_makes": Small("race", TWO % "mkdir d & (sleep .3; echo 2 > d/2) & wait"),
     "folder_that_one_waits_for": Small("safe", TWO % "(sleep .1; mkdir d) & (until test -d d; do sleep .02; done; echo 2 > d/2) & wait"),
     "look_by_a_list": Small("safe", TWO % "mkdir t; touch t/1 t/2; find t -type f -size -9 | xargs rm -f"),
@@ -46,6 +46,7 @@ Makefiles = makefiles(__name__, {
     # processes that nobody waits for
     "process_that_its_recipe_leaves": Small("race", USER % "setsid -f sh -c 'echo x > o'; sleep .3", says="one (sh -c echo x > o)"),
     "process_that_a_program_leaves": Small("race", USER % "python3 p.py", {"p.py": LEAVES}),
+    "process_that_a_program_looks_for_alone": Small("safe", USER % "python3 p.py", {"p.py": LOOKS}, says=LUCK),
     "advice_for_one_that_is_left": Small("race", USER % "python3 p.py", {"p.py": LEAVES}, says="advice: let the recipe wait for it"),
     "process_in_the_background": Small("race", USER % "(sleep .4; echo x > o) > /dev/null 2>&1 & sleep .1"),
     "process_substitution": Small("race", BASH + USER % "echo x > >(sleep .1; cat > o)"),
@@ -68,9 +69,11 @@ class Divided(unittest.TestCase):
         self.assertEqual({"cp first o"}, {one["command"] for one in labels.values() if one["kind"] == "part" and one["command"].startswith("cp")})
         self.assertEqual(2, outcome.builds[0]["counts"]["recipes"])
 
-    def test_a_recipe_that_is_whole(self) -> None:
-        with support.Project({"Makefile": "all: ; touch a & touch b & wait\n"}) as project:
-            self.assertEqual(["recipe"], [one["kind"] for one in project.record().builds[0]["labels"].values()])
+    def test_recipes_that_are_whole(self) -> None:
+        makes = "import os\nos.makedirs('d', exist_ok=True)\nopen('d/%d' % os.getpid(), 'w')\n"
+        for recipe in ("touch a & touch b & wait", "cp in o & sleep .3; cat o > p", "python3 m.py & python3 m.py & wait"):
+            with support.Project({"Makefile": BASH + "all: ; %s\n" % recipe, "in": "1", "m.py": makes}) as project:
+                self.assertEqual(["recipe"], [one["kind"] for one in project.record().builds[0]["labels"].values()], recipe)
 
 
 if __name__ == "__main__":
