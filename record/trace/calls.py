@@ -11,7 +11,7 @@ from typing import Callable, Dict, Iterable, List, Tuple
 from record.commands import shellages, shelltext
 from record.commands.system import SETTINGS, TEMPORARY
 from record.trace.arguments import TEXT_END, Opening, opening, spelled
-from record.trace.classes import COPIES, DOUBLES, NO_FILES, PAIRS, SHARING, SLEEPS, WAITS, WRITES
+from record.trace.classes import COPIES, DOUBLES, NO_FILES, PAIRS, SHARING, SIGNALLED, SLEEPS, WAITS, WRITES
 from record.trace.descriptors import CHANGING, OF_KERNEL, READING, requests
 from record.trace.events import (
     ABSENT, AGE_SEEN, AGE_TAKEN, AGE_UNKNOWN, CREATED, ENTERED, FOLDER_ASKED, FOLDER_KEPT, FOLDER_REMOVED, HELD, LINKS_CHANGED, LINKS_SEEN, LISTED, MADE,
@@ -36,7 +36,7 @@ CHANGES = {"chmod", "chown", "lchown", "utime", "utimes", "truncate", "setxattr"
            "setxattrat", "removexattrat", "file_setattr"}  # guard: new-names
 TIMES = {"utime", "utimes", "utimensat", "futimesat", "utimensat_time64"}
 BY_NUMBER = {"fchmod", "fchown", "fchown32", "ftruncate", "ftruncate64", "fsetxattr", "fremovexattr"}  # by a descriptor alone
-NUMBERED = {"umask", "kill", "tkill", "tgkill", "rt_sigqueueinfo", "rt_tgsigqueueinfo", "pidfd_open", *WAITS, *WRITES}  # calls whose first number is no descriptor  # guard: no-descriptors
+NUMBERED = {"umask", "kill", "tkill", "tgkill", "rt_sigqueueinfo", "rt_tgsigqueueinfo", "pidfd_open", *WAITS, *WRITES, *NO_FILES}  # calls whose first number is no descriptor  # guard: no-descriptors
 THERE = ("EEXIST", "EISDIR", "ENXIO", "EACCES", "ENOTEMPTY")  # errors of an open that say that something has the name
 
 # Parts of arguments, as strace shows them.
@@ -411,6 +411,7 @@ METHODS: Tuple[Tuple[Handler, Iterable[str]], ...] = (
     (Calls.on_core, ("core",)),  # no call: strace.py makes it of the line that says how a process ended
     (Calls.on_wait, WAITS),
     (Calls.on_sleep, SLEEPS),
+    (Calls.on_signal, SIGNALLED),
     (Calls.on_ptrace, ("ptrace",)),
     (Calls.on_kill, ("kill", "tkill", "tgkill", "rt_sigqueueinfo", "rt_tgsigqueueinfo", "pidfd_open")),
     (Calls.on_umask, ("umask",)),

@@ -25,8 +25,8 @@ REASONS: Dict[str, str] = {
     # Processes, rights and limits. Signals are traced: who signals a process of another recipe may have its number from a file that both read. The
     # end of a process stands in the trace without its call.
     "processes": """exit exit_group pidfd_send_signal kcmp alarm
-        rt_sigaction rt_sigpending rt_sigprocmask rt_sigreturn rt_sigtimedwait rt_sigtimedwait_time64 sigaction sigaltstack sigpending
-        sigprocmask sigreturn sgetmask ssetmask restart_syscall getpid getppid gettid getpgid getpgrp getsid setpgid setsid getuid getuid32 geteuid
+        rt_sigaction rt_sigpending rt_sigprocmask rt_sigtimedwait rt_sigtimedwait_time64 sigaction sigaltstack sigpending
+        sigprocmask sgetmask ssetmask restart_syscall getpid getppid gettid getpgid getpgrp getsid setpgid setsid getuid getuid32 geteuid
         geteuid32 getgid getgid32 getegid getegid32 getresuid getresuid32 getresgid getresgid32 getgroups getgroups32 setuid setuid32 setgid setgid32 setreuid
         setreuid32 setregid setregid32 setresuid setresuid32 setresgid setresgid32 setfsuid setfsuid32 setfsgid setfsgid32 setgroups setgroups32 capget capset
         getrlimit ugetrlimit setrlimit prlimit64 getrusage getpriority setpriority nice ioprio_get ioprio_set prctl arch_prctl personality seccomp
@@ -52,6 +52,7 @@ WRITES = {"write", "writev", "pwrite64", "pwritev", "pwritev2"}
 COPIES = {"sendfile", "sendfile64", "copy_file_range", "splice"}  # the same from one descriptor to another, which strace names
 WAITS = {"wait4", "waitpid", "waitid"}
 SLEEPS = {"rt_sigsuspend", "sigsuspend", "pause"}  # until a signal comes
+SIGNALLED = {"rt_sigreturn", "sigreturn"}  # a handler of a signal has run
 DOUBLES = {"dup", "dup2", "dup3"}
 # Calls that give a descriptor which leads to no file.
 NO_FILES = {"accept", "accept4", "epoll_create", "epoll_create1", "eventfd", "eventfd2", "fanotify_init", "fsopen", "inotify_init", "inotify_init1", "memfd_create", "memfd_secret",

@@ -3,8 +3,8 @@
 A segment of a process ends where the process forks, ends, or has waited. It comes after the one before it, and after the fork that began its
 process. Until a child of `vfork` runs a program, its parent waits: what it does belongs to the segment of its parent. A segment comes after the end of a
 process too for which its own has waited. The wait is *known* where each build waits so: for a process by its number or descriptor, and in a row of
-waits for any child that leaves none, for the last of them. Else it is luck: who looks whether a child has ended may go on without it; and a shell that
-waits for what it runs in front also hears of what has ended in the background by then, and does not wait for it again.
+waits for any child that leaves none, for the last of them. Else it is luck: who looks whether a child has ended, and heard of no signal, may go on
+without it; and a shell that waits for what it runs in front also hears of what has ended in the background by then, and does not wait for it again.
 """
 
 from bisect import bisect_right
@@ -45,6 +45,7 @@ class Course:
         self.others: List["Course"] = []  # children for which another process has waited
         self.row: List[Tuple["Course", bool]] = []  # for whom it has waited since it did something else, and whether it slept meanwhile
         self.has_slept = False
+        self.has_heard = False  # a signal, by a handler of its own
         self.files: Dict[int, Tuple[str, bool]] = {}  # what it may write into, by descriptor; whether a program that it runs has it too
 
     @property
@@ -99,7 +100,7 @@ class Course:
         if child.waited is not None:
             return
         self.mark(place)
-        child.waited, child.is_known = (self, self.at), is_named and (is_blocking or self.has_slept)  # guard: looks-whether-child-has-ended
+        child.waited, child.is_known = (self, self.at), is_named and (is_blocking or self.has_slept or self.has_heard)  # guard: looks-whether-child-has-ended
         if child.waiter is self:
             self.left -= 1  # guard: children-that-are-left
         elif child.parent is not None:

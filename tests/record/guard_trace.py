@@ -173,6 +173,7 @@ GUARDS: List[Guard] = [
         ("child-that-is-stopped", "if ok and pid > 0:", "courses.Orders.a_child_that_is_stopped"),
         ("child-that-ends-unheard", "elif False:", "courses.Orders.a_process_that_ignores_the_ends_of_its_children"),
         ("sleep-before-other-wait", "pass", "courses.Orders.a_look_whether_a_child_has_ended"),
+        ("looks-when-signal-came", "pass", "courses.Orders.a_look_whether_one_has_ended"),
         ("sleeps-until-child-ends", "pass", "courses.Orders.a_look_whether_a_child_has_ended"),
         ("not-of-root", "return bool(found.st_mode & stat.S_ISUID and found.st_uid != user or found.st_mode & stat.S_ISGID and found.st_mode & stat.S_IXGRP)", "trace.Rights.who_lends_them"),
         ("limits-of-their-own", 'return name == "renice" or name in SETTERS', "trace.Makefiles.limits_of_its_own_process", "True is not false"),

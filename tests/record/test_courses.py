@@ -73,6 +73,7 @@ class Orders(unittest.TestCase):
     def test_a_look_whether_one_has_ended(self) -> None:
         look = "1 wait4(2, [{WIFEXITED(s) && WEXITSTATUS(s) == 0}], WNOHANG, NULL) = 2"
         self.says([*TWO, *child(2, "a"), look, MAKE % (1, "c", "c")], {"ac": "luck"})
+        self.says([*TWO, *child(2, "a"), "1 rt_sigreturn({mask=[]}) = 0", look, MAKE % (1, "c", "c")], {"ac": "always"})
 
     def test_the_end_of_a_process_ends_a_row(self) -> None:
         lines = [RUN % 1, FORK % (1, 2), RUN % 2, FORK % (2, 3), FORK % (2, 4), *child(3, "a"), "2" + ANY[1:] % 3, *child(4, "b"), "2" + ANY[1:] % 4, EXIT % 2]
@@ -129,7 +130,7 @@ class Descriptors(unittest.TestCase):
             self.assertEqual([], self.writers(*lines, "2 " + copy.format(TOP).replace("3<", "5<")), copy)
 
     def test_numbers_that_lead_to_no_file(self) -> None:
-        for other in ("pipe2([3<pipe:[7]>, 4<pipe:[7]>], O_CLOEXEC) = 0", "accept4(5<UNIX:[8]>, NULL, NULL, 0) = 3<UNIX:[9]>", 'openat(AT_FDCWD<%s>, "i", O_RDONLY) = 3<%s/i>' % (TOP, TOP),
+        for other in ("pipe2([3<pipe:[7]>, 4<pipe:[7]>], O_CLOEXEC) = 0", "accept4(5<UNIX:[8]>, NULL, NULL, 0) = 3<UNIX:[9]>", "eventfd2(0, EFD_CLOEXEC) = 3<anon_inode:[eventfd]>", 'openat(AT_FDCWD<%s>, "i", O_RDONLY) = 3<%s/i>' % (TOP, TOP),
                       'openat(AT_FDCWD<%s>, "/dev/null", O_WRONLY) = 3</dev/null>' % TOP, "socket(AF_UNIX, SOCK_STREAM, 0) = 3<UNIX:[8]>"):
             self.assertEqual([], self.writers(RUN % 1, MAKE % (1, "o", "o"), FORK % (1, 2), "2 " + other, "2 write(0x3, 0x55f41b32ba90, 0x6)   = 0x6"), other)
 
