@@ -58,6 +58,20 @@ INSIDE = (
     ("all: e/*.c ; cat $^ > $@\n", "e/n.c", "n", {"e/k.c": "k\n"}), ("include e/*.mk\nall: ; @echo $(V) > $@\n", "e/n.mk", "V = 1", {"e/k.mk": "U = 1\n"}),
     ("all: ; @echo 1 > $@\n", "makefile", "all: ; @echo 2 > $@", {}), ("C = e/*.c\nall: $(C) ; cat $^ > $@\n", "e/n.h", "n", {"e/k.c": "k\n"}),
 )
+# Recipes of two processes A and B that meet on a file: beside each other, in order, or left running; and what else they need.
+BESIDE = ("(A) & (B) & wait", "(A) & p=$$!; (B); wait $$p", "(A) & wait $$!; (B)", "(A); (B)", "(A) & (B); sleep 0.1", "((A) &); (B); sleep 0.1", "setsid -f sh -c 'A'; sleep 0.1; B",
+          "(A) | (B)", "bash -c '(A) & (B); wait'", "bash -c 'coproc { A; }; B; wait'", "bash -c '{ B; } > >(A)'; sleep 0.1", "python3 NAME.py 0 'A' 'B'", "python3 NAME.py 1 'A' 'B'",
+          "python3 NAME.py 2 'A' 'B'", "$(MAKE) -s -f NAME.mk a & $(MAKE) -s -f NAME.mk b & wait", "$(MAKE) -s -f NAME.mk a; $(MAKE) -s -f NAME.mk b")
+STARTS = """import subprocess, sys, time
+def start(text): return subprocess.Popen(["sh", "-c", text])
+how, a, b = sys.argv[1:]
+first = start(a)
+if how == "0": first.wait()
+second = start(b)
+if how == "1": first.wait()
+second.wait()
+if how == "2": time.sleep(0.1)
+"""
 LISTS = (("find NAME.d > $@", "listings"), ("find NAME.d | sort > $@", ""), ("ls NAME.d > $@", ""), ("echo NAME.d/* > $@", ""))
 
 
@@ -69,7 +83,7 @@ class GadgetDraw(Draw):
         shapes: Dict[str, Callable[[str], Block]] = {
             "macro": self.macro, "reread": self.reread, "while": self.while_, "keeper": self.keeper, "handed": self.handed, "kept": self.kept, "prints": self.prints, "interpreter": self.interpreter,
             "modes": self.modes, "ages": self.ages, "listing": self.listing, "inherited": self.inherited, "archive": self.archive,
-            "inside": self.inside, "searched": self.searched, "past": self.past,
+            "processes": self.processes, "inside": self.inside, "searched": self.searched, "past": self.past,
         }
         self.shapes += [shapes[name] for name in shapes if not only or name in only]
         if not self.shapes:
@@ -203,6 +217,16 @@ class GadgetDraw(Draw):
         how, breaks = self.random.choice(LISTS)
         text = self.plain("NAME.d/a", "", "touch $@") + self.plain("NAME.d/b", self.unless("NAME.d/a"), "touch $@") + self.plain("NAME", "NAME.d/a NAME.d/b", how)
         return Block([name], text.replace("NAME", name), {name + ".d/k": "k\n"}, {name: breaks} if breaks else {})
+
+    def processes(self, name: str) -> Block:
+        """Two processes of one recipe meet on a file, which another recipe uses."""
+        first, second = ("$N %s.a; echo a >> NAME.o" % name, "$N %s; %s" % (name, self.random.choice(("echo b >> NAME.o", "cat NAME.o > NAME.p 2>/dev/null || true", "mv NAME.o NAME.p 2>/dev/null || true"))))
+        run = self.random.choice(BESIDE)
+        text = "NAME: %s\n\t@+%s; touch $@\n" % (" ".join(self.prerequisites()), run.replace("A)", first + ")").replace("A;", first + ";").replace("'A'", "'%s'" % first).replace("B", second))
+        text += self.plain("NAME.b", self.unless("NAME"), "cat NAME.o > $@ 2>/dev/null || true")
+        inner = HEAD + "a: ; @%s\nb: ; @%s\n" % (first, second)
+        self.done.append(name)
+        return Block(self.pair(name, name + ".b"), text.replace("NAME", name), {name + ".py": STARTS, name + ".mk": inner.replace("NAME", name)}, {name + end: "luck" for end in (".o", ".p", ".b")})
 
     def inherited(self, name: str) -> Block:
         """A target that has the macros of whoever asks first."""
