@@ -19,7 +19,9 @@ from functools import cached_property
 from typing import TYPE_CHECKING, Dict, FrozenSet, Iterable, Iterator, List, Sequence, Set, Tuple
 
 from record import machine
-from record.trace.events import CHANGES, CREATED, MADE, MADE_BEFORE, MADE_QUIETLY, READ, SEEN
+from record.trace.events import CHANGES, CREATED, LISTED, MADE, MADE_BEFORE, MADE_QUIETLY, READ, SEEN
+from record.trace.lists import fits
+from record.trace.names import Names
 
 if TYPE_CHECKING:
     from record.build.tasks import Build
@@ -125,12 +127,14 @@ def has_rules(text: str) -> bool:
     return not NO_RULES.fullmatch(text)
 
 
-def left_behind(tree: FirstTree, before: Dict[str, str], lives: "Iterable[Life]", builds: "Iterable[Build]", kept: str, texts: Dict[str, str]) -> Set[str]:
+def left_behind(tree: FirstTree, before: Dict[str, str], lives: "Iterable[Life]", builds: "Iterable[Build]", kept: str, texts: Dict[str, str],
+                names: Names) -> Set[str]:
     """What an earlier build left, and this one used. `before`: the kinds of the names that were there; `kept`: the folder of the record; `texts`: what
     makefiles said when make read them."""
     tops = tuple(configured_tops(before))
-    written = {path for build in builds for task in build.tasks if task.kind == "recipe" for path in task.writes}
-    found = {path for path in used(before, lives) if not tree.has(path) and (path in written or tree.is_own(path) and not (path + "/").startswith(tops))}
+    written = {path for build in builds for task in build.tasks if task.kind == "recipe" for work in task.works for kind, path in work.events if kind in CHANGES}
+    looks = {*used(before, lives), *listed(before, builds, names)}
+    found = {path for path in looks if not tree.has(path) and (path in written or tree.is_own(path) and not (path + "/").startswith(tops))}
     return {path for path in found if not (path + "/").startswith(kept + "/") and (path not in texts or has_rules(texts[path]))}  # guard: what-earlier-build-left
 
 
@@ -153,6 +157,17 @@ def used(before: Dict[str, str], lives: "Iterable[Life]") -> Set[str]:
                 filled.add(os.path.dirname(path.rstrip("/")))
     seen = {path for path, place in looks.items() if before.get(path) in ("f", "l") and place <= changes.get(path, place)}  # guard: used-before-written
     return seen | {path for path in filled - made if before.get(path) == "d"}
+
+
+def listed(before: Dict[str, str], builds: "Iterable[Build]", names: Names) -> Iterator[str]:
+    """The files that were there and that a recipe may have met as it listed their folder: one that comes later has no place in the list."""
+    found = {path for build in builds for task in build.tasks for work in task.works for kind, path in work.events if kind == LISTED}
+    inside: Dict[str, Set[str]] = {}
+    for folder, _, pattern in (path.partition("\0") for path in found):
+        inside.setdefault(folder, set()).add(pattern)
+    for path, kind in before.items():
+        if kind == "f" and any(fits(pattern, path, names) for pattern in inside.get(os.path.dirname(path), ())):
+            yield path  # guard: what-lists-show
 
 
 @dataclass

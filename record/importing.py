@@ -216,7 +216,7 @@ def finish(record: Record, found: Imported, names: Names, out: str, warm: bool) 
         part = {path for path in there if release.has(path)}
         record.up_to_date = sorted(part - written)
         before = {path: kind for path, kind in names.before.items() if path not in found.cleaned.since}
-        there = there - part | left_behind(record.first, before, found.lives, found.builds, out, found.texts) - found.configured
+        there = there - part | left_behind(record.first, before, found.lives, found.builds, out, found.texts, names) - found.configured
     record.warm = sorted(there)
     for name in record.up_to_date:
         found.assumed.add("up-to-date", name)

@@ -17,6 +17,7 @@ from pathlib import Path
 from typing import Collection, Dict, FrozenSet, Iterable, Iterator, List, Optional, Tuple
 
 import forked
+from fuzz_left import Left, is_about_another
 from fuzz_projects import Project
 
 HERE = Path(__file__).resolve().parent
@@ -115,10 +116,16 @@ class Builder:
         self.random = random.Random(project.seed + 1)
         self.builds = 0
         self.delay = DELAY
+        self.before: Tree = {}
 
     def fresh(self, project: Optional[Project] = None) -> None:
         """The tree before the build."""
         shutil.rmtree(self.folder, ignore_errors=True)
+        self.put(project)
+        self.place.own(self.room, self.folder)
+
+    def put(self, project: Optional[Project] = None) -> None:
+        """Puts the sources in their places."""
         for name, text in (project or self.project).all_files().items():
             path = self.folder / name
             path.parent.mkdir(parents=True, exist_ok=True)
@@ -127,7 +134,6 @@ class Builder:
                 path.chmod(0o755)
         for name, age in self.project.ages.items():
             os.utime(self.folder / name, (age, age))
-        self.place.own(self.room, self.folder)
 
     def run(self, words: List[str], nap: str = "", watch: Optional[Watch] = None, project: Optional[Project] = None) -> Outcome:
         """One build of a fresh tree."""
@@ -193,6 +199,8 @@ class Builder:
 
     def recorded(self) -> Outcome:
         """The recorded build, judged: by the recorder of this process, in a child of it, or by another one."""
+        if self.project.left:
+            return self.recorded_again(self.project.left)
         args = ["--warm", "--", *self.place.command(self.project.words())]
         if self.recorder != RECORDER or self.project.place is not None:
             return self.run([str(self.recorder), *args])
@@ -203,6 +211,17 @@ class Builder:
         except subprocess.TimeoutExpired:
             return Outcome(-signal.SIGKILL, tree_of(self.folder), "", time.monotonic() - began)
         return Outcome(ran.returncode, tree_of(self.folder), (ran.stderr + ran.stdout).decode("utf-8", "replace"), time.monotonic() - began)
+
+
+    def recorded_again(self, left: Left) -> Outcome:
+        """The recorded build of a tree that was built before. `before` is then the tree as the recording found it."""
+        self.fresh()
+        left.prepare(self.folder, list(self.project.all_files()), self.project.serial(), self.project.seed)
+        self.put()
+        self.before = tree_of(self.folder)
+        words = [str(self.recorder), *left.options(), "--", *self.project.words()]
+        ran = subprocess.run(words, cwd=self.folder, env=environment(), capture_output=True, stdin=subprocess.DEVNULL, timeout=SECONDS, check=False)
+        return Outcome(ran.returncode, tree_of(self.folder), (ran.stderr + ran.stdout).decode("utf-8", "replace"))
 
 
 def differences(first: Outcome, second: Outcome, others: Collection[str] = ()) -> str:
@@ -244,6 +263,8 @@ def judge(project: Project, room: Path, runs: int, recorder: Path = RECORDER, sh
     left = Outcome(serial[0].status, recorded.tree)
     several = has_jobs(project)
     changed = not several and (differences(serial[0], left) or plain and said_otherwise(plain, recorded))
+    if project.left:
+        changed = differences(Outcome(0, builder.before), Outcome(0, recorded.tree)) if project.left.is_fresh else ""
     if changed:
         is_timed = differences(serial[0], left) and not differences(builder.slow(), left)
         result.kind, result.about = "unstable" if is_timed else "changed", changed
@@ -254,6 +275,8 @@ def judge(project: Project, room: Path, runs: int, recorder: Path = RECORDER, sh
     else:
         shuffled = shuffles and result.verdict != "safe"
         shake(builder, serial[0], result, chain((builder.parallel(shuffled) for _ in range(runs)), builder.directed(holds)))
+        if result.kind == "wrong yes" and project.left and (is_about_another(recorded.output) or any(one.startswith(TEXTS["up-to-date"]) for one in result.assumed)):
+            result.kind = "assumption broken"
     return result
 
 

@@ -8,6 +8,7 @@ from functools import lru_cache
 from typing import Callable, Dict, List, Optional
 
 from fuzz_gadgets import GadgetDraw
+from fuzz_left import draw_left
 from fuzz_places import ENDLESS, FOLDERS, Place, can_switch, draw_place
 from fuzz_projects import Block, Project
 
@@ -54,7 +55,9 @@ class PlacedDraw(GadgetDraw):
 
     def draw(self) -> Project:
         if self.only and "place" not in self.only or not self.only and not self.is_placed():
-            return super().draw()
+            project = super().draw()
+            project.left = draw_left(self.seed)
+            return project
         self.place = draw_place(self.seed, is_later(), switches())
         mine: Dict[str, Callable[[str], Block]] = {"asks": self.asks, "odd": self.odd, "spelled": self.spelled, "above": self.above}
         self.shapes += [*mine.values()] * 3 if not self.only else [mine[name] for name in mine if name in self.only] or [*mine.values()]

@@ -11,6 +11,7 @@ from dataclasses import asdict, dataclass, field
 from pathlib import Path
 from typing import Callable, Dict, List, Mapping, Optional, Set, Type
 
+from fuzz_left import Left
 from fuzz_places import Place
 
 FORGOTTEN = 0.25
@@ -60,6 +61,7 @@ class Project:
     head: str = ""
     is_script: bool = False
     place: Optional[Place] = None
+    left: Optional[Left] = None  # what was done with the tree before it is recorded
 
     def command(self) -> List[str]:
         """What each build begins with."""
@@ -110,6 +112,7 @@ def load(path: Path, kinds: Mapping[str, Type[Project]]) -> Project:
     text = json.loads(path.read_text())
     text["blocks"] = [Block(**one) for one in text["blocks"]]
     text["place"] = Place(**text["place"]) if text.get("place") else None
+    text["left"] = Left(**text["left"]) if text.get("left") else None
     return kinds[text["tool"]](**text)
 
 

@@ -58,6 +58,12 @@ class Left(unittest.TestCase):
         self.assertEqual(0, outcome.status, outcome.text())
         self.assertRegex(outcome.text(), r"\n      for a checkout of [0-9a-f]{7,}\n")
 
+    def test_name_that_a_list_shows(self) -> None:
+        files = {"Makefile": "all: a b\na: ; ls p > a\nb: ; echo > p/b; touch b\nclean: ; rm -f a b\n", "p/k": ""}
+        self.warm(files, GIT + "; make -s; make -s clean", "p/b")
+        self.warm(files, "make -s; make -s clean", "p/b")
+        self.assertEqual(0, self.recorded({**files, "Makefile": files["Makefile"].replace("ls p", "ls p/k*")}, "make -s; make -s clean").status)
+
     def test_folder(self) -> None:
         files = {"Makefile": "all: obj/a\nobj/a: ; echo > obj/a\n"}
         self.warm(files, GIT + "; mkdir obj", "obj")
