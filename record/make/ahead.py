@@ -6,10 +6,9 @@ from typing import List
 
 from record.build.builder import Builder
 from record.make.database import LINES_TEXT
-from record.make.globs import DEPTH
 from record.make.macros import Macros
 from record.make.memory import with_target
-from record.make.references import ANY
+from record.make.references import ANY, DEPTH
 from record.make.targets import RoundBuilder
 
 

@@ -7,10 +7,10 @@ import bisect
 import os
 from fnmatch import fnmatchcase
 from functools import cached_property
-from typing import Callable, Dict, Iterator, List, Optional, Set, Tuple
+from typing import Callable, Dict, Iterator, List, Set, Tuple
 
 from record.build.tasks import Node
-from record.make.memory import first_birth, folders_listed
+from record.make.memory import first_birth
 from record.make.searches import DEPTH, names_asked, stems, tried
 from record.make.targets import RoundBuilder
 from record.trace.events import MAKE_LISTED, MAKE_OPENED
@@ -41,7 +41,7 @@ class Cached:
 
     def names_in(self, folder: str) -> Set[str]:
         """Those of them that a recipe may ask for by `wildcard`, or make in a search that comes late."""
-        patterns = self.make.patterns_in(folder) if self.listed is None or folder in self.listed else []
+        patterns = self.make.patterns_in(folder)
         paths = {join(folder, name) for name in self.created.get(folder, ())}
         return {path for path in paths if path in self.late or any(self.shows(pattern, path) for pattern in patterns)}  # guard: names-for-which-nobody-asks
 
@@ -53,17 +53,6 @@ class Cached:
     def late(self) -> Set[str]:
         """The names that make asks for in searches that come late."""
         return self.searched_late()
-
-    @cached_property
-    def listed(self) -> Optional[Set[str]]:
-        """The folders in which recipes ask for names by `wildcard`; None where nobody can say which."""
-        found: Set[str] = set()
-        for node in self.builder.graph.nodes.values():
-            asked = folders_listed(self.builder, node) if node.jobs or node.must and node.has_recipe else set()
-            if asked is None:
-                return None
-            found |= asked
-        return found
 
     @cached_property
     def folders(self) -> Dict[str, Set[str]]:

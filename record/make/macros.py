@@ -8,12 +8,11 @@ from record.make.assigned import without_printed
 from record.make.database import LINES_TEXT, Base
 from record.make.expansion import Answers
 from record.make.exports import Exports
-from record.make.globs import composes
 from record.make.idle import idle_in
 from record.make.kept import Kept
 from record.make.macrotexts import BARE, CHANGES, MAKES, MacroTexts, Use
 from record.make.owners import Make
-from record.make.references import ANY, COMPUTED, EVAL, outermost, with_functions
+from record.make.references import ANY, COMPUTED, EVAL, composes, outermost, with_functions
 from record.make.steady import IMPLIED, Steady
 
 # A line of a makefile that is a rule: what stands behind its colon, up to a recipe on the same line.

@@ -7,9 +7,8 @@ from typing import Dict, FrozenSet, Iterable, Iterator, List, Optional, Set, Tup
 
 from record.make.assigned import Late, assigned_in, late_in
 from record.make.database import Base
-from record.make.globs import composes
 from record.make.owners import Make
-from record.make.references import ANY, BINDS, COMPUTED, EVAL, FILES, SECOND, Eval, end_of, evals, joined, matching, named, read_again, with_functions
+from record.make.references import ANY, BINDS, COMPUTED, EVAL, FILES, SECOND, Eval, composes, end_of, evals, joined, matching, named, read_again, with_functions
 from record.make.words import makefiles
 
 UNNAMED = "\x01"  # stands for all texts of macros that nobody can name: each macro that recipes change may have any of them

@@ -13,13 +13,10 @@ from record.build.parts import divide
 from record.build.work import Part, Tool, Work, take_piece, written_by
 from record.commands.system import OF_SYSTEM
 from record.commands.texts import text_of
-from record.make.asked import EVERYTHING, Asked, asked_in, is_of_linker
+from record.make.asked import asked_in, patterns_of
 from record.make.database import Base
-from record.make.globs import listed, patterns
-from record.make.idle import TAKES, idle_of, without_defaults, without_idle
 from record.make.one_job import has_one_job
 from record.make.programs import Programs
-from record.make.searches import asked_names
 from record.make.words import Job, Round, Words, makefiles
 from record.trace.events import ABSENT, ENTERED, INSIDE, LISTED, LOOKS, MAKE_LISTED, MAKE_OPENED, ORDER_SEEN, READ, REMOVED, SEEN
 from record.trace.lives import Life
@@ -36,8 +33,6 @@ class Make(Tool):
     folder: str
     work: Dict[int, Work] = field(default_factory=dict)  # by id of the job
     acts: Dict[Tuple[int, str], Work] = field(default_factory=dict)  # by number of the round and target
-    globs: List[Asked] = field(default_factory=list)  # patterns that it asks for by `wildcard`
-    listed_first: List[Asked] = field(default_factory=list)  # those of rules, and of lines that include makefiles
     by_links: bool = False  # it went by links: folders have other paths than its makefiles say
     ready: List[int] = field(default_factory=list)  # for each start: when it had read its makefiles
     is_called: bool = False  # a make above calls it by `$(shell ..)`: it has the environment with which that was started
@@ -90,13 +85,22 @@ class Make(Tool):
         """When it began, or began again: then it knows nothing of what it has listed."""
         return self.life.starts[start][0] if start < len(self.life.starts) else 1 << 60
 
-    def patterns_in(self, folder: str) -> List[str]:
-        """The patterns of names that it asks for in a folder by `wildcard`."""
-        return asked_in(self.globs, self.folder, folder, self.by_links)
-
     def all_patterns_in(self, folder: str) -> List[str]:
-        """The same, with those of rules, and of lines that include makefiles."""
-        return asked_in([*self.globs, *self.listed_first], self.folder, folder, self.by_links)
+        """The patterns of names for which it looked in a folder."""
+        return self.fitting([*self.words.patterns, *self.asked_late], folder)
+
+    def patterns_in(self, folder: str) -> List[str]:
+        """The same, without those for which it looked while it read its makefiles."""
+        return self.fitting(self.asked_late, folder)
+
+    @cached_property
+    def asked_late(self) -> List[str]:
+        """What it looked for behind that."""
+        return [pattern for one in self.words.rounds for patterns in one.asked.values() for pattern in patterns]
+
+    def fitting(self, patterns: Iterable[str], folder: str) -> List[str]:
+        """Those of some patterns that are about names in a folder."""
+        return asked_in(patterns_of(self.words.is_deaf, tuple(patterns)), self.folder, folder, self.by_links)
 
     def listed_in(self, start: int) -> Dict[str, Tuple[int, int]]:
         """When each folder was listed after a start: when its list was begun, and when the last piece was read."""
@@ -192,7 +196,6 @@ class Owners:
         """One more make, with what it said; that it did not end, or failed, is a hole."""
         make = Make(words, life, self.folder_of(life, words))
         make.stale = {name for name in makefiles(words) if not words.copies_of(name) and make.is_stale(name, self.written)}
-        make.globs, make.listed_first = ([], []) if is_of_linker(make.life) else self.patterns_of(make)
         make.by_links = any(act.kind == READ and act.path in self.links and not OF_SYSTEM.match(act.path) for act in life.acts)
         self.makes.append(make)
         self.of_life[id(life)] = make
@@ -207,20 +210,6 @@ class Owners:
             if act.kind == READ and any(act.path.endswith("/" + os.path.basename(n)) for n in makefiles(words)):
                 break
         return folder
-
-    @staticmethod
-    def patterns_of(make: Make) -> Tuple[List[Asked], List[Asked]]:
-        """The patterns of `$(wildcard ..)` in the makefiles that were read, and those of rules."""
-        known = {name: make.known_text(name) for name in makefiles(make.words)}
-        texts = {name: text for name, text in known.items() if text is not None}
-        if make.stale or any(not make.never_read(name) for name in known.keys() - texts):
-            return [EVERYTHING], []
-        names, values = [name for one in make.words.rounds for name in one.nodes], make.words.values()
-        idle, own = idle_of(make.words), [make.words.args, make.words.flags]
-        if idle is not None and any(map(TAKES.search, (*own, *texts.values()))):
-            idle.macros.clear()  # guard: macros-that-are-taken-away
-        used = own + without_defaults({name: without_idle(text, name, make.words, idle) for name, text in texts.items()}, make.words)  # guard: defaults
-        return sorted(patterns(used, values, names, make.words.environment)), sorted(listed(used, values, names, lambda: asked_names(make.words), make.words.environment))
 
     def match_jobs(self, make: Make) -> None:
         """Make names the processes of its jobs in the order in which it starts them. Others that it starts may have had their numbers: in a

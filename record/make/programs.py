@@ -8,7 +8,7 @@ from typing import Iterable, Set
 
 from record import machine
 from record.make.database import Base
-from record.make.globs import with_values
+from record.make.references import with_values
 from record.make.words import Words
 from record.trace.lives import Life
 

@@ -1,8 +1,9 @@
 """How a text of make names macros: in references, also those of a text that is read a second time, and in what `$(eval ..)` is handed."""
 
 import re
+from fnmatch import fnmatchcase
 from functools import lru_cache
-from typing import FrozenSet, Iterable, Iterator, List, NamedTuple, Set
+from typing import Dict, FrozenSet, Iterable, Iterator, List, NamedTuple, Set
 
 from record.trace.strace import remembered
 
@@ -25,6 +26,11 @@ SETS = re.compile(r"[ \t]*(?:override[ \t]+|export[ \t]+)*([\w.-]+)[ \t]*(\+|\?|
 FILES = re.compile(r"\$[({](?:call[ \t]+)?file[ \t,]*<")  # what reads the lines of a file
 BRACKETS = {"(": re.compile("[()]"), "{": re.compile("[{}]")}
 ANY = "*"  # macros that nobody can name
+CALL = re.compile(r"\$[({]call[ \t]+")
+ONE = r"\$(?:\([\w.-]+\)|\{[\w.-]+\}|\w)"  # a macro
+COMPOSED = re.compile(r"(\$[({]call[ \t]+|)(?<![\w.$-])([\w.-]*(?:%s[\w.-]*)+)" % ONE)  # a name with macros in it
+MACRO = re.compile(r"\$(?:[({]([\w.-]+)[)}]|(\w))")
+DEPTH = 8  # how often macros are put in the places of their names
 
 
 class Eval(NamedTuple):
@@ -119,3 +125,17 @@ def fits(name: str, pattern: str) -> bool:
 def matching(names: Iterable[str], pattern: str) -> List[str]:
     """The names that a pattern of `named` fits."""
     return [name for name in names if fits(name, pattern)]
+
+
+def composes(text: str, function: str) -> bool:
+    """Whether `call` may call a function whose name is put together by macros: where it stands, or in a macro that `call` names."""
+    words = [(bool(found.group(1)), re.sub(ONE, "*", found.group(2))) for found in COMPOSED.finditer(text)] if CALL.search(text) else []
+    is_open = (True, "*") in words
+    return any(fnmatchcase(function, word) for is_called, word in words if word != "*" and (is_called or is_open and word.strip("*")))  # guard: names-that-no-function
+
+
+def with_values(text: str, values: Dict[str, str]) -> str:
+    """A text with the macros that have a value in their places."""
+    for _ in range(DEPTH):
+        text = MACRO.sub(lambda found: values.get(found.group(1) or found.group(2), found.group()), text)
+    return text

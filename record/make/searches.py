@@ -5,7 +5,6 @@ from functools import lru_cache
 from typing import Dict, FrozenSet, Iterable, Iterator, NamedTuple, Set, Tuple
 
 from record.make.database import Base
-from record.make.words import Words
 
 DEPTH = 8  # how many implicit rules one file may go through
 KEPT = 1 << 10  # how many searches are remembered
@@ -77,18 +76,6 @@ def tried(base: Base, name: str, needs: Set[str]) -> Iterator[str]:
 def filled(word: str, stem: str, folder: str) -> str:
     """A prerequisite of an implicit rule, for a target."""
     return os.path.join(folder, word.replace("%", stem, 1)) if "%" in word else word
-
-
-def asked_names(words: Words) -> Set[str]:
-    """All names that a make has considered, or may have looked for to find an implicit rule; `*` where these may be any."""
-    found: Set[str] = set()
-    for one in words.rounds:
-        base = one.base
-        if base is None or base.search or any("$" in word for _, asked in base.patterns for word in asked):  # guard: names-in-search-paths
-            return {"*"}
-        searches = Searches(base)
-        found.update(one.nodes, *(searches.names(target, DEPTH) for target in one.nodes if target in base.implicit))  # guard: names-that-are-searched-and-such-rule-fits
-    return found
 
 
 class Searches:

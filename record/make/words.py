@@ -61,6 +61,7 @@ class Round:
     must: Dict[str, int] = field(default_factory=dict)  # target: jobs before its line
     failed: List[str] = field(default_factory=list)
     vpath: Dict[str, str] = field(default_factory=dict)
+    asked: Dict[str, List[str]] = field(default_factory=dict)  # target: what make looked for by `glob` while it expanded the recipe; "": what for none
     base: Optional[Base] = None
 
     @cached_property
@@ -107,7 +108,8 @@ class Words:
     place: str = ""  # how the paths of its copies begin
     times: "Counter[str]" = field(default_factory=Counter)  # by name of a makefile: how often make has read it
     copies: Dict[str, List[str]] = field(default_factory=dict)  # those that the build had made: copies of what make has read
-    patterns: List[str] = field(default_factory=list)  # what it has looked for by `glob`
+    patterns: List[str] = field(default_factory=list)  # what it looked for by `glob` while it read makefiles
+    is_deaf: bool = False  # nobody hears what it looks for: it has a `glob` of its own
     start: Start = field(default_factory=Start)  # how it was called
     loaded: List[str] = field(default_factory=list)  # objects that it has loaded into itself
     holes: List[str] = field(default_factory=list)
@@ -172,6 +174,7 @@ class _Reader:
         self.clock = 0
         self.name = ""  # the makefile that it reads
         self.is_said = False  # make has printed something since it began a process
+        self.made = ""  # the target whose recipe it expands
 
     def begin(self, stage: str) -> None:
         """A round begins: make remakes its makefiles, or its goals. With several jobs a recipe of the round before may still run."""
@@ -183,6 +186,7 @@ class _Reader:
         """A line about a job: it starts, goes on with its next line, or has ended. Make names it by a pointer, which a later job may have too."""
         if self.round is None:
             return
+        self.made = ""
         owner = self.children.get(pointer)
         if what == "Putting child" or what == "Live child" and (owner is None or owner.target != name):  # the first line that ran was not the first
             owner = self.children[pointer] = Job(name, len(self.round.jobs))
@@ -200,6 +204,7 @@ class _Reader:
     def considered(self, depth: int, name: str) -> None:
         """Make considers a target: it is a prerequisite of the last one that is less deep, or a goal."""
         assert self.round is not None
+        self.made = ""
         while self.stack and self.stack[-1][0] >= depth:
             self.stack.pop()
         nodes = self.round.nodes
@@ -237,12 +242,22 @@ class _Reader:
         elif text.startswith("Loading symbol "):
             words.loaded.append(text.partition(" from ")[2])
         elif READING.match(text) and words.read:
-            is_making = self.round is not None and self.round.start == len(words.read) - 1
             self.name = READING.match(text).group(1)  # type: ignore[union-attr]
             words.times[self.name] += 1
-            (words.included if is_making else words.read[-1]).append(self.name)
+            (words.included if self.is_making() else words.read[-1]).append(self.name)
         elif self.round is not None:
             self.target(text)
+
+    def is_making(self) -> bool:
+        """Whether make has read its makefiles, since it was started anew."""
+        return self.round is not None and self.round.start == len(self.words.read) - 1
+
+    def looks_for(self, pattern: str) -> None:
+        """A pattern for which make looks: in a recipe that it expands, or elsewhere."""
+        if self.round is not None and self.is_making():
+            self.round.asked.setdefault(self.made, []).append(pattern)  # guard: recipes-that-look
+        else:
+            self.words.patterns.append(pattern)
 
     def is_of_library(self, text: str) -> bool:
         """Whether a line is one that the library adds to make's own (watch.c); what it says is kept."""
@@ -256,7 +271,9 @@ class _Reader:
             if path == self.name or path.endswith("/" + self.name):
                 words.copies.setdefault(self.name, []).append("%s%s.read" % (words.place, number))
         elif key == "GLOB":
-            words.patterns.append(value)
+            self.looks_for(value)
+        elif key == "DEAF":
+            words.is_deaf = True
         elif key == "EXIT":
             words.status = int(value)
         else:
@@ -275,7 +292,8 @@ class _Reader:
         elif vpath:
             self.round.vpath[vpath.group(1)] = vpath.group(2)
         elif must:
-            self.round.must.setdefault(must.group(1), len(self.round.jobs))
+            self.made = must.group(1)
+            self.round.must.setdefault(self.made, len(self.round.jobs))
         elif FAILED.match(text):
             self.round.failed.append(FAILED.match(text).group(1))  # type: ignore[union-attr]
 

@@ -11,10 +11,7 @@ from record.build.tasks import Task
 from record.build.work import Work
 from record.commands.shelltext import base_name, is_removal, shell_text
 from record.make.asked import MAGIC
-from record.make.globs import arguments
 from record.make.graph import MakeBuild
-from record.make.macros import Macros
-from record.make.memory import folders_asked
 from record.make.owners import Make, called_by
 from record.missing.footprints import is_below
 from record.tools.python import BYTE_CODE
@@ -30,11 +27,6 @@ BUILDER = "cmake"  # it keeps its own account of what compilers read, which coun
 def is_idle(argv: List[str]) -> bool:
     """Whether a process does no more with what it finds than to remove it, or is CMake's own."""
     return is_removal(argv) or base_name(argv) == BUILDER
-
-
-def words_said(texts: List[str]) -> Set[str]:
-    """The words of `wildcard` in some texts, as far as they stand there."""
-    return {word for text in texts for call in arguments(text) for word in (call or "").split() if "$" not in word}
 
 
 def makes_of(builds: Sequence[MakeBuild]) -> List[Make]:
@@ -117,29 +109,23 @@ class Turned:
 
     def note_expanding(self, build: MakeBuild) -> None:
         """What processes look for that make calls when it expands a recipe, and the folders that a recipe lists by `$(wildcard ..)`."""
-        make, base = build.make, build.graph.base
+        make = build.make
         seen = {event for life in called_by(make) for event in life.events}
-        known = Macros(make, base)
         for task in build.tasks:
             if task.works and task.node.rule == 0:
                 acts = make.acts.get((build.graph.number, task.node.name))
                 events = {event: place for event, place in acts.events.items() if event in seen} if acts is not None else {}  # guard: processes-in-recipes
-                events.update(self.expanded_lists(build, known, task))  # guard: lists-in-recipes
+                events.update(self.expanded_lists(build, task))  # guard: lists-in-recipes
                 self.note_looks(make.life, [*self.chain(make.life), task.works[0]], events)
 
-    def expanded_lists(self, build: MakeBuild, known: Macros, task: Task) -> Iterator[Tuple[Key, int]]:
+    def expanded_lists(self, build: MakeBuild, task: Task) -> Iterator[Tuple[Key, int]]:
         """What a recipe asks for by `$(wildcard ..)`. Make keeps a list once it has read it: that of a later build may say more."""
-        base, make = build.graph.base, build.make
-        text = "\n".join(base.recipes.get(task.node.name, ()))
-        values = [one for name in known.reached(text) for one in (base.values.get(name, ""), *base.bodies.get(name, ()))]
-        if any("wildcard" in one for one in (text, *values)):
-            asked = folders_asked(known, self.names, task.node)
-            born = min((life.born for life in task.works[0].lives), default=0)
-            for folder, place in make.listed.items():
-                if asked is None or folder in asked:
-                    yield from ((("L", folder + "\0" + pattern), place) for pattern in make.patterns_in(folder))
-            for path in {self.names.find(make.folder, word, True).path for word in words_said([text, *values, known.text]) if not MAGIC.search(word)}:
-                yield ("S" if self.was_there(path, born) else "N", path), born  # guard: names-in-recipes
+        make, asked = build.make, build.graph.round.asked.get(task.node.name, [])
+        born = min((life.born for life in task.works[0].lives), default=0)
+        for folder, place in make.listed.items() if asked else ():
+            yield from ((("L", folder + "\0" + pattern), place) for pattern in make.fitting(asked, folder))
+        for path in {self.names.find(make.folder, word, True).path for word in asked if not MAGIC.search(word)}:
+            yield ("S" if self.was_there(path, born) else "N", path), born  # guard: names-in-recipes
 
     def differs(self, kind: str, path: str) -> bool:
         """Whether a look has another answer at the end; what was read, and is there, may have changed."""

@@ -11,11 +11,10 @@ from typing import Dict, Iterator, List, Optional, Sequence, Set, Tuple
 from record import machine
 from record.commands import shelltext
 from record.make.database import BEGINS, Base
-from record.make.globs import composes, with_values
 from record.make.macrotexts import CHANGES
 from record.make.owners import Owners
 from record.make.references import ANY as ANY_MACRO
-from record.make.references import COMPUTED, FILES, evals, with_functions
+from record.make.references import COMPUTED, FILES, composes, evals, with_functions, with_values
 from record.make.words import Words, makefiles
 from record.tools.scriptcut import ScriptCutter
 from record.tools.scriptwords import ScriptReader

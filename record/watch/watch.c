@@ -12,7 +12,8 @@
      ASKS                else the flag of make by which it only answers
      lines of make       what it considers, and what it does with jobs, in English
      SAID, GREW          make has printed something; the file that keeps standard output has grown
-     GLOB, COPY          a pattern that it looks for; the copy of a makefile as it was read, SAID/PID.LIFE.N.read
+     GLOB, DEAF          a pattern that it looks for; or nobody hears these, as make has a `glob` of its own
+     COPY                the copy of a makefile as it was read, SAID/PID.LIFE.N.read
      # Make data base .. what `make -p` prints: at its end, and before it begins again
      EXIT                its status
 
@@ -243,6 +244,8 @@ static void raise_level(void) {
   }
   const char **version = dlsym(RTLD_DEFAULT, "version_string");
   put_line("SAYS", version ? *version : "");
+  char *own_glob = dlsym(RTLD_DEFAULT, "glob");
+  if (own_glob >= low && own_glob < high) put_line("DEAF", "");
   is_raised = 1;
   *(int *)dlsym(RTLD_DEFAULT, "db_level") = RAISED;
 }

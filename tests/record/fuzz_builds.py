@@ -220,7 +220,10 @@ class Builder:
         self.put()
         self.before = tree_of(self.folder)
         words = [str(self.recorder), *left.options(), "--", *self.project.words()]
-        ran = subprocess.run(words, cwd=self.folder, env=environment(), capture_output=True, stdin=subprocess.DEVNULL, timeout=SECONDS, check=False)
+        try:
+            ran = subprocess.run(words, cwd=self.folder, env=environment(), capture_output=True, stdin=subprocess.DEVNULL, timeout=SECONDS, check=False)
+        except subprocess.TimeoutExpired:
+            return Outcome(-signal.SIGKILL, tree_of(self.folder))
         return Outcome(ran.returncode, tree_of(self.folder), (ran.stderr + ran.stdout).decode("utf-8", "replace"))
 
 

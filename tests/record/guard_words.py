@@ -8,6 +8,7 @@ GUARDS: List[Guard] = [
     *guards("make/words.py",
         ("targets-that-were-given-up-for-makefile", r"""FAILED = re.compile(r"^ *(?:Failed to remake) target file '(.*)'\.$")""", "words.Makefiles.target_that_is_given_up_for_a_makefile", LOST_HOLE),
         ("each-time", "return found ", "words.Copies.one_for_each_time"),
+        ("recipes-that-look", "self.words.patterns.append(pattern)", "words.Patterns.who_looks"),
         ("later-ones", "return False", "words.Older.wildcard_of_a_make_inside", "False != True"),
         ("errors-that-are-kept-with-output", "return self.errors", "words.Makefiles.folder_made_or_true_in_a_make_with_errors", YES),
         ("errors-that-are-kept-with-output", "return self.errors or self.output", "words.Makefiles.folder_made_or_true_in_a_make_with_output", FALSE_RACE),

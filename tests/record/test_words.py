@@ -8,6 +8,7 @@ from pathlib import Path
 from typing import List
 
 import support  # noqa: F401
+from record.make.asked import patterns_of
 from record.make.flags import asks_jobs
 from record.make.owners import Owners
 from record.make.words import Words, read_words
@@ -32,6 +33,20 @@ class Copies(unittest.TestCase):
         a, b = "Reading makefile 'a.d' (search path)...", "Reading makefile 'b.d' (search path)..."
         words = read_words(7, 0, [*HEAD[:4], a, "COPY 1 a.d", b, *HEAD[4:], *BASE, *HEAD[3:4], a, "COPY 2 a.d", b, "COPY 3 d/b.d", *HEAD[4:], *BASE, "EXIT 0"], "/s/7.0.")
         self.assertEqual(([], ["/s/7.0.1.read", "/s/7.0.2.read"], []), (words.holes, words.copies_of("a.d"), words.copies_of("b.d")))
+
+
+class Patterns(unittest.TestCase):
+    """What a make looks for by `glob`."""
+
+    def test_who_looks(self) -> None:
+        lines = [*HEAD[:4], "GLOB *.c", HEAD[4], "GLOB *.d", "Considering target file 'a'.", "Must remake target 'a'.", "GLOB d/*.h", "Putting child 0x1 (a) PID 8 on the chain.", "GLOB *.o", *BASE]
+        words = read_words(7, 0, [*lines, "EXIT 0"], "")
+        self.assertEqual((["*.c"], {"": ["*.d", "*.o"], "a": ["d/*.h"]}), (words.patterns, words.rounds[0].asked))
+
+    def test_make_that_nobody_hears(self) -> None:
+        for lines, found in (([], []), (["DEAF "], ["*"])):
+            words = read_words(7, 0, [*HEAD[:4], *lines, *HEAD[4:], *BASE, "EXIT 0"], "")
+            self.assertEqual(found, [one.part for one in patterns_of(words.is_deaf, tuple(words.patterns))])
 
 
 class Holes(unittest.TestCase):
