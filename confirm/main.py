@@ -15,7 +15,7 @@ from confirm.reach import Tasks
 from confirm.room import Room, furnish, new_room, settle, tools
 from confirm.search import Finding, search
 from confirm.text import body, heading, summary
-from confirm.tree import copy, remove, take_back
+from confirm.tree import take_back
 from confirm.trial import Trial
 from record import RELEASE
 from record.build.text import shown
@@ -23,6 +23,7 @@ from record.folder import NotWhole, reading
 from record.judge import find_race, no_race
 from record.main import SERIAL_FAILED, Missing
 from record.messages import printable, reason
+from record.orders.trees import CannotCopy, copy, remove
 from record.pages import after_no_verdict
 from report.asking import judge
 from report.model import BadRecord, Report, read_json
@@ -235,7 +236,7 @@ def main(words: Sequence[str] | None = None) -> int:
         return 3 if end.code else 0
     try:
         return run(args)
-    except CannotConfirm as error:
+    except (CannotConfirm, CannotCopy) as error:
         show(iter([f"CANNOT BE CONFIRMED  {error}"]))
         return 2
     except KeyboardInterrupt:

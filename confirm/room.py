@@ -7,7 +7,6 @@ calls it by its whole path, as CMake does. Elsewhere the build runs in the tempo
 
 from __future__ import annotations
 
-import ctypes
 import os
 import shutil
 import subprocess
@@ -17,14 +16,14 @@ from dataclasses import dataclass, field
 from pathlib import Path
 
 from confirm.races import CannotConfirm, Chosen
-from confirm.tree import copy, names_its_folder, remove
+from confirm.tree import names_its_folder
 from record.commands.shelltext import first_words
 from record.main import Missing, version_of
 from record.ninja.retry import by_name, with_jobs
+from record.orders.trees import copy, remove
+from record.watch.lay import BIND, leave, mount
 
 HOLD = Path(__file__).resolve().parent / "hold.c"
-NEW_MOUNTS, NEW_USER = 0x20000, 0x10000000
-BIND, ALL_BELOW, PRIVATE = 0x1000, 0x4000, 0x40000
 # What a make above hands down: it is none of this build's.
 OF_MAKE = ("MAKELEVEL", "MAKEFLAGS", "MFLAGS", "MAKE_TERMOUT", "MAKE_TERMERR", "MAKEFILES", "OLDPWD")
 # What stands for make in the build. Of an outermost make it takes -j and -l away. Without tokens it has one job; with them it takes
@@ -71,29 +70,17 @@ PLACES = ("/tmp", "/var/tmp", "/dev/shm")
 JOBS = 100
 
 
-def must(answer: int, what: str) -> None:
-    """An answer of the system but 0 is an error."""
-    if answer != 0:
-        raise OSError(ctypes.get_errno(), what)
-
-
 def enter(tree: Path, folder: str) -> None:
     """Lays a tree over a folder, for this process and those that it starts."""
-    system = ctypes.CDLL(None, use_errno=True)
-    user, group = os.getuid(), os.getgid()
-    if system.unshare(NEW_MOUNTS) != 0:
-        must(system.unshare(NEW_USER | NEW_MOUNTS), "unshare")
-        for name, text in (("setgroups", "deny"), ("uid_map", f"{user} {user} 1"), ("gid_map", f"{group} {group} 1")):
-            Path("/proc/self", name).write_text(text)
-    must(system.mount(None, b"/", None, ALL_BELOW | PRIVATE, None), "mount")
-    must(system.mount(os.fsencode(tree), os.fsencode(folder), None, BIND | ALL_BELOW, None), "mount")
+    if not (leave() and mount(str(tree), folder, BIND)):
+        raise OSError("the copy cannot be laid over the project")
     os.chdir(folder)
 
 
 def cover(make: str, stands_in: Path) -> None:
     """Lays what stands for make over make itself, in mounts of its own, unless nothing may run where that lies."""
     if os.access(stands_in, os.X_OK):
-        ctypes.CDLL(None).mount(os.fsencode(stands_in), os.fsencode(make), None, BIND, None)
+        mount(str(stands_in), make, BIND)
 
 
 def can_enter(tree: Path, folder: str) -> bool:

@@ -10,7 +10,7 @@ from confirm.holding import Built
 from confirm.races import CannotConfirm, Chosen
 from confirm.reach import Reach
 from confirm.schedules import Schedule, serial_order, tries
-from confirm.tree import Difference
+from record.orders.trees import Difference
 from confirm.trial import Left, Trial, errors_of, how_ended, some
 
 

@@ -14,7 +14,7 @@ from confirm.races import CannotConfirm, Chosen
 from confirm.reach import Tasks
 from confirm.room import Room
 from confirm.schedules import Schedule
-from confirm.tree import Difference, copy, difference, differing, held_by, passing, remove
+from record.orders.trees import Difference, copy, difference, differing, held_by, passing, remove
 from report.model import Race
 
 # Serial builds begin so far apart that a time of day in a file shows.

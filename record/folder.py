@@ -80,6 +80,7 @@ class Record:
     first: Optional[FirstTree] = None  # the tree that it started from
     up_to_date: List[str] = field(default_factory=list)  # files that the build makes, and that are part of that tree
     missingdeps: int = 0  # what `ninja -t missingdeps` finds
+    orders: Optional[Dict[str, Any]] = None  # with --orders: what builds in other orders came to
     missing: Optional[Dict[str, Any]] = None  # with --missing: what its answer takes for granted, and why there may be none
 
     def bar(self, kinds: Container[str]) -> None:
@@ -95,8 +96,9 @@ class Record:
         alone = found.pop("stands_alone")
         found["tree"] = self.first.text() if self.first else ""
         found["top"] = shown(top_of(self.folder))
-        if self.missing is None:
-            del found["missing"]
+        for name in ("missing", "orders"):
+            if found[name] is None:
+                del found[name]
         found["warm"] = {"count": len(self.warm), "example": shown(self.warm[0]) if self.warm else "", "names": [shown(name) for name in self.warm[:NAMES]], "alone": alone}
         return json.dumps(found, indent=1, ensure_ascii=True) + "\n"
 

@@ -13,7 +13,7 @@ import tempfile
 import threading
 import time
 from concurrent.futures import ThreadPoolExecutor
-from functools import lru_cache
+from functools import lru_cache, partial
 from importlib import import_module
 from itertools import islice
 from pathlib import Path
@@ -23,7 +23,7 @@ from record import RELEASE, VERSION, machine
 from record.entry import STOPPING, UNHEARD, Stopped, end_traced, forget_coerced
 from record.messages import printable
 from record.facts import Facts, begun, first_tree
-from record.first_tree import first_names, tree_of
+from record.first_tree import FirstTree, first_names, tree_of
 from record.folder import NO_ROOM, Idle, NotWhole, Record, Taken, accept_warm, alone, aside, is_record, reading, rewrite, room_of_programs, rooms_of_programs, seconds_of, what_stands
 from record.build.assumptions import UNTRIED
 from record.fresh import clean, fresh_tree, in_place
@@ -31,6 +31,9 @@ from record.judge import find_race, judge, no_race
 from record.ninja.retry import JOBS, TRIES, by_hand, hints, tops_of, undo, with_jobs
 from record.ninja.cold_copy import CannotClean, cold_copy, fresh_folder, has_ninja, saved_name
 from record.ninja.log import Kept
+from record.orders.builds import CannotTry, with_many
+from record.orders.exploring import MOST, explore, new_room
+from record.orders.result import Orders, tried, whatever
 from record.progress import Elapsed
 from record.report import Judged, colours, read_json, report
 from record.standstill import Standstill
@@ -193,10 +196,13 @@ def parser_of_words() -> argparse.ArgumentParser:
     parser.add_argument("--keep-trace", action="store_true", help="keep the trace in the record")
     parser.add_argument("--footprints", action="store_true", help="keep a listing and footprints of each build, for race check --makefile")
     parser.add_argument("--strict", action="store_true", help="no yes where waits that may be luck order processes, or a program looks at a folder that others change")
+    parser.add_argument("--orders", type=int, nargs="?", const=-1, default=0, metavar="N", help="build again in copies, recipes in other orders, in at most N builds (%d): "
+                        "a conflict that is about no file, such as which of two is newer, is a race if they differ, and none if not" % MOST)
     parser.add_argument("--missing", action="store_true", help="report missing inputs too: files whose edit does not make a target again")
     parser.add_argument("-V", "--version", action="version", version="%(prog)s " + RELEASE, help="print the version")
     parser.add_argument("words", nargs=argparse.REMAINDER, metavar="-- COMMAND ..", help="what builds the project")
     parser.set_defaults(tree=None)  # the first tree, where --fresh made it
+    parser.set_defaults(gate="")  # where recipes wait in a build in another order
     parser.set_defaults(linked=[], expected=0.0)  # files of a copy that have names outside of it, in the folder itself; seconds of the former record
     return parser
 
@@ -232,20 +238,21 @@ def no_command(word: str) -> str:
     return "no such command: %s%s; behind -- stands the command that builds, such as make: race-record -- make" % (word, here)
 
 
-def judge_build(folder: Path, race: str) -> Judged:
-    """Asks `race` about one build of a record."""
+def judge_build(folder: Path, race: str, orders: Orders) -> Judged:
+    """Asks `race` about one build of a record, and takes in what other orders came to."""
     about = read_json(folder / "build.json")
-    return Judged(folder.name, about, judge(race, folder / "tasks", about["folder"]))
+    return Judged(folder.name, about, tried(orders, folder.name, about["folder"], judge(race, folder / "tasks", about["folder"])), orders)
 
 
 def judge_record(out: Path, race: str) -> Tuple[int, List[Judged]]:
     """Asks `race` about each build of a record, several at once; the worst status."""
     record = read_json(out / "record.json")
+    orders = record.get("orders")
     with ThreadPoolExecutor(ASKED) as pool:
-        judged = list(pool.map(lambda number: judge_build(out / "builds" / number, race), record["builds"]))
+        judged = list(pool.map(lambda number: judge_build(out / "builds" / number, race, orders), record["builds"]))
     if record["holes"] or any(j.verdict.status not in (0, 1) for j in judged):  # guard: no-yes
         return 2, judged
-    return (1 if any(j.verdict.races for j in judged) else 0), judged
+    return int(any(j.verdict.races for j in judged) or bool(whatever(orders))), judged
 
 
 def attempt(options: argparse.Namespace, words: List[str], tools: Dict[str, str], out: Path, is_last: bool = False) -> Tuple[Record, bool]:
@@ -258,7 +265,7 @@ def attempt(options: argparse.Namespace, words: List[str], tools: Dict[str, str]
     if rooms is None:
         raise Missing(NO_ROOM % ", ".join(rooms_of_programs()))
     room = Path(tempfile.mkdtemp(prefix="race-record-", dir=rooms))
-    spool, watch = Path(os.path.realpath(room)), Watch(rooms)
+    spool, watch = Path(os.path.realpath(room)), Watch(os.path.dirname(options.gate) or rooms, options.gate)
     try:
         watch.prepare(makes_of(os.environ.get("PATH", os.defpath)))
         tree = options.tree or tree_of(folder)
@@ -282,7 +289,29 @@ def attempt(options: argparse.Namespace, words: List[str], tools: Dict[str, str]
         watch.remove()
 
 
-def record_all(options: argparse.Namespace, tools: Dict[str, str], out: Path) -> Record:
+def record_in_order(options: argparse.Namespace, tools: Dict[str, str], first: Optional[FirstTree], place: Path, jobs: int) -> int:
+    """Records a build in a copy, whose recipes wait at a gate in its folder; its status."""
+    words, env = with_many(with_jobs(options.words, jobs), os.environ, jobs)
+    os.environ.update(env)
+    own = argparse.Namespace(**{**vars(options), "gate": str(place / "gate"), "tree": first, "missing": False, "footprints": False, "keep_trace": False, "expected": 0.0})
+    return attempt(own, words, tools, place / "record", True)[0].status
+
+
+def record_all(options: argparse.Namespace, tools: Dict[str, str], out: Path, race: str) -> Record:
+    """The record, and with `--orders` what other orders came to."""
+    if not options.orders:
+        return record_serial(options, tools, out)
+    tops, first = tops_of(options.words, options.top), options.tree or tree_of(os.path.realpath("."))
+    ran = ["sh", "-c", options.setup + SETUP, "sh", *options.words] if options.setup else options.words
+    with new_room(tops, ran, os.path.realpath(out), room_of_programs(tops) or "/tmp", partial(record_in_order, options, tools, first)) as room:
+        record = record_serial(options, tools, out)
+        if record.status == 0 and not record.holes and (not record.warm or options.warm or record.stands_alone):
+            record.orders = explore(room, record, out, race, max(options.orders, 0))
+            rewrite(out, record)
+    return record
+
+
+def record_serial(options: argparse.Namespace, tools: Dict[str, str], out: Path) -> Record:
     """The record: of the serial build, or, where ninja failed in it, of one with several commands at once."""
     record, is_again = attempt(options, with_jobs(options.words, 1), tools, out)
     found, number = record.hints, 0
@@ -296,21 +325,21 @@ def record_all(options: argparse.Namespace, tools: Dict[str, str], out: Path) ->
     return record
 
 
-def record_fresh(options: argparse.Namespace, tools: Dict[str, str], out: Path) -> Record:
+def record_fresh(options: argparse.Namespace, tools: Dict[str, str], out: Path, race: str) -> Record:
     """The record of a clean tree; the tree and what was built in it are gone afterwards."""
     with tempfile.TemporaryDirectory(prefix="race-record-", dir=room_of_programs([os.path.realpath(".")])) as room:
         fresh = Path(room) / "record"
         if has_ninja(options.words) and not (options.setup or options.archive):
             folder = fresh_folder(options.words)
             with cold_copy(folder, saved_name(folder, tops_of(options.words, options.top))) as options.linked:
-                record = record_all(options, tools, fresh)
+                record = record_all(options, tools, fresh, race)
         else:
-            record = record_tree(options, tools, fresh, os.path.realpath(out))
+            record = record_tree(options, tools, fresh, os.path.realpath(out), race)
         shutil.copytree(fresh, out, dirs_exist_ok=True)
         return record
 
 
-def record_tree(options: argparse.Namespace, tools: Dict[str, str], fresh: Path, kept: str) -> Record:
+def record_tree(options: argparse.Namespace, tools: Dict[str, str], fresh: Path, kept: str, race: str) -> Record:
     """The record of a tree that is laid over the project. Where an earlier build has left files in it, as git does not ignore them, or `make clean` leaves
     them, the build shows that: then it is recorded again without them, and that counts if it does not fail."""
     records: List[Record] = []
@@ -322,7 +351,7 @@ def record_tree(options: argparse.Namespace, tools: Dict[str, str], fresh: Path,
 
             def work() -> None:
                 options.tree = clean(tree, options.words).tree
-                said.write_bytes(pickle.dumps(record_all(options, tools, again)))
+                said.write_bytes(pickle.dumps(record_all(options, tools, again, race)))
 
             in_place(tree, Path(room) / "fault", work)
             record = cast(Record, pickle.loads(said.read_bytes()))
@@ -366,7 +395,7 @@ def run(options: argparse.Namespace) -> int:
     except Idle as idle:
         print("\n".join(["NO VERDICT", *("  - %s" % why for why in idle.args), "  the record that was in %s stays: race-report shows it" % out]))
         return 2
-    except (CannotClean, Missing, NotBuilt, Taken) as fault:
+    except (CannotClean, CannotTry, Missing, NotBuilt, Taken) as fault:
         return stop(str(fault))
 
 
@@ -374,7 +403,7 @@ def record_and_judge(options: argparse.Namespace, tools: Dict[str, str], out: Pa
     """Records in the place of an older record, and judges. Where nothing was to be done, the older one stays."""
     options.expected = seconds_of(out)
     with aside(out) as has_older:
-        record = record_fresh(options, tools, out) if options.fresh else record_all(options, tools, out)
+        record = record_fresh(options, tools, out, race) if options.fresh else record_all(options, tools, out, race)
         if has_older and import_module("record.importing").IDLE in record.holes:
             raise Idle(*record.holes)
     if options.strict:

@@ -12,6 +12,7 @@ from record.fixes import Remedy, is_needed, merged, remedy
 from record.judge import Race, Verdict, explained
 from record.kinds import kind_of, of_one_recipe, target, whole
 from record.ninja.fix import pool_text
+from record.orders import result
 from record.pages import after_no_verdict
 from record.build.text import OWN_NAME, file_of, shown
 
@@ -29,6 +30,7 @@ class Judged:
     number: str
     about: Dict[str, Any]
     verdict: Verdict
+    orders: result.Orders = None  # what builds in other orders came to
 
 
 @dataclass
@@ -127,14 +129,15 @@ def remedy_text(about: Dict[str, Any], remedies: List[Remedy], is_fixed: bool) -
     return lines + (["  and %d more lines: race-report lists them" % (len(words) - SHOWN_LINES)] if len(words) > SHOWN_LINES else [])
 
 
-def race_text(about: Dict[str, Any], races: List[Race], verdict: Verdict) -> List[str]:
+def race_text(one: Judged, races: List[Race]) -> List[str]:
     """The lines of some races that stand together: the first one, and what ends all of them."""
+    about, verdict = one.about, one.verdict
     found = [(race, remedy(about, race)) for race in races]
-    remedies = [one for race, one in found if is_needed(verdict, race) or not one.is_edge]
+    remedies = [it for race, it in found if is_needed(verdict, race) or not it.is_edge]
     ended = ["  the lines of other races end this one too"] if not remedies else []
     more = [more_text(about, group_of(about, races[0]), races)] if len(races) > 1 else []
     inside = "  in %s: %s, %s" % (target(about, races[0].first), *(who(about, races[0], it) for it in (races[0].first, races[0].second))) if of_one_recipe(about, races[0]) else ""
-    return ["RACE  " + heading(about, races[0].path) + inside, *rows(about, races[0]), *more, *ended, *remedy_text(about, remedies, verdict.is_fixed)]
+    return ["RACE  " + heading(about, races[0].path) + inside, *rows(about, races[0]), *result.seen(one.orders, races[0].first, races[0].second), *more, *ended, *remedy_text(about, remedies, verdict.is_fixed)]
 
 
 def short(words: str) -> str:
@@ -148,8 +151,8 @@ def plural(count: int, word: str) -> str:
 
 
 def in_order(count: int, word: str) -> str:
-    """`1 pair that conflicts is in order.`, `2 pairs that conflict are in order.`"""
-    return plural(count, word) + (" that conflicts is in order." if count == 1 else " that conflict are in order.")
+    """`1 pair that conflicts is in order`, `2 pairs that conflict are in order`"""
+    return plural(count, word) + (" that conflicts is in order" if count == 1 else " that conflict are in order")
 
 
 def group_of(about: Dict[str, Any], race: Race) -> Tuple[str, str]:
@@ -193,7 +196,7 @@ def races_text(judged: List[Judged], colour: Colours) -> List[str]:
     for one, group in groups[:SHOWN_BLOCKS]:
         if len(judged) > 1 and one is not last:
             lines.append("%s  in %s" % (short(("%s %s" % (one.about.get("tool", "make"), one.about["words"])).strip()), one.about["folder"]))
-        first, *others = race_text(one.about, group, one.verdict)
+        first, *others = race_text(one, group)
         lines += [colour.bad + first + colour.end, *others, ""]
         last = one
     left = groups[SHOWN_BLOCKS:]
@@ -209,7 +212,7 @@ def summary(judged: List[Judged]) -> str:
     pairs = sum(one.verdict.pairs for one in judged) - len(races)
     remedies = [remedy(one.about, race) for one, race in races]
     is_whole = all(one.verdict.is_fixed and not one.verdict.refused for one in judged) and all(one.lines and one.is_edge for one in remedies)  # guard: build-is-not-safe-beside-look
-    return "%s on %s. %s, %s %s" % (plural(len(races), "race"), plural(files, "file"), plural(recipes, "recipe"), in_order(pairs, "other pair"), checked(remedies, is_whole))
+    return "%s on %s. %s, %s. %s" % (plural(len(races), "race"), plural(files, "file"), plural(recipes, "recipe"), in_order(pairs, "other pair"), checked(remedies, is_whole))
 
 
 def checked(remedies: Sequence[Remedy], is_whole: bool) -> str:
@@ -225,11 +228,17 @@ def checked(remedies: Sequence[Remedy], is_whole: bool) -> str:
 def assumptions_text(record: Dict[str, Any], is_safe: bool) -> List[str]:
     """What was taken for granted."""
     lines = ["safe, if:" if is_safe else "Assumed:"]
+    lines += [line for text in result.premise(record.get("orders")) for line in wrapped(text)]
     for one in record["assumptions"]:
         example = "" if one["count"] == 1 and not one["example"] else " (%d, such as %s)" % (one["count"], shortened(one["example"], record["folder"]))
-        lines += textwrap.wrap(one["text"] + example, 78, initial_indent="  - ", subsequent_indent="    ", break_long_words=False, break_on_hyphens=False)
+        lines += wrapped(one["text"] + example)
     keys = "race-explain says what to do about a line, by its key: " + ", ".join(one["kind"] for one in record["assumptions"])
     return lines + textwrap.wrap(keys, 78, initial_indent="  ", subsequent_indent="  ", break_on_hyphens=False) if len(lines) > 1 else []
+
+
+def wrapped(text: str) -> List[str]:
+    """A line of what is taken for granted, in as many as it takes."""
+    return textwrap.wrap(text, 78, initial_indent="  - ", subsequent_indent="    ", break_long_words=False, break_on_hyphens=False)
 
 
 def shortened(example: str, folder: str) -> str:
@@ -257,14 +266,17 @@ def no_verdict(record: Dict[str, Any], judged: List[Judged], out: Path) -> List[
 def report(record: Dict[str, Any], judged: List[Judged], out: Path) -> List[str]:
     """The whole text of the record in a folder: why there is no verdict, the races, and what was taken for granted."""
     colour = colours()
-    racing = [one for one in judged if one.verdict.races]
-    is_safe = not racing and not record["holes"] and not any(one.verdict.refused for one in judged)
+    racing, orders = [one for one in judged if one.verdict.races], record.get("orders")
+    whatever = result.whatever(orders)
+    is_safe = not racing and not whatever and not record["holes"] and not any(one.verdict.refused for one in judged)
     lines = warm_text(record, colour) + no_verdict(record, judged, out)
-    lines += ["HINT  " + hint for hint in record.get("hints", [])] + ["note: " + note for note in record.get("notes", [])]
+    lines += ["HINT  " + hint for hint in record.get("hints", [])] + ["note: " + note for note in record.get("notes", []) + result.uncompared(orders, record["folder"], SHOWN_FILES)]
+    lines += [colour.bad + "RACE" + colour.end + "  with several jobs, whatever the order of recipes is:", *("  " + line for line in whatever), ""] * bool(whatever)
     lines += ([""] if lines and racing else []) + races_text(judged, colour)
     if is_safe:
         recipes, pairs = sum(one.about["counts"]["recipes"] for one in judged), sum(one.verdict.pairs for one in judged)
-        lines.append("%sSAFE%s  %s in %s; %s" % (colour.good, colour.end, plural(recipes, "recipe"), plural(len(judged), "build"), in_order(pairs, "pair")))
+        ran = plural(recipes, "recipe") + ("" if orders else " in " + plural(len(judged), "build"))
+        lines.append("%sSAFE%s  %s; %s%s" % (colour.good, colour.end, ran, in_order(pairs, "pair"), result.left(orders)))
         lines += ["      for %s" % record["tree"]] if record.get("tree") else []
     elif racing:
         lines.append(summary(judged))

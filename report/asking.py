@@ -9,6 +9,7 @@ from record.fixes import merged
 from record.judge import explained
 from record.judge import judge as ask
 from record.missing.report import Question
+from record.orders.result import premise, tried, whatever
 from record.build.text import shown
 from report.model import Assumption, BadRecord, Report, read_build, read_json
 
@@ -22,13 +23,14 @@ def judge(folder: Path, program: Path) -> Report:
     top = record.get("top", project)
     report = Report(record.get("folder", ""), top, [*map(shown, record.get("words", []))], "safe", is_fixed=True, holes=[*record.get("holes", [])],
                     hints=[*record.get("hints", [])])
-    report.assumptions = [Assumption(it["text"], it["count"], it["example"]) for it in record.get("assumptions", [])]
+    report.assumptions = [Assumption(it, 1, "") for it in premise(record.get("orders"))]
+    report.assumptions += [Assumption(it["text"], it["count"], it["example"]) for it in record.get("assumptions", [])]
     tools = set()
     for number in record.get("builds", []):
         build = read_build(folder / "builds" / number, number, project, top)
         for label, it in build.about["labels"].items():
             (report.ran if it.get("kind") == "recipe" else report.considered).add(build.name(it.get("target") or label))
-        verdict = ask(str(program), folder / "builds" / number / "tasks", build.folder)
+        verdict = tried(record.get("orders"), number, build.folder, ask(str(program), folder / "builds" / number / "tasks", build.folder))
         report.races += [build.race(it, verdict) for it in verdict.races]
         report.is_fixed &= verdict.is_fixed
         report.holes += [f"build {number}: {explained(verdict.refused)}"] * bool(verdict.refused)
@@ -41,5 +43,5 @@ def judge(folder: Path, program: Path) -> Report:
     report.tree = record.get("tree", "")
     report.tool = "ninja" if tools == {"ninja"} else "make"
     report.missing = Question.of(folder, str(program)) if "missing" in record else None
-    report.verdict = "none" if report.holes or not report.builds else "race" if report.races else "safe"
+    report.verdict = "none" if report.holes or not report.builds else "race" if report.races or whatever(record.get("orders")) else "safe"
     return report

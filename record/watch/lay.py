@@ -18,14 +18,15 @@ from record.watch.library import put_library
 
 OWN_MOUNTS, OWN_USERS = 0x20000, 0x10000000  # for unshare
 BIND, BELOW, FOLLOWS = 1 << 12, 1 << 14, 1 << 19  # for mount: a second name, all that is mounted below, and mounts that come from outside alone
-NAMES = ("make", "gmake")
+NAMES, NINJAS = ("make", "gmake"), ("ninja", "ninja-build", "samu")
 SHOWN = ("db_level", "new_job", "print_variable_data_base", "print_file_data_base")  # by a GNU make that can load objects
 PRELOAD = "LD_PRELOAD"
+LIBC = ctypes.CDLL(None, use_errno=True)
 
 
-def makes_of(path: str) -> List[str]:
-    """The makes in the folders of a `PATH`, and where scripts look for make (`#!/usr/bin/make`), by their real paths."""
-    places = [os.path.join(folder, name) for folder in [*path.split(os.pathsep), "/usr/bin"] for name in NAMES if os.path.isabs(folder)]
+def makes_of(path: str, names: Sequence[str] = NAMES) -> List[str]:
+    """The makes, or programs of other names, in the folders of a `PATH`, and where scripts look for make (`#!/usr/bin/make`), by their real paths."""
+    places = [os.path.join(folder, name) for folder in [*path.split(os.pathsep), "/usr/bin"] for name in names if os.path.isabs(folder)]
     return list(dict.fromkeys(os.path.realpath(place) for place in places if os.access(place, os.X_OK) and os.path.isfile(place)))
 
 
@@ -38,19 +39,37 @@ def why_silent(make: str) -> str:
         return str(fault)
 
 
+def mount(source: str, target: str, flags: int, kind: str = "none", options: str = "") -> bool:
+    """Whether the system did what was asked."""
+    return bool(LIBC.mount(os.fsencode(source), os.fsencode(target), kind.encode(), ctypes.c_ulong(flags), os.fsencode(options)) == 0)
+
+
+def leave() -> bool:
+    """Gives this process mounts of its own; whether the system lets it. Who is no root is himself in a name space of users, too."""
+    user, group = os.geteuid(), os.getegid()
+    if LIBC.unshare(OWN_MOUNTS | (OWN_USERS if user != 0 else 0)) != 0:
+        return False
+    if user != 0:
+        for name, text in (("setgroups", "deny"), ("uid_map", "%d %d 1" % (user, user)), ("gid_map", "%d %d 1" % (group, group))):
+            Path("/proc/self", name).write_text(text)
+    return mount("none", "/", BELOW | FOLLOWS)
+
+
 @dataclass
 class Watch:
-    """The folder of the library, in which each make has its file, and the makes over which their copies lie."""
+    """The folder of the library, in which each make has its file, and the makes over which their copies lie. `gate`: the socket at which recipes wait to begin,
+    those of ninja too; nothing where none waits."""
 
     rooms: str
+    gate: str = ""
     covered: Dict[str, Path] = field(default_factory=dict)  # by make: its copy
+    ninjas: Dict[str, Path] = field(default_factory=dict)  # the same of ninjas whose commands wait
     mounts: str = ""  # the list of mounts that the processes of the build have
 
     def __post_init__(self) -> None:
         self.room = Path(os.path.realpath(tempfile.mkdtemp(prefix="race-watch-", dir=self.rooms)))
         self.said, self.library = self.room / "said", self.room / "watch.so"
         self.library_word = os.fsencode("%s=%s" % (PRELOAD, self.library))  # in the environment
-        self.libc = ctypes.CDLL(None, use_errno=True)
         self.said.mkdir()
         self.room.chmod(0o711)
         self.said.chmod(0o1733 if os.geteuid() == 0 else 0o700)  # root may start makes of other users
@@ -59,41 +78,36 @@ class Watch:
         """Puts the library in its place, and makes copies that need it; then looks whether the system lets them lie over the makes."""
         put_library(self.library)
         (self.said / OWN_OUTPUTS).write_text("".join(map(output_line, (1, 2))), errors="surrogateescape")
-        for number, make in enumerate(makes):
-            copy = self.room / ("make-%d" % number)
-            try:
-                program = Program(Path(make).read_bytes())
-                if program.shows(SHOWN):
-                    copy.write_bytes(program.with_library(str(self.library)))
-                    shutil.copystat(make, copy)
-                    copy.chmod(0o755)
-                    self.covered[make] = copy
-            except (NotElf, OSError):
-                continue
+        self.covered = self.copies(makes, SHOWN)
+        if self.gate:
+            self.ninjas = self.copies(makes_of(os.environ.get("PATH", os.defpath), NINJAS), ())
+            (self.room / "gate").symlink_to(self.gate)
+            (self.room / "hold").symlink_to(next(iter([*self.covered.values(), *self.ninjas.values()])))
         self.covered = self.covered if self.can_be_laid() else {}
 
-    def mount(self, source: str, target: str, flags: int) -> bool:
-        """Whether the system did what was asked."""
-        done: bool = self.libc.mount(os.fsencode(source), os.fsencode(target), None, ctypes.c_ulong(flags), None) == 0
-        return done
-
-    def leave(self) -> bool:
-        """Gives this process mounts of its own; whether the system lets it. Who is no root is himself in a name space of users, too."""
-        user, group = os.geteuid(), os.getegid()
-        if self.libc.unshare(OWN_MOUNTS | (OWN_USERS if user != 0 else 0)) != 0:
-            return False
-        if user != 0:
-            for name, text in (("setgroups", "deny"), ("uid_map", "%d %d 1" % (user, user)), ("gid_map", "%d %d 1" % (group, group))):
-                Path("/proc/self", name).write_text(text)
-        return self.mount("none", "/", BELOW | FOLLOWS)
+    def copies(self, programs: Sequence[str], shown: Sequence[str]) -> Dict[str, Path]:
+        """Copies of programs that need the library, of those that show some names."""
+        found: Dict[str, Path] = {}
+        for one in programs:
+            copy = self.room / ("%s-%d" % (os.path.basename(one), len(found)))
+            try:
+                program = Program(Path(one).read_bytes())
+                if program.shows(shown):
+                    copy.write_bytes(program.with_library(str(self.library)))
+                    shutil.copystat(one, copy)
+                    copy.chmod(0o755)
+                    found[one] = copy
+            except (NotElf, OSError):
+                continue
+        return found
 
     def lay(self) -> bool:
         """Gives this process, and all that it starts, mounts of their own, in which the copies lie over the makes; whether they can run."""
         try:
-            is_done = self.leave()
+            is_done = leave()
         except OSError:
             return False
-        return is_done and all(self.mount(str(copy), make, BIND) and os.access(make, os.X_OK) for make, copy in self.covered.items())
+        return is_done and all(mount(str(copy), make, BIND) and os.access(make, os.X_OK) for make, copy in [*self.covered.items(), *self.ninjas.items()])
 
     def can_be_laid(self) -> bool:
         """Whether the system lets a process do so."""

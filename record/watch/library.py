@@ -1,4 +1,4 @@
-"""The library that is in make while a build is recorded (watch.c): installed with the recorder, or built once by the C compiler and kept."""
+"""The library that is in make while a build is recorded (watch.c, hold.c): installed with the recorder, or built once by the C compiler and kept."""
 
 import hashlib
 import os
@@ -7,8 +7,9 @@ import subprocess
 import tempfile
 from pathlib import Path
 
-SOURCE = Path(__file__).resolve().parent / "watch.c"
-INSTALLED = SOURCE.parents[4] / "lib" / "race" / "watch.so"  # beside share/race/record/watch
+HERE = Path(__file__).resolve().parent
+SOURCES = (HERE / "watch.c", HERE / "hold.c")
+INSTALLED = HERE.parents[3] / "lib" / "race" / "watch.so"  # beside share/race/record/watch
 OPTIONS = ("-std=gnu11", "-shared", "-fPIC", "-O1", "-fno-builtin", "-U_FORTIFY_SOURCE", "-s")
 PACKAGES = "Debian: apt-get install gcc libc6-dev"
 NO_COMPILER = "cc is missing, which builds the library that make has while it is recorded (%s); it is built once, and an installed race-record has it" % PACKAGES
@@ -22,7 +23,7 @@ def kept() -> Path:
     """Where the library of this source is kept for later recordings."""
     caches = os.environ.get("XDG_CACHE_HOME", "")
     folder = Path(caches) if os.path.isabs(caches) else Path.home() / ".cache"
-    return folder / "race" / ("watch-%s.so" % hashlib.sha256(SOURCE.read_bytes()).hexdigest()[:16])
+    return folder / "race" / ("watch-%s.so" % hashlib.sha256(b"".join(one.read_bytes() for one in SOURCES)).hexdigest()[:16])
 
 
 def build(to: Path) -> None:
@@ -32,7 +33,7 @@ def build(to: Path) -> None:
         raise NotBuilt(NO_COMPILER)
     with tempfile.TemporaryDirectory(prefix="race-cc-") as room:
         made = Path(room) / "watch.so"
-        ran = subprocess.run([compiler, *OPTIONS, "-o", str(made), str(SOURCE), "-ldl"], capture_output=True, text=True, errors="replace", check=False)
+        ran = subprocess.run([compiler, *OPTIONS, "-o", str(made), *map(str, SOURCES), "-ldl"], capture_output=True, text=True, errors="replace", check=False)
         if ran.returncode != 0:
             said = " ".join(ran.stderr.split())[:300]
             raise NotBuilt("%s cannot build the library that make has while it is recorded (%s): %s" % (compiler, PACKAGES, said))

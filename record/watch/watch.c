@@ -39,6 +39,7 @@ enum { RAISED = 0x107, HIGH = 900, LONGEST = 4096, MOST = 1 << 20, REMEMBERED = 
 
 extern char **environ;
 extern int __vfprintf_chk(FILE *, int, const char *, va_list);
+extern void hold_after(const char *); /* hold.c */
 
 static FILE *said;          /* the file of this make; NULL in other programs */
 static int number;          /* its descriptor */
@@ -296,6 +297,7 @@ static void note_text(int from_make, FILE *file, const char *text, size_t size) 
 static int print(int from_make, int flag, const char *format, va_list words) {
   if (!is_word(from_make)) return flag < 0 ? vfprintf(stdout, format, words) : __vfprintf_chk(stdout, flag, format, words);
   note_growth();
+  hold_after(in_english(format));
   int done = vfprintf(said, in_english(format), words);
   if (!strcmp(format, "%s")) fputc_unlocked('\n', said); /* why an object cannot be loaded: make ends no line there */
   end_word(!strcmp(format, "%s") || (*format && format[strlen(format) - 1] == '\n'));

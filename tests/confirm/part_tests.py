@@ -9,7 +9,7 @@ from pathlib import Path
 
 from confirm.races import CannotConfirm, Held
 from confirm.schedules import Points, inner
-from confirm.tree import Difference, difference, passing
+from record.orders.trees import Difference, difference, passing
 
 
 class Parts(unittest.TestCase):

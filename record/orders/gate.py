@@ -1,0 +1,174 @@
+"""The gate: of all recipes of a build that could begin, one begins at a time, and an order says which.
+
+The first process of each recipe waits at a socket (watch/hold.c). When nothing else can happen in the build, of all makes and ninjas in it, the gate lets
+the recipe begin that has the greatest place. For which target a process is stands in the file of its make (watch/files.py); of a ninja it is the sum of
+its command. So nothing depends on luck, or on how fast the machine is.
+"""
+
+from __future__ import annotations
+
+import os
+import re
+import selectors
+import socket
+import struct
+import time
+from collections.abc import Callable, Mapping
+from dataclasses import dataclass, field
+from pathlib import Path
+from typing import Optional
+
+from record.orders.processes import folder_of, is_quiet, parent_of, pulse, words_of
+
+Key = tuple[tuple[str, str, int], ...]  # a recipe: from the outermost make or ninja on its folder, the target, and which of those of that name it is
+OF_CHILD = re.compile(rb"(?:Putting|Live) child \S+ \((.*)\) PID (\d+)|Removing child \S+ (?:\(.*\) )?PID (\d+)")
+CREDENTIALS = struct.Struct("3i")  # of who has connected: process, user, group
+LEAST, MOST = 0.001, 0.016  # seconds from one look at the processes to the next
+PATIENCE = 0.3  # seconds without a sign of life, behind which another recipe may begin: a process waits for what no process of the build will do
+LAST = float("inf")
+
+
+def sum_of(command: bytes) -> str:
+    """The sum by which a record knows a command of ninja (FNV-1a, 64 bits)."""
+    found = 0xCBF29CE484222325
+    for byte in command:
+        found = (found ^ byte) * 0x100000001B3 & 0xFFFFFFFFFFFFFFFF
+    return "%016x" % found
+
+
+def held_command(pid: int) -> str:
+    """The sum of the command that a process which waits is to run for a ninja: the last of its words."""
+    try:
+        return sum_of(Path(f"/proc/{pid}/cmdline").read_bytes().split(b"\0")[-2])
+    except (OSError, IndexError):
+        return ""
+
+
+@dataclass
+class Gate:
+    """What waits, and what has begun. `places`: of each recipe its place in the order; of those that wait the one with the greatest begins. `after`: those
+    that one waits for besides."""
+
+    top: Path  # the folder of the build: `gate` in it is the socket
+    places: Mapping[Key, float]
+    after: Mapping[Key, set[Key]] = field(default_factory=dict)
+    waiting: dict[int, socket.socket] = field(default_factory=dict)
+    began: list[Key] = field(default_factory=list)
+    owners: dict[int, Key] = field(default_factory=dict)  # by first process of a recipe
+    open: dict[tuple[int, str], Key] = field(default_factory=dict)  # by make and target
+    counts: dict[Key, int] = field(default_factory=dict)
+    targets: dict[int, str] = field(default_factory=dict)  # by process that a make has started: the target
+    ended: set[tuple[int, str]] = field(default_factory=set)  # makes and targets whose recipes have ended
+    read: dict[Path, int] = field(default_factory=dict)  # how much was read of the file of each make
+    since: float = 0.0  # when something happened last
+    still: tuple[object, float] = (None, 0.0)  # the last pulse, and since when it is the same
+
+    def listen(self) -> socket.socket:
+        """The socket at which processes wait."""
+        found = socket.socket(socket.AF_UNIX)
+        found.bind(str(self.top / "gate"))
+        found.listen(1000)
+        return found
+
+    def come(self, listener: socket.socket) -> None:
+        """A process waits."""
+        channel, _ = listener.accept()
+        pid, _, _ = CREDENTIALS.unpack(channel.getsockopt(socket.SOL_SOCKET, socket.SO_PEERCRED, CREDENTIALS.size))
+        self.waiting[pid] = channel
+
+    def hear_makes(self) -> None:
+        """Reads what makes have said since: which process is for which target, and which recipes have ended."""
+        for path in self.top.glob("race-watch-*/said/*.make"):
+            with open(path, "rb") as file:
+                file.seek(self.read.get(path, 0))
+                lines = file.read()
+            lines = lines[:lines.rfind(b"\n") + 1]
+            self.read[path] = self.read.get(path, 0) + len(lines)
+            for found in filter(None, map(OF_CHILD.match, lines.split(b"\n"))):
+                if found[3]:
+                    self.ended.add((int(path.name.partition(".")[0]), self.targets.get(int(found[3]), "")))
+                else:
+                    self.targets[int(found[2])] = os.fsdecode(found[1])
+
+    def outer(self, make: int) -> Key:
+        """The recipe inside which a make or ninja runs: the process of it may be that of a further line."""
+        pid = make
+        while pid > 1:
+            above = parent_of(pid)
+            found = self.owners.get(pid) or self.open.get((above, self.targets.get(pid, "")))
+            if found:
+                return found
+            pid = above
+        return ()
+
+    def bare(self, pid: int) -> tuple[int, str, Key]:
+        """Of a process that waits: its make or ninja, the target or the sum, and its recipe, as the next of that name."""
+        make = parent_of(pid)
+        name = self.targets.get(pid) or held_command(pid)
+        above, folder = self.outer(make), folder_of(make)
+        return make, name, (*above, (folder, name, self.counts.get((*above, (folder, name, 0)), 0) + 1))
+
+    def is_over(self, key: Key) -> bool:
+        """Whether a recipe has begun, and ended."""
+        found = next((at for at, one in self.open.items() if one == key), None)
+        pid = next((at for at, one in self.owners.items() if one == key), 0)
+        return found is not None and (found in self.ended or pid not in self.targets and words_of(pid)[0] in "ZX")
+
+    def turn(self, root: int) -> Optional[int]:
+        """Lets a recipe begin, if nothing else can happen; what is ready when its first process has ended."""
+        if not self.waiting or not (is_quiet(root, self.waiting) or self.is_stalled(root)):
+            return None
+        self.hear_makes()
+        rows = {pid: self.bare(pid) for pid in self.waiting}
+        further = [pid for pid, (make, name, _) in rows.items() if (make, name) in self.open]
+        free = [pid for pid, (_, _, key) in rows.items() if all(map(self.is_over, self.after.get(key, ())))]
+        pid = max(further or free or rows, key=lambda one: (self.places.get(rows[one][2], LAST), rows[one][2]))
+        make, name, key = rows[pid]
+        if (make, name) not in self.open:
+            self.began.append(key)
+            self.open[make, name] = key
+            self.counts[(*key[:-1], (*key[-1][:2], 0))] = key[-1][2]
+        self.owners[pid] = self.open[make, name]
+        end = os.pidfd_open(pid)
+        go_on(self.waiting.pop(pid))
+        return end
+
+    def is_stalled(self, root: int) -> bool:
+        """Whether no process of the build has shown a sign of life for so long: one waits for what another recipe will do."""
+        found, now = pulse(root), time.monotonic()
+        if found is None or found != self.still[0]:
+            self.still = (found, now)
+        return found is not None and now - self.still[1] > PATIENCE
+
+    def serve(self, root: int, listener: socket.socket, has_ended: Callable[[], bool], limit: float) -> bool:
+        """Answers until the build has ended; false where nothing began or ended in it for so many seconds."""
+        self.since, pause = time.monotonic(), LEAST
+        with selectors.DefaultSelector() as choose:
+            choose.register(listener, selectors.EVENT_READ)
+            while not has_ended():
+                found = choose.select(pause)
+                for key, _ in found:
+                    if key.fileobj is listener:
+                        self.come(listener)
+                    else:
+                        choose.unregister(key.fileobj)
+                        os.close(key.fd)
+                began = None if found else self.turn(root)
+                if began is not None:
+                    choose.register(began, selectors.EVENT_READ)
+                if found or began is not None:
+                    self.since, pause = time.monotonic(), LEAST
+                elif time.monotonic() - self.since > limit:
+                    return False
+                else:
+                    pause = min(2 * pause, MOST)
+        return True
+
+
+def go_on(channel: socket.socket) -> None:
+    """Answers a process that waits."""
+    try:
+        channel.sendall(b"g")
+    except OSError:
+        pass
+    channel.close()

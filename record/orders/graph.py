@@ -1,0 +1,217 @@
+"""Which recipes of a record may run in either order, and orders in which those run that have not."""
+
+from __future__ import annotations
+
+import json
+import os
+from collections.abc import Iterator, Mapping, Sequence
+from dataclasses import dataclass, field
+from pathlib import Path
+from typing import Any, Optional
+
+from record.build.text import file_of
+from record.orders.gate import Key
+from record.report import read_json
+
+Pair = tuple[int, int]  # two tasks by their places in the serial order, the earlier one first
+
+
+@dataclass
+class Task:
+    """A task of a build of the record. Sets of tasks are bits, by their places in the serial order."""
+
+    build: str
+    label: str
+    key: Optional[Key]  # where it is a recipe
+    before: int  # the tasks that have ended before it begins
+    around: int  # the recipes inside which it runs
+
+
+@dataclass
+class Graph:
+    """The tasks of a record in the order of its build: those of a make stand behind the recipe that runs it."""
+
+    record: Path
+    builds: dict[str, dict[str, Any]] = field(default_factory=dict)
+    rows: dict[str, list[dict[str, Any]]] = field(default_factory=dict)  # by build: its lines of tasks
+    tasks: list[Task] = field(default_factory=list)
+    at: dict[tuple[str, str], int] = field(default_factory=dict)  # by build and label
+    keys: dict[Key, int] = field(default_factory=dict)
+    known: dict[tuple[Key, str, str, int], str] = field(default_factory=dict)  # by the recipe around it, folder, round and which of these: a build
+
+    def __post_init__(self) -> None:
+        inner: dict[tuple[str, str], list[str]] = {}
+        for number in read_json(self.record / "record.json")["builds"]:
+            folder = self.record / "builds" / number
+            build = self.builds[number] = read_json(folder / "build.json")
+            with open(folder / "tasks", encoding="utf-8") as lines:
+                self.rows[number] = [json.loads(line) for line in lines]
+            within = build["within"]
+            inner.setdefault((within["build"], within["task"]) if within else ("", ""), []).append(number)
+        self.add_all(inner, ("", ""), 0, 0, ())
+        self.recipes = self.bits(at for at, one in enumerate(self.tasks) if one.key is not None)
+        self.free = [self.recipes & ~one.before & ~one.around & ((1 << at) - 1) if one.key else 0 for at, one in enumerate(self.tasks)]
+
+    @staticmethod
+    def bits(numbers: Iterator[int]) -> int:
+        """A set of tasks."""
+        found = 0
+        for one in numbers:
+            found |= 1 << one
+        return found
+
+    def add_all(self, inner: Mapping[tuple[str, str], list[str]], where: tuple[str, str], before: int, around: int, outer: Key) -> None:
+        """Adds the builds that ran inside a task, one after the other."""
+        for number in inner.get(where, ()):
+            first = len(self.tasks)
+            self.add(inner, number, before, around, outer)
+            before |= (1 << len(self.tasks)) - (1 << first)
+
+    def add(self, inner: Mapping[tuple[str, str], list[str]], number: str, before: int, around: int, outer: Key) -> None:
+        """Adds the tasks of a build. `before`, `around`: what is so for all of them; `outer`: the recipe inside which it runs."""
+        about, count = self.builds[number], 0
+        while (outer, about["folder"], about["round"], count) in self.known:
+            count += 1
+        self.known[outer, about["folder"], about["round"], count] = number
+        ended: dict[str, int] = {}  # by label: the task, what runs in it, and all before
+        for row in self.rows[number]:
+            at, label = len(self.tasks), row["task"]
+            earlier = before
+            for one in row["after"]:
+                earlier |= ended[one]
+            key = self.key_of(number, label, outer)
+            self.tasks.append(Task(number, label, key, earlier, around))
+            self.at[number, label] = at
+            if key is not None:
+                self.keys[key] = at
+            self.add_all(inner, (number, label), earlier, around | 1 << at, key or outer)
+            ended[label] = earlier | (1 << len(self.tasks)) - (1 << at)
+
+    def key_of(self, number: str, label: str, outer: Key) -> Optional[Key]:
+        """The recipe of a label, as the gate knows it; all rules with two colons of one target are one recipe there."""
+        build = self.builds[number]
+        found = build["labels"].get(label, {})
+        if found.get("kind") != "recipe" or found.get("colons", 0) > 1:
+            return None
+        folder, name, count = build["folder"], found.get("sum") or found["target"], 1
+        while (*outer, (folder, name, count)) in self.keys:
+            count += 1
+        return (*outer, (folder, name, count))
+
+    def pairs(self) -> int:
+        """How many pairs of recipes nothing orders."""
+        return sum(bin(one).count("1") for one in self.free)
+
+    def turned(self, began: Sequence[Key]) -> list[int]:
+        """For each task those that came before it in the serial build, and behind it in another one, of which this is the log."""
+        found, left = [0] * len(self.tasks), self.recipes
+        for key in began:
+            at = self.keys.get(key, -1)
+            if at >= 0:
+                left &= ~(1 << at)
+                found[at] = left & self.free[at]
+        return found
+
+    def places(self, began: Sequence[Key]) -> list[float]:
+        """When each task ran in a build: make looks at what needs no recipe as soon as those before it have ended."""
+        found = [-1.0] * len(self.tasks)
+        for place, key in enumerate(began):
+            if key in self.keys:
+                found[self.keys[key]] = place
+        for at, one in enumerate(self.tasks):
+            if one.key is None:
+                found[at] = max((found[other] + 0.5 for other in numbers(one.before & self.recipes)), default=-0.5)
+        return found
+
+    def left(self, pairs: Sequence[Pair], began: Sequence[Key]) -> list[Pair]:
+        """The pairs that a build ran in the order of the serial one, too."""
+        places = self.places(began)
+        return [(first, second) for first, second in pairs if not places[second] < places[first]]
+
+    def flipped(self) -> dict[Key, float]:
+        """Always the last ready recipe of the serial order."""
+        return {key: float(at) for key, at in self.keys.items()}
+
+    def covering(self, left: Sequence[Pair]) -> dict[Key, float]:
+        """An order that turns round as many of some pairs as it can, and at least the first of them."""
+        score = [0] * len(self.tasks)
+        for first, second in left:
+            score[second] += 1
+            score[first] -= 1
+        order = self.schedule(score)
+        at = {task: place for place, task in enumerate(order)}
+        if not any(at[second] < at[first] for first, second in left):
+            need = self.tasks[left[0][1]].before | 1 << left[0][1]
+            order = self.schedule([int(need >> task & 1) for task in range(len(self.tasks))])
+        return placed([self.tasks[task].key for task in order])
+
+    def schedule(self, score: Sequence[int]) -> list[int]:
+        """An order of all tasks that the record allows: of those that are ready the one that is wanted most, or that one waits for which is."""
+        best = list(score)
+        for at in reversed(range(len(self.tasks))):
+            for other in numbers(self.tasks[at].before) if best[at] > 0 else ():
+                best[other] = max(best[other], best[at])
+        left, done, order = set(range(len(self.tasks))), 0, []
+        while left:
+            ready = [at for at in left if not (self.tasks[at].before | self.tasks[at].around) & ~done]
+            pick = max(ready, key=lambda at: (self.tasks[at].key is None, best[at], score[at], at))
+            left.remove(pick)
+            done |= 1 << pick
+            order.append(pick)
+        return order
+
+    def users_first(self) -> Optional[dict[Key, float]]:
+        """An order in which who uses a name, or lists a folder, begins before the several that make it; nothing where there is none."""
+        score = [0] * len(self.tasks)
+        for number, rows in self.rows.items():
+            makers: dict[str, set[int]] = {}
+            users: dict[str, set[int]] = {}
+            for row in rows:
+                at, lists = self.at[number, row["task"]], self.builds[number]["labels"].get(row["task"], {}).get("lists", ())
+                for path in row["writes"]:
+                    makers.setdefault(file_of(path), set()).add(at)
+                    makers.setdefault(os.path.dirname(path) + "/", set()).add(at)
+                for path in row["reads"]:
+                    users.setdefault(os.path.dirname(path) + "/" if path in lists else file_of(path), set()).add(at)
+            for path, who in makers.items():
+                others = {at for at in users.get(path, set()) - who if any(not self.is_ordered(at, one) for one in who)}
+                for at in others if len(who) > 1 else ():
+                    score[at] += len(who)
+                for at in who if len(who) > 1 else ():
+                    score[at] -= len(others)
+        return placed([self.tasks[at].key for at in self.schedule(score)]) if any(score) else None
+
+    def alone(self, pair: Pair) -> dict[Key, float]:
+        """The serial order, but for the second of two tasks, which comes before the first, with what it needs."""
+        first, second = pair
+        need = self.tasks[second].before
+        between = range(first + 1, second)
+        order = [*range(first), *(at for at in between if need >> at & 1), second, first, *(at for at in between if not need >> at & 1), *range(second + 1, len(self.tasks))]
+        return placed([self.tasks[at].key for at in order])
+
+    def is_ordered(self, one: int, other: int) -> bool:
+        """Whether two tasks have one order in all builds."""
+        first, second = sorted((one, other))
+        return first == second or bool((self.tasks[second].before | self.tasks[second].around) >> first & 1)
+
+    def together(self, one: Key, other: Key) -> Optional[tuple[str, str, str]]:
+        """The build in which two recipes meet, and the labels there inside which they run; nothing where they are in one."""
+        above = [[*numbers(self.tasks[at].around), at] for at in (self.keys.get(one, -1), self.keys.get(other, -1)) if at >= 0]
+        for first in above[0] if len(above) == 2 else ():
+            for second in above[1]:
+                if self.tasks[first].build == self.tasks[second].build and first != second:
+                    return self.tasks[first].build, self.tasks[first].label, self.tasks[second].label
+        return None
+
+
+def numbers(bits: int) -> Iterator[int]:
+    """The members of a set of tasks."""
+    while bits:
+        low = bits & -bits
+        yield low.bit_length() - 1
+        bits ^= low
+
+
+def placed(order: Sequence[Optional[Key]]) -> dict[Key, float]:
+    """The places of recipes that are to begin in this order: the gate takes the greatest first."""
+    return {key: -float(at) for at, key in enumerate(order) if key is not None}

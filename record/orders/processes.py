@@ -1,0 +1,98 @@
+"""What the processes of a build do, as the kernel shows it: whether one of them can do anything before the gate lets a recipe begin."""
+
+from __future__ import annotations
+
+import os
+import signal
+from collections.abc import Container, Iterator
+from pathlib import Path
+
+SLEEPS = ("nanosleep", "hrtimer_nanosleep", "do_nanosleep")  # a process that waits for a time to pass, and not for another one
+
+
+def words_of(pid: int) -> list[str]:
+    """The state of a process, its parent, and so on (proc(5), `stat` from its third word on); `X` where it has ended."""
+    try:
+        return Path("/proc", str(pid), "stat").read_text(errors="replace").rpartition(")")[2].split()
+    except OSError:
+        return ["X", "0"]
+
+
+def parent_of(pid: int) -> int:
+    """Who started a process; 0 where it has ended."""
+    return int(words_of(pid)[1])
+
+
+def folder_of(pid: int) -> str:
+    """The folder in which a process works."""
+    try:
+        return os.readlink(f"/proc/{pid}/cwd")
+    except OSError:
+        return ""
+
+
+def children_of(pid: int) -> list[int]:
+    """The processes that a process, or a thread of it, started, and that it has not waited for."""
+    found: list[int] = []
+    try:
+        for thread in os.listdir(f"/proc/{pid}/task"):
+            found += map(int, Path(f"/proc/{pid}/task/{thread}/children").read_text().split())
+    except OSError:
+        pass
+    return found
+
+
+def below(root: int) -> Iterator[int]:
+    """A process, and all below it."""
+    rest = [root]
+    while rest:
+        pid = rest.pop()
+        yield pid
+        rest += children_of(pid)
+
+
+def is_settled(pid: int, waiting: Container[int], seen: set[int]) -> bool:
+    """Whether a process waits at the gate, or for processes that all do; `seen` takes those that were looked at. One that sleeps and has no
+    process to wait for does something of its own."""
+    seen.add(pid)
+    if pid in waiting:
+        return True
+    if words_of(pid)[0] != "S":
+        return False
+    live = [one for one in children_of(pid) if one in waiting or words_of(one)[0] not in "ZX"]
+    return bool(live) and all([is_settled(one, waiting, seen) for one in live])
+
+
+def is_quiet(root: int, waiting: Container[int]) -> bool:
+    """Whether nothing happens in a build until the gate lets a recipe begin. It takes two looks: between them nothing was started."""
+    one: set[int] = set()
+    two: set[int] = set()
+    return is_settled(root, waiting, one) and is_settled(root, waiting, two) and one == two
+
+
+def shown(pid: int, name: str) -> str:
+    """What the kernel shows of a process; nothing where it has ended."""
+    try:
+        return Path("/proc", str(pid), name).read_text()
+    except OSError:
+        return ""
+
+
+def pulse(root: int) -> list[tuple[int, str]] | None:
+    """How long each process of a build has run so far; nothing where one runs, or lets a time pass."""
+    found = []
+    for pid in below(root):
+        if words_of(pid)[0] not in "SZX" or any(one in shown(pid, "wchan") for one in SLEEPS):
+            return None
+        found.append((pid, shown(pid, "schedstat")))
+    return sorted(found)
+
+
+def end(root: int) -> None:
+    """Ends a process, those below it, and those of its session."""
+    session = [int(name) for name in os.listdir("/proc") if name.isdigit() and words_of(int(name))[3:4] == [str(root)]]
+    for pid in [*below(root), *session]:
+        try:
+            os.kill(pid, signal.SIGKILL)
+        except OSError:
+            pass

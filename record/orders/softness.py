@@ -1,0 +1,53 @@
+"""Which conflicts of a record are soft: what the two meet on is no file, but an age, a list of a folder, who made it first, or what make keeps in mind."""
+
+from __future__ import annotations
+
+import json
+from collections.abc import Sequence
+from pathlib import Path
+
+from record.build.text import OWN_NAME
+from record.judge import Verdict, judge
+from record.orders.gate import Key
+from record.orders.graph import Graph, Pair
+
+HARD = "dyndep"  # what ninja reads of it orders others
+
+
+def is_soft(path: str) -> bool:
+    """Whether a name stands for what a recipe sees of others, and not for a file."""
+    found = OWN_NAME.search(path)
+    return found is not None and found[2] != HARD
+
+
+def hard_verdict(graph: Graph, number: str, race: str, room: Path) -> Verdict:
+    """What `race` says of a build where nobody looks at anything but files."""
+    build, text = graph.builds[number], room / "hard-tasks"
+    with open(text, "w", encoding="utf-8") as file:
+        for row in graph.rows[number]:
+            lists = build["labels"].get(row["task"], {}).get("lists", ())
+            reads = [path for path in row["reads"] if not is_soft(path) and path not in lists]
+            file.write(json.dumps({**row, "reads": reads, "writes": [path for path in row["writes"] if not is_soft(path)]}) + "\n")
+    return judge(race, text, build["folder"])
+
+
+def conflicts(graph: Graph, race: str, room: Path) -> tuple[list[Pair], dict[Key, set[Key]]]:
+    """The pairs whose conflicts are soft alone, and what the fixes of the others say: which recipe waits for which."""
+    pairs: list[Pair] = []
+    after: dict[Key, set[Key]] = {}
+    for number, build in graph.builds.items():
+        full = judge(race, graph.record / "builds" / number / "tasks", build["folder"])
+        hard = hard_verdict(graph, number, race, room) if full.races else full
+        known = {(one.first, one.second) for one in hard.races}
+        pairs += [places_of(graph, number, (one.first, one.second)) for one in full.races if (one.first, one.second) not in known]
+        for late, _, early in (line.partition(": ") for line in hard.fix):
+            keys = [graph.tasks[graph.at[number, label]].key if (number, label) in graph.at else None for label in (late, early)]
+            if keys[0] and keys[1]:
+                after.setdefault(keys[0], set()).add(keys[1])
+    return pairs, after
+
+
+def places_of(graph: Graph, number: str, labels: Sequence[str]) -> Pair:
+    """Two tasks of a build by their places, the earlier one first."""
+    first, second = sorted(graph.at[number, label] for label in labels)
+    return first, second

@@ -1,0 +1,84 @@
+/* Where a build is tried in another order: the first process of each recipe waits until the gate lets it begin.
+
+   The gate is a socket beside this library. Where there is one, make or ninja starts a copy of itself in the place of a recipe's first
+   process: that connects to the gate, waits for a byte, and then becomes the process. So it has its number, its files and its
+   environment. All others, such as those of $(shell ..) and of a recipe's further lines, begin at once. */
+
+#define _GNU_SOURCE
+#include <dlfcn.h>
+#include <errno.h>
+#include <spawn.h>
+#include <stdio.h>
+#include <stdlib.h>
+#include <string.h>
+#include <sys/socket.h>
+#include <sys/stat.h>
+#include <sys/un.h>
+#include <unistd.h>
+
+#define NEXT(name) ((__typeof__(&name))dlsym(RTLD_NEXT, #name)) /* that of the C library */
+#define HOLD "race-hold"                                        /* the first word of a process that waits */
+
+static char gate[sizeof((struct sockaddr_un *)0)->sun_path], holder[4096]; /* empty where no recipe waits */
+static int is_ninja;
+static int is_making;   /* make has said that it is at work on targets */
+static int is_later;    /* what make starts next is a further line of a recipe */
+static int is_function; /* what make starts next is of a function: it reads what that prints */
+
+/* Make has said something: it reaps a child and may go on with its recipe, or it looks at targets. */
+__attribute__((visibility("hidden"))) void hold_after(const char *words) {
+  is_making = 1, is_function = 0;
+  is_later = !strncmp(words, "Reaping ", 8);
+}
+
+static void wait_at_gate(void) {
+  struct sockaddr_un address = {.sun_family = AF_UNIX};
+  char answer;
+  int channel = socket(AF_UNIX, SOCK_STREAM | SOCK_CLOEXEC, 0);
+  strcpy(address.sun_path, gate);
+  if (channel >= 0 && !connect(channel, (struct sockaddr *)&address, sizeof address))
+    while (read(channel, &answer, 1) < 0 && errno == EINTR) {}
+  close(channel);
+}
+
+/* Before the other constructors: a process that waits is no make. Its words are HOLD, a program, and the words of that. */
+__attribute__((constructor(101))) static void find_gate(int argc, char **argv) {
+  Dl_info here;
+  if (!dladdr((void *)find_gate, &here)) return;
+  const char *end = strrchr(here.dli_fname, '/');
+  int length = end ? (int)(end - here.dli_fname) + 1 : 0;
+  if (!length || length + sizeof "gate" > sizeof gate) return;
+  snprintf(gate, sizeof gate, "%.*sgate", length, here.dli_fname);
+  snprintf(holder, sizeof holder, "%.*shold", length, here.dli_fname);
+  if (argc > 2 && !strcmp(argv[0], HOLD)) {
+    wait_at_gate();
+    execvp(argv[1], argv + 2);
+    _exit(127);
+  }
+  is_ninja = !strncmp(program_invocation_short_name, "ninja", 5) || !strncmp(program_invocation_short_name, "samu", 4);
+  if (access(gate, F_OK) || access(holder, X_OK)) *gate = 0;
+}
+
+int posix_spawn_file_actions_adddup2(posix_spawn_file_actions_t *files, int from, int to) {
+  struct stat found;
+  is_function |= to == STDOUT_FILENO && !fstat(from, &found) && S_ISFIFO(found.st_mode);
+  return NEXT(posix_spawn_file_actions_adddup2)(files, from, to);
+}
+
+static int waits(const char *path) {
+  int is_first = is_ninja || (is_making && !is_later && !is_function);
+  is_function = 0;
+  return *gate && is_first && !access(path, X_OK);
+}
+
+int posix_spawn(pid_t *pid, const char *path, const posix_spawn_file_actions_t *files, const posix_spawnattr_t *flags, char *const words[], char *const environment[]) {
+  size_t count = 0;
+  while (words[count]) count++;
+  char **held = waits(path) ? malloc((count + 3) * sizeof *held) : NULL;
+  if (!held) return NEXT(posix_spawn)(pid, path, files, flags, words, environment);
+  held[0] = HOLD, held[1] = (char *)path;
+  memcpy(held + 2, words, (count + 1) * sizeof *held);
+  int fault = NEXT(posix_spawn)(pid, holder, files, flags, held, environment);
+  free(held);
+  return fault;
+}
