@@ -269,8 +269,7 @@ def attempt(options: argparse.Namespace, words: List[str], tools: Dict[str, str]
     try:
         watch.prepare(makes_of(os.environ.get("PATH", os.defpath)))
         tree = options.tree or tree_of(folder)
-        ran = ["sh", "-c", options.setup + SETUP, "sh", *words] if options.setup else words
-        status, seconds = run_build(ran, spool, names.tops, watch, options.expected)
+        status, seconds = run_build(prepared(options) + words, spool, names.tops, watch, options.expected)
         record, facts = begun(options.words, folder, status, round(seconds, 2), dict(tools), tree), Facts(spool, str(spool), real, names, kept, watch.said, str(watch.said), list(watch.covered))
         from record.importing import complete  # it was loaded while the build ran
         with machine.answering(after):
@@ -291,7 +290,7 @@ def attempt(options: argparse.Namespace, words: List[str], tools: Dict[str, str]
 
 def record_in_order(options: argparse.Namespace, tools: Dict[str, str], first: Optional[FirstTree], place: Path, jobs: int) -> int:
     """Records a build in a copy, whose recipes wait at a gate in its folder; its status."""
-    words, env = with_many(with_jobs(options.words, jobs), os.environ, jobs)
+    words, env = with_many(options.words, os.environ, jobs)
     os.environ.update(env)
     own = argparse.Namespace(**{**vars(options), "gate": str(place / "gate"), "tree": first, "missing": False, "footprints": False, "keep_trace": False, "expected": 0.0})
     return attempt(own, words, tools, place / "record", True)[0].status
@@ -302,13 +301,20 @@ def record_all(options: argparse.Namespace, tools: Dict[str, str], out: Path, ra
     if not options.orders:
         return record_serial(options, tools, out)
     tops, first = tops_of(options.words, options.top), options.tree or tree_of(os.path.realpath("."))
-    ran = ["sh", "-c", options.setup + SETUP, "sh", *options.words] if options.setup else options.words
-    with new_room(tops, ran, os.path.realpath(out), room_of_programs(tops) or "/tmp", partial(record_in_order, options, tools, first)) as room:
+    with new_room(tops, prepared(options), options.words, os.path.realpath(out), room_of_programs(tops) or "/tmp", partial(record_in_order, options, tools, first)) as room:
         record = record_serial(options, tools, out)
         if record.status == 0 and not record.holes and (not record.warm or options.warm or record.stands_alone):
-            record.orders = explore(room, record, out, race, max(options.orders, 0))
+            try:
+                record.orders = explore(room, record, out, race, max(options.orders, 0))
+            except CannotTry as fault:
+                record.notes.append("not built in other orders: %s" % fault)
             rewrite(out, record)
     return record
+
+
+def prepared(options: argparse.Namespace) -> List[str]:
+    """The words of a command that runs what comes before the build, and then the words behind them."""
+    return ["sh", "-c", options.setup + SETUP, "sh"] if options.setup else []
 
 
 def record_serial(options: argparse.Namespace, tools: Dict[str, str], out: Path) -> Record:

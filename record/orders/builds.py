@@ -14,6 +14,7 @@ from pathlib import Path
 from typing import Optional
 
 from record.entry import forget_coerced
+from record.ninja.retry import with_jobs
 from record.orders.gate import Gate, Key
 from record.orders.processes import end
 from record.orders.trees import copy, held_by, remove
@@ -22,8 +23,7 @@ from record.watch.lay import BIND, LIBC, NAMES, Watch, leave, makes_of, mount
 MANY = 100  # jobs: so many recipes wait at the gate at once
 WITH_PARENT = 1  # for prctl: which signal comes when the parent ends
 SHOWN_LINES = re.compile(r"(?i)\b(error|fatal|cannot|no such|not found|failed|no rule)\b|\*\*\*")
-SHOWN = 3
-TMPFS = "/dev/shm"
+SHOWN = 3  # so many of them
 
 
 class CannotTry(Exception):
@@ -61,10 +61,12 @@ class Built:
 
 @dataclass
 class Room:
-    """The folder of all copies. `tops`: the folders of the project, the first is that in which it builds; `record`: records a build where this process is."""
+    """The folder of all copies. `tops`: the folders of the project, the first is that in which it builds; `setup`: words of a command that runs before `words`, and
+    then those; `record`: records a build where this process is, with so many jobs, into a folder, and says its status."""
 
     top: Path
     tops: Sequence[str]
+    setup: Sequence[str]
     words: Sequence[str]
     record: Callable[[Path, int], int]
     limit: float = 60.0  # seconds in which something begins or ends
@@ -169,16 +171,17 @@ class Room:
         env = dict(os.environ)
         forget_coerced(env)
         words, env = with_many(self.words, env, plan.jobs)
-        return subprocess.run(words, env=watch.environment(env), preexec_fn=watch.lay, check=False).returncode
+        return subprocess.run([*self.setup, *words], env=watch.environment(env), preexec_fn=watch.lay, check=False).returncode
 
 
 def with_many(words: Sequence[str], env: Mapping[str, str], jobs: int) -> tuple[list[str], dict[str, str]]:
-    """A command and its environment, so that all makes in it have so many jobs; with one job they stay as they are."""
+    """A command and its environment, so that all makes and ninjas in it have so many jobs; with one job makes stay as they are."""
+    words = with_jobs([*words], jobs)
     if jobs == 1:
-        return [*words], dict(env)
+        return words, dict(env)
     if os.path.basename(words[0]) in NAMES:
         return [*words, "-j%d" % jobs], dict(env)
-    return [*words], {**env, "MAKEFLAGS": env.get("MAKEFLAGS") or "-j%d" % jobs, "CMAKE_BUILD_PARALLEL_LEVEL": str(jobs)}
+    return words, {**env, "MAKEFLAGS": env.get("MAKEFLAGS") or "-j%d" % jobs, "CMAKE_BUILD_PARALLEL_LEVEL": str(jobs)}
 
 
 def side_by_side(room: Room, plans: Sequence[Plan]) -> list[Built]:

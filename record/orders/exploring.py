@@ -51,12 +51,12 @@ def has_memory(size: int) -> bool:
 
 
 @contextmanager
-def new_room(tops: Sequence[str], words: Sequence[str], out: str, rooms: str, record: Callable[[Path, int], int]) -> Iterator[Room]:
+def new_room(tops: Sequence[str], setup: Sequence[str], words: Sequence[str], out: str, rooms: str, record: Callable[[Path, int], int]) -> Iterator[Room]:
     """The folder of the copies, with the project as it is before it is recorded."""
     if not can_leave():
         raise CannotTry("the system gives no mounts of its own, by which a copy lies in the place of the project: run it as root, or leave --orders out")
     place = TMPFS if has_memory(COPIES * GROWTH * size_of(tops)) else rooms
-    room = Room(Path(tempfile.mkdtemp(prefix="race-orders-", dir=place)), tops, words, record)
+    room = Room(Path(tempfile.mkdtemp(prefix="race-orders-", dir=place)), tops, setup, words, record)
     try:
         room.take(out)
         yield room

@@ -182,7 +182,7 @@ class Graph:
         return placed([self.tasks[at].key for at in self.schedule(score)]) if any(score) else None
 
     def alone(self, pair: Pair) -> dict[Key, float]:
-        """The serial order, but for the second of two tasks, which comes before the first, with what it needs."""
+        """The serial order, with the second of two tasks before the first, and what it needs before both."""
         first, second = pair
         need = self.tasks[second].before
         between = range(first + 1, second)

@@ -72,8 +72,12 @@ class Trial:
         return count + (len(self.soft) if len(self.soft) <= FEW else 1)
 
     def make(self, *plans: Plan) -> list[tuple[Built, Optional[Ended]]]:
-        """Some builds, side by side, and how they ended where that is otherwise than the serial one; their copies go."""
+        """Some builds that count, side by side, and how they ended where that is otherwise than the serial one."""
         self.builds += len(plans)
+        return self.step(*plans)
+
+    def step(self, *plans: Plan) -> list[tuple[Built, Optional[Ended]]]:
+        """The same of builds by which a difference is narrowed down; their copies go."""
         found = [(built, self.ended(built)) for built in side_by_side(self.room, plans)]
         for plan in plans:
             self.room.forget(plan)
@@ -170,7 +174,7 @@ class Trial:
             return log[:count] + [key for key in self.order if key not in {*log[:count]}]
 
         if built.plan.jobs not in self.bases:
-            (_, base), = self.make(Plan("base", placed(begun(0)), built.plan.jobs, self.after))
+            (_, base), = self.step(Plan("base", placed(begun(0)), built.plan.jobs, self.after))
             if base is not None:
                 return Shown(None, None, base)
             self.bases.add(built.plan.jobs)
@@ -187,9 +191,9 @@ class Trial:
     def boundary(self, order: Callable[[int], Sequence[Key]], most: int, jobs: int, ended: Ended) -> tuple[int, Ended]:
         """The least of some numbers with a difference that the one before it has not, where 0 has none and `most` has this one; and its difference."""
         low, high = 0, most
-        while high - low > 1 and self.builds < self.most:
+        while high - low > 1:
             tried = sorted({low + (high - low) * part // (AT_ONCE + 1) for part in range(1, AT_ONCE + 1)} - {low})
-            for number, (_, found) in zip(tried, self.make(*(Plan("step%d" % number, placed(order(number)), jobs, self.after) for number in tried))):
+            for number, (_, found) in zip(tried, self.step(*(Plan("step%d" % number, placed(order(number)), jobs, self.after) for number in tried))):
                 if found is not None:
                     high, ended = number, found
                     break

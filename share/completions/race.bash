@@ -127,8 +127,9 @@ _race() {
       --top) mapfile -t COMPREPLY < <(compgen -d -- "$word"); return ;;
       --from) mapfile -t COMPREPLY < <(compgen -f -- "$word"); return ;;
       --setup) COMPREPLY=(); return ;;
+      --orders) COMPREPLY=(); return ;;
     esac
-    case $word in -*) mapfile -t COMPREPLY < <(compgen -W "-h --help -o --output --race --top --warm --fresh --from --setup --keep-trace --footprints --strict --missing -V --version" -- "$word"); return ;; esac
+    case $word in -*) mapfile -t COMPREPLY < <(compgen -W "-h --help -o --output --race --top --warm --fresh --from --setup --keep-trace --footprints --orders --missing -V --version" -- "$word"); return ;; esac
     mapfile -t COMPREPLY < <(compgen -c -- "$word") ;;
   'race-report')
     case $before in

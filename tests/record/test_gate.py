@@ -1,0 +1,111 @@
+"""The gate: which recipes wait, which begins, and by what names they are known."""
+
+import os
+import shutil
+import subprocess
+import tempfile
+import unittest
+from pathlib import Path
+from typing import Callable, Dict, List, Sequence
+
+import support
+
+from record.orders.gate import Gate, Key
+from record.orders.processes import end
+from record.watch.lay import Watch, makes_of
+
+
+class Gates(unittest.TestCase):
+    """Builds whose recipes wait."""
+
+    def began(self, files: Dict[str, str], words: Sequence[str], place: Callable[[str], float] = lambda name: 0.0, after: Sequence["tuple[str, str]"] = ()) -> List[List[str]]:
+        """The recipes as they began: of each the targets from the outermost make on."""
+        top = Path(tempfile.mkdtemp(prefix="race-gate-"))
+        self.addCleanup(shutil.rmtree, top)
+        with support.Project(files) as project:
+            folder = str(project.folder)
+
+            def key(name: str) -> Key:
+                return ((folder, name, 1),)
+
+            gate = Gate(top, Places(place), {key(late): {key(early)} for late, early in after})
+            with gate.listen() as listener:
+                watch = Watch(str(top), str(top / "gate"))
+                watch.prepare(makes_of(os.environ["PATH"]))
+                if not watch.covered:
+                    self.skipTest("the system gives no mounts")
+                process = subprocess.Popen(words, cwd=folder, preexec_fn=watch.lay, start_new_session=True, stdout=subprocess.PIPE)
+                self.assertTrue(gate.serve(process.pid, listener, lambda: process.poll() is not None, 60))
+                end(process.pid)
+                assert process.stdout is not None
+                self.output = process.stdout.read().decode()
+                process.stdout.close()
+            self.assertEqual(0, process.returncode)
+        return [[part[1] + ("" if part[2] == 1 else " %d" % part[2]) for part in key] for key in gate.began]
+
+    def test_order(self) -> None:
+        """The greatest place first, of those that are ready."""
+        found = self.began({"Makefile": "all: a b c\na b c: ; @echo $@\nb: c\n"}, ["make", "-j9"], lambda name: "acb".index(name))
+        self.assertEqual(([["c"], ["b"], ["a"]], "c\nb\na\n"), (found, self.output))
+
+    def test_fixes(self) -> None:
+        """One waits for another that it does not name."""
+        self.assertEqual([["a"], ["b"]], self.began({"Makefile": "all: a b\na b: ; @echo $@\n"}, ["make", "-j9"], lambda name: "ab".index(name), [("b", "a")]))
+
+    def test_two_jobs(self) -> None:
+        """With two jobs two wait at once."""
+        self.assertEqual([["b"], ["c"], ["a"]], self.began({"Makefile": "all: a b c\na b c: ; @echo $@\n"}, ["make", "-j2"], lambda name: "abc".index(name)))
+
+    def test_functions_and_further_lines(self) -> None:
+        """What a function of make runs begins at once, and so do the lines behind the first."""
+        text = "X := $(shell echo 1)\nall: a b\na: ; @echo $(shell echo 2)\n\t@echo a\nb: ; @echo b\n\t@echo $(X)\n"
+        self.assertEqual(([["b"], ["a"]], "b\n1\n2\na\n"), (self.began({"Makefile": text}, ["make", "-j9"], lambda name: "ab".index(name)), self.output))
+
+    def test_make_in_a_recipe(self) -> None:
+        """One gate over all makes, also of a second line."""
+        files = {"Makefile": "all: a b\na: ; @echo a\nb:\n\t@echo b\n\t@$(MAKE) -s -C d\n", "d/Makefile": "all: x y\nx y: ; @echo $@\n"}
+        self.assertEqual([["b"], ["b", "y"], ["b", "x"], ["a"]], self.began(files, ["make", "-s", "-j9"], lambda name: "axyb".index(name)))
+
+    def test_make_of_a_script(self) -> None:
+        """A script that gives no environment, and calls make by its whole path."""
+        files = {"Makefile": "all: a b\na b: ; @echo $@\n", "build": "exec env -i PATH=\"$PATH\" %s -j9\n" % os.path.realpath(str(shutil.which("make")))}
+        self.assertEqual([["b"], ["a"]], self.began(files, ["sh", "./build"], lambda name: "ab".index(name)))
+
+    def test_several_of_one_name(self) -> None:
+        files = {"Makefile": "all: ; @$(MAKE) -s x; $(MAKE) -s x\nx: ; @echo $@\n"}
+        self.assertEqual([["all"], ["all", "x"], ["all", "x 2"]], self.began(files, ["make", "-s", "-j9"]))
+
+    def test_one_that_waits_for_another(self) -> None:
+        """A recipe waits for what only another one does, and no child of it runs: that may begin."""
+        text = "all: a b\na: ; @echo a > pipe\nb: ; @cat pipe; echo b\n"
+        with_pipe = {"Makefile": "$(shell mkfifo pipe)\n" + text}
+        self.assertEqual([["b"], ["a"]], self.began(with_pipe, ["make", "-j9"], lambda name: "ab".index(name)))
+
+    def test_build_that_hangs(self) -> None:
+        top = Path(tempfile.mkdtemp(prefix="race-gate-"))
+        self.addCleanup(shutil.rmtree, top)
+        gate = Gate(top, {})
+        with gate.listen() as listener:
+            process = subprocess.Popen(["sleep", "60"], start_new_session=True)
+            self.assertFalse(gate.serve(process.pid, listener, lambda: process.poll() is not None, 0.5))
+            end(process.pid)
+            self.assertEqual(-9, process.wait())
+
+
+class Places(Dict[Key, float]):
+    """The places of recipes by the names of their targets."""
+
+    def __init__(self, place: Callable[[str], float]) -> None:
+        super().__init__()
+        self.place = place
+
+    def get(self, key: Key, default: float = 0.0) -> float:  # type: ignore[override]
+        """The place of one."""
+        try:
+            return self.place(key[-1][1])
+        except ValueError:
+            return default
+
+
+if __name__ == "__main__":
+    unittest.main()
