@@ -32,9 +32,12 @@ class Held:
     folder: str
     is_recipe: bool
     sum: str = ""
+    is_part: bool = False  # a process of it, and not the whole recipe
 
     def in_makefile(self) -> str:
         """The target as a line of a makefile names it."""
+        if self.is_part:
+            raise CannotConfirm(f"a process of the recipe of {self.target} races by itself, and only whole recipes can be held")
         if any(sign in "=;|&\n" for sign in self.target):
             raise CannotConfirm(f"no line of a makefile can name the target {self.target}: it has one of = ; | & in its name, so its recipe cannot be held")
         return "".join("\\" + it if it in ESCAPED else "$$" if it == "$" else it for it in self.target)
@@ -105,8 +108,8 @@ def choice(number: int, race: Race, record: Path) -> Chosen:
     sums = Counter(it.get("sum", "") for it in about["labels"].values())
     for side, recipe in zip(SIDES, (race.first.recipe, race.second.recipe)):
         label = about["labels"].get(recipe.label, {})
-        sum_ = label.get("sum", "")
-        sides.append(Held(side, recipe.target, folder, label.get("kind", "") == "recipe", sum_ if sums[sum_] == 1 else ""))
+        kind, sum_ = label.get("kind", ""), label.get("sum", "")
+        sides.append(Held(side, recipe.target, folder, kind in ("recipe", "part"), sum_ if sums[sum_] == 1 else "", kind == "part"))
     path = file_in(about, race.path)
     whole = os.path.normpath(os.path.join(folder, path))
     return Chosen(number, race, whole + "/" * path.endswith("/"), (sides[0], sides[1]), about.get("tool", "make"))

@@ -29,6 +29,8 @@ class Parts(unittest.TestCase):
         self.assertEqual("a\\ b\\:\\%$$c", Held("first", "a b:%$c", "/", True).in_makefile())
         with self.assertRaises(CannotConfirm):
             Held("first", "a=b", "/", True).in_makefile()
+        with self.assertRaises(CannotConfirm):
+            Held("first", "a", "/", True, "", True).in_makefile()
 
     def test_names_that_differ_from_run_to_run(self) -> None:
         found = passing({"out/tmp.abcd", "d1x/y", "a"}, {"out/tmp.acde", "d2x/y", "bc"})
