@@ -28,6 +28,7 @@ class Parts:
         self.roots = {id(course) for course in self.courses if id(course.parent) not in self.inside}  # those of its lines, for which make waits
         self.conflicts: List[Conflict] = conflicts_in(work.lives)
         self.cuts: Dict[int, Set[int]] = {}  # by process: the last segments of its pieces
+        self.ends: Dict[int, List[int]] = {}  # the same, sorted
         self.left: Set[int] = set()
         for course in self.courses:
             if not self.is_waited(course) and any(matters(life, written) for life in lives_of(course)):  # guard: processes-that-are-left
@@ -73,7 +74,7 @@ class Parts:
 
     def pieces(self, course: Course) -> List[int]:
         """The last segments of the pieces of a process."""
-        return sorted({*self.cuts[id(course)], course.at}) if id(course) in self.cuts else WHOLE
+        return self.ends.get(id(course), WHOLE)
 
     def piece(self, course: Course, number: int) -> int:
         """The piece of a process that has a segment."""
@@ -96,6 +97,7 @@ class Parts:
     # ---------------------------------------------------------------- parts
     def make(self) -> None:
         """All parts."""
+        self.ends = {id(course): sorted({*self.cuts[id(course)], course.at}) for course in self.courses if id(course) in self.cuts}
         heads = [course for course in self.courses if id(course) in self.cuts or id(course) in self.roots or id(course.parent) in self.cuts and not self.is_merged(course)]
         for course in heads:
             for number in range(len(self.pieces(course))):
@@ -155,7 +157,7 @@ def command(course: Course) -> str:
     life = lives_of(course)[0]
     below = next((one for one in life.children if one.ran), life)
     ran = [up.ran[-1] for up in ((life, below) if life.ran else (below, *life.up())) if up.ran]
-    text = " ".join([os.path.basename(ran[0][0]), *ran[0][1:]]) if ran else ""
+    text = " ".join(" ".join([os.path.basename(ran[0][0]), *ran[0][1:]]).split()) if ran else ""
     return text if len(text) <= WORDS else text[:WORDS] + ".."
 
 

@@ -3,12 +3,13 @@
 A segment of a process ends where the process forks, ends, or has waited. It comes after the one before it, and after the fork that began its
 process. Until a child of `vfork` runs a program, its parent waits: what it does belongs to the segment of its parent. A segment comes after the end of a
 process too for which its own has waited. The wait is *known* where each build waits so: for a process by its number or descriptor, and in a row of
-waits for any child that leaves none, for the last of them. Else it is luck: who looks whether a child has ended, and heard of no signal, may go on
-without it; and a shell that waits for what it runs in front also hears of what has ended in the background by then, and does not wait for it again.
+waits for any child that leaves none, for the last of them, and for those with which that is in one pipeline. Else it is luck: who looks whether a
+child has ended, and heard of no signal, may go on without it; and a shell that waits for what it runs in front also hears of what has ended in the
+background by then, and does not wait for it again.
 """
 
 from bisect import bisect_right
-from typing import Dict, Iterator, List, Optional, Protocol, Tuple
+from typing import Dict, Iterator, List, Optional, Protocol, Set, Tuple
 
 Key = Tuple[str, str]  # an event: its kind, and a path
 Segment = Tuple["Course", int]
@@ -46,6 +47,7 @@ class Course:
         self.row: List[Tuple["Course", bool]] = []  # for whom it has waited since it did something else, and whether it slept meanwhile
         self.has_slept = False
         self.has_heard = False  # a signal, by a handler of its own
+        self.pipes: Set[str] = set()  # those that are its input or output
         self.files: Dict[int, Tuple[str, bool]] = {}  # what it may write into, by descriptor; whether a program that it runs has it too
 
     @property
@@ -113,10 +115,13 @@ class Course:
         """A row of waits for any child ends. `has_none`: no child was left."""
         if not self.row:
             return
-        self.row[-1][0].is_known = self.left == 0 and self.row[-1][1]  # guard: luck
-        if has_none or self.first.is_make or self.first.is_ninja:  # (make and ninja wait for each)
-            for child, _ in self.row:
+        last, has_slept = self.row[-1]
+        last.is_known = self.left == 0 and has_slept  # guard: luck
+        pipes = set(last.pipes) if last.is_known else set()
+        for child, _ in reversed(self.row):
+            if has_none or self.first.is_make or self.first.is_ninja or pipes & child.pipes:  # make and ninja wait for each, a shell for a whole pipeline  # guard: pipelines
                 child.is_known = True
+                pipes |= child.pipes
         self.row = []
         self.limit = self.marks[-1]
 

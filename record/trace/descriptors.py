@@ -88,6 +88,8 @@ class Opened(Processes):
     def on_double(self, life: Life, call: Call, ok: bool) -> None:
         """A descriptor has a second number."""
         files = life.course.files
+        if call.opened.startswith("pipe:") and call.result < 2:
+            life.course.pipes.add(call.opened)
         found = files.get(int(NUMBER_FIRST.match(call.args)[0])) if files else None  # type: ignore[index]
         if ok and found is not None:
             files[call.result] = (found[0], "CLOEXEC" not in call.args)  # guard: second-numbers

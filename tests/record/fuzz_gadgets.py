@@ -220,7 +220,7 @@ class GadgetDraw(Draw):
 
     def processes(self, name: str) -> Block:
         """Two processes of one recipe meet on a file, which another recipe uses."""
-        first, second = ("$N %s.a; echo a >> NAME.o" % name, "$N %s; %s" % (name, self.random.choice(("echo b >> NAME.o", "cat NAME.o > NAME.p 2>/dev/null || true", "mv NAME.o NAME.p 2>/dev/null || true"))))
+        first, second = ("$N %s.a; echo a >> NAME.o" % name, "sleep 0.05; $N %s; %s" % (name, self.random.choice(("echo b >> NAME.o", "cat NAME.o > NAME.p 2>/dev/null || true", "mv NAME.o NAME.p 2>/dev/null || true"))))
         run = self.random.choice(BESIDE)
         text = "NAME: %s\n\t@+%s; touch $@\n" % (" ".join(self.prerequisites()), run.replace("A)", first + ")").replace("A;", first + ";").replace("'A'", "'%s'" % first).replace("B", second))
         text += self.plain("NAME.b", self.unless("NAME"), "cat NAME.o > $@ 2>/dev/null || true")

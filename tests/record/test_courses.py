@@ -70,6 +70,12 @@ class Orders(unittest.TestCase):
         self.says([*lines, *SLEEP, POLL % 2, POLL % 3, MAKE % (1, "c", "c")], {"ac": "luck", "bc": "always"})
         self.says([*TWO, *child(2, "a"), *SLEEP, POLL % 2, *child(3, "b"), NAMED % (3, 3), FORK % (1, 4), *child(4, "d"), POLL % 4, MAKE % (1, "c", "c")], {"bc": "always", "dc": "luck"})
 
+    def test_a_pipeline(self) -> None:
+        ends = ["2 dup2(4<pipe:[7]>, 1) = 1<pipe:[7]>", "3 dup2(3<pipe:[7]>, 0) = 0<pipe:[7]>"]
+        rest = [*child(2, "a"), ANY % 2, *child(3, "b"), ANY % 3, MAKE % (1, "c", "c")]
+        self.says([*TWO, *ends, *rest], {"ac": "always", "bc": "always"})
+        self.says([*TWO, ends[0], ends[1].replace("[7]", "[8]"), *rest], {"ac": "luck", "bc": "always"})
+
     def test_a_look_whether_one_has_ended(self) -> None:
         look = "1 wait4(2, [{WIFEXITED(s) && WEXITSTATUS(s) == 0}], WNOHANG, NULL) = 2"
         self.says([*TWO, *child(2, "a"), look, MAKE % (1, "c", "c")], {"ac": "luck"})

@@ -42,7 +42,7 @@ Makefiles = makefiles(__name__, {
     "wait_by_luck": Small("safe", BASH + TWO % "cp in o & sleep .3; cat o > p", IN, says=LUCK),
     "wait_by_luck_for_what_another_recipe_uses": Small("safe", BASH + USER % "cp in o & sleep .3", IN, says=LUCK),
     "wait_by_luck_for_what_nobody_uses": Small("safe", BASH + TWO % "cp in o & sleep .3", IN, lacks=LUCK),
-    "pipeline": Small("safe", TWO % "sort in | cat > o; mv o p; cat in | tee q > r", IN, lacks=LUCK),
+    "pipeline": Small("safe", TWO % "sort in | cat > o; mv o p; cat p | tee q > r; mv p q; rm -f q r", IN, lacks=LUCK),
     # processes that nobody waits for
     "process_that_its_recipe_leaves": Small("race", USER % "setsid -f sh -c 'echo x > o'; sleep .3", says="one (sh -c echo x > o)"),
     "process_that_a_program_leaves": Small("race", USER % "python3 p.py", {"p.py": LEAVES}),
