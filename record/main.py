@@ -64,8 +64,8 @@ SERIAL_FAILED = "the serial build failed"
 ASKED = min(4, os.cpu_count() or 1)  # how many builds `race` is asked about at once
 WARM = ("WARM: the build used what was there before: record a clean tree (race-record --fresh%s -- %s), or, if builds start from this one, "
         "say race-record --warm: it judges this record again, and builds nothing")
-WARM_FRESH = ("WARM: the build used what was there before, and --fresh leaves it: remove it, or configure an empty folder by --setup, such as "
-              "--setup 'cmake -B build'; if builds start from this tree, say race-record --warm")
+WARM_FRESH = ("WARM: the build used what was there before, and --fresh leaves it: remove it, name an archive of the tree by --from, or configure an empty folder by --setup, "
+              "such as --setup 'cmake -B build'; if builds start from this tree, say race-record --warm")
 
 
 class Missing(Exception):

@@ -176,6 +176,7 @@ GUARDS: List[Guard] = [
         ("brackets", 'if sign == "," and len(found) + 1 != most:', "expansion.Makefiles.word_behind_brackets_that_is_not", FALSE_RACE),
     ),
     *guards("make/references.py",
+        ("names-that-no-function", 'return any(True for is_called, word in words if word != "*" and (is_called or is_open and word.strip("*")))', "database.Texts.names_of_functions"),
         ("called-function-that-shows", r'BUILT_IN = re.compile(r"\$([({])call\s+(call|eval|guile)\s*,")', "make.Makefiles.macro_that_a_called_function_shows", YES),
         ("what-it-reads-second-time", r'SECOND = re.compile(COMPUTED.pattern + r"|\$[({]call\s+(?:foreach|let|if|or|and|intcmp)\s*,")', "macros.Makefiles.macro_behind_two_signs_that_eval_gets", YES),
         ("what-it-reads-second-time", r'SECOND = re.compile(EVAL.pattern + "|" + COMPUTED.pattern + r"|\$[({]call\s+(?:let)\s*,")', "macros.Makefiles.macro_that_or_reads_again", YES),

@@ -65,7 +65,7 @@ class Copies(unittest.TestCase):
         inner = "mkdir b/c; printf 'rule sh\\n  command = $c\\nbuild i: sh\\n  c = touch i\\n' > b/c/build.ninja"
         outcome = self.recorded(sh("a", "", "ninja -C c; touch a"), inner)
         self.assertEqual(2, outcome.status, outcome.text())
-        self.assertIn("--fresh leaves it: remove it, or configure an empty folder by --setup", " ".join(outcome.text().split()))
+        self.assertIn("--fresh leaves it: remove it, name an archive of the tree by --from, or configure an empty folder by --setup", " ".join(outcome.text().split()))
 
 
 @unittest.skipUnless(shutil.which("ninja"), "ninja is missing (Debian: apt-get install ninja-build)")

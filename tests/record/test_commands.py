@@ -6,10 +6,6 @@ import unittest
 
 from record.commands.shellages import asks_reads
 from record.commands.texts import is_plain, text_of
-from record.make.memory import asked_by
-from record.make.owners import Make
-from record.make.words import Words
-from record.trace.lives import Act, Life
 from test_small import Small, makefiles
 
 # Two recipes that make a folder, and the first may show whether it was there.
@@ -35,10 +31,6 @@ Makefiles = makefiles(__name__, {
 
 class Texts(unittest.TestCase):
     """Files that are read when the build has ended."""
-
-    def test_names_that_a_make_asks_for(self) -> None:
-        acts = [Act(1, "S", "/p/a"), Act(2, "S", "/p/b", "b"), Act(3, "N", "/p/c"), Act(4, "Q", "/p/d"), Act(5, "R", "/p/e", "e")]
-        self.assertEqual({"/p/a", "/p/c"}, asked_by(Make(Words(1, 0), Life(1, acts=acts), "/p")))
 
     def test_what_cannot_be_read_again(self) -> None:
         with tempfile.TemporaryDirectory() as room:

@@ -5,7 +5,7 @@ from typing import List
 
 import support  # noqa: F401
 from record.make.database import Base, Colons, read_base
-from record.make.globs import composes
+from record.make.references import composes
 from record.trace.strace import folders, said, texts
 from test_small import Small, makefiles
 
