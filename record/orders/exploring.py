@@ -69,14 +69,15 @@ def new_room(tops: Sequence[str], setup: Sequence[str], words: Sequence[str], ou
 def explore(room: Room, record: Record, out: Path, race: str, most: int) -> dict[str, Any]:
     """Builds in other orders; what the record keeps of them."""
     graph = Graph(out)
-    pairs, after = conflicts(graph, race, room.top)
+    soft, after = conflicts(graph, race, room.top)
     room.limit = QUIET + TIMES * record.seconds
-    trial = Trial(room, graph, [held_by(Path(top), str(out)) for top in room.tops], pairs, after, most or MOST)
+    trial = Trial(room, graph, [held_by(Path(top), str(out)) for top in room.tops], soft, after, most or MOST)
     print("race-record: %d builds in copies, of about %.0f seconds each; one more for each step where something differs" % (trial.expected(), record.seconds), file=sys.stderr, flush=True)
     trial.run()
     join(graph, Graph(room.top / "record"))
-    soft, _ = conflicts(Graph(out), race, room.top)
-    trial.cleared = [pair for pair in trial.cleared if pair in soft]
+    trial.soft, _ = conflicts(Graph(out), race, room.top)
+    trial.cleared = [pair for pair in trial.cleared if pair in trial.soft]
+    trial.pairs = [pair for pair in trial.pairs if pair in trial.soft]
     return trial.result()
 
 

@@ -22,7 +22,7 @@ class Task:
 
     build: str
     label: str
-    key: Optional[Key]  # where it is a recipe
+    key: Optional[Key]  # where it is a recipe; not of a part of one
     before: int  # the tasks that have ended before it begins
     around: int  # the recipes inside which it runs
 
@@ -79,24 +79,32 @@ class Graph:
             earlier = before
             for one in row["after"]:
                 earlier |= ended[one]
-            key = self.key_of(number, label, outer)
-            self.tasks.append(Task(number, label, key, earlier, around))
+            key, is_recipe = self.key_of(number, label, outer), about["labels"].get(label, {}).get("kind") == "recipe"
+            self.tasks.append(Task(number, label, key if is_recipe else None, earlier, around))
             self.at[number, label] = at
-            if key is not None:
+            if key is not None and is_recipe:
                 self.keys[key] = at
             self.add_all(inner, (number, label), earlier, around | 1 << at, key or outer)
             ended[label] = earlier | (1 << len(self.tasks)) - (1 << at)
 
     def key_of(self, number: str, label: str, outer: Key) -> Optional[Key]:
-        """The recipe of a label, as the gate knows it; all rules with two colons of one target are one recipe there."""
+        """The recipe of a label, or of a part of one, as the gate knows it; all rules with two colons of one target are one recipe there."""
         build = self.builds[number]
         found = build["labels"].get(label, {})
-        if found.get("kind") != "recipe" or found.get("colons", 0) > 1:
+        if found.get("kind") not in ("recipe", "part") or found.get("colons", 0) > 1:
             return None
         folder, name, count = build["folder"], found.get("sum") or found["target"], 1
         while (*outer, (folder, name, count)) in self.keys:
             count += 1
-        return (*outer, (folder, name, count))
+        return (*outer, (folder, name, count - 1 if found.get("left") and count > 1 else count))
+
+    def recipe_of(self, number: str, label: str) -> int:
+        """The task that stands for the whole recipe of a task: it begins when the first part does."""
+        labels = self.builds[number]["labels"]
+        found = labels.get(label, {})
+        if found.get("kind") != "part":
+            return self.at[number, label]
+        return next((self.at[number, other] for other, one in labels.items() if one["kind"] == "recipe" and one["target"] == found["target"]), self.at[number, label])
 
     def pairs(self) -> int:
         """How many pairs of recipes nothing orders."""
@@ -213,5 +221,9 @@ def numbers(bits: int) -> Iterator[int]:
 
 
 def placed(order: Sequence[Optional[Key]]) -> dict[Key, float]:
-    """The places of recipes that are to begin in this order: the gate takes the greatest first."""
-    return {key: -float(at) for at, key in enumerate(order) if key is not None}
+    """The places of recipes that are to begin in this order, each with those around it: the gate takes the greatest first."""
+    found: dict[Key, float] = {}
+    for at, key in enumerate(order):
+        for length in range(1, len(key or ()) + 1):
+            found.setdefault((key or ())[:length], -float(at))
+    return found

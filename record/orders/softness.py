@@ -3,7 +3,6 @@
 from __future__ import annotations
 
 import json
-from collections.abc import Sequence
 from pathlib import Path
 
 from record.build.text import OWN_NAME
@@ -31,23 +30,21 @@ def hard_verdict(graph: Graph, number: str, race: str, room: Path) -> Verdict:
     return judge(race, text, build["folder"])
 
 
-def conflicts(graph: Graph, race: str, room: Path) -> tuple[list[Pair], dict[Key, set[Key]]]:
-    """The pairs whose conflicts are soft alone, and what the fixes of the others say: which recipe waits for which."""
-    pairs: list[Pair] = []
+def conflicts(graph: Graph, race: str, room: Path) -> tuple[dict[Pair, list[list[str]]], dict[Key, set[Key]]]:
+    """The pairs of recipes, or of what make does by itself, with conflicts that are soft alone, each with the builds and labels of these; and what the fixes of
+    the others say: which recipe waits for which."""
+    pairs: dict[Pair, list[list[str]]] = {}
     after: dict[Key, set[Key]] = {}
     for number, build in graph.builds.items():
         full = judge(race, graph.record / "builds" / number / "tasks", build["folder"])
         hard = hard_verdict(graph, number, race, room) if full.races else full
         known = {(one.first, one.second) for one in hard.races}
-        pairs += [places_of(graph, number, (one.first, one.second)) for one in full.races if (one.first, one.second) not in known]
+        for one in full.races:
+            first, second = sorted(graph.recipe_of(number, label) for label in (one.first, one.second))
+            if (one.first, one.second) not in known and first != second:
+                pairs.setdefault((first, second), []).append([number, one.first, one.second])
         for late, _, early in (line.partition(": ") for line in hard.fix):
-            keys = [graph.tasks[graph.at[number, label]].key if (number, label) in graph.at else None for label in (late, early)]
+            keys = [graph.tasks[graph.recipe_of(number, label)].key if (number, label) in graph.at else None for label in (late, early)]
             if keys[0] and keys[1]:
                 after.setdefault(keys[0], set()).add(keys[1])
     return pairs, after
-
-
-def places_of(graph: Graph, number: str, labels: Sequence[str]) -> Pair:
-    """Two tasks of a build by their places, the earlier one first."""
-    first, second = sorted(graph.at[number, label] for label in labels)
-    return first, second

@@ -45,7 +45,7 @@ class Trial:
     room: Room
     graph: Graph
     serial: list[dict[str, str]]  # what the recorded build left
-    pairs: list[Pair]  # soft conflicts that no other order has tried yet
+    soft: dict[Pair, list[list[str]]]  # soft conflicts
     after: dict[Key, set[Key]]  # which recipe waits for which besides: what ends the other conflicts
     most: int
     order: list[Key] = field(default_factory=list)  # recipes as they begin in a serial build
@@ -59,7 +59,7 @@ class Trial:
     bases: set[int] = field(default_factory=set)  # with so many jobs the order of the serial build leaves the same
 
     def __post_init__(self) -> None:
-        self.soft = [*self.pairs]
+        self.pairs = [*self.soft]  # those that no other order has tried yet
 
     def expected(self) -> int:
         """How many builds it will take if nothing differs, and each runs as its order says."""
@@ -205,12 +205,7 @@ class Trial:
         return {"builds": self.others, "pairs": self.graph.pairs(), "turned": sum(bin(one).count("1") for one in self.turned),
                 "files": sum(text.startswith("file") for held in self.serial for text in held.values()),
                 "unstable": sorted(os.path.join(self.room.tops[number], name) for number, found in enumerate(self.unstable) for name in found),
-                "cleared": list(map(self.labels, self.cleared)), "left": list(map(self.labels, self.pairs)), "shown": list(map(self.shown_labels, self.shown))}
-
-    def labels(self, pair: Pair) -> list[str]:
-        """A pair by its build and its labels."""
-        first, second = (self.graph.tasks[at] for at in pair)
-        return [first.build, first.label, second.label]
+                "cleared": [one for pair in self.cleared for one in self.soft[pair]], "left": [one for pair in self.pairs for one in self.soft[pair]], "shown": list(map(self.shown_labels, self.shown))}
 
     def shown_labels(self, one: Shown) -> dict[str, Any]:
         """A difference, by the build and the labels of its two recipes."""
