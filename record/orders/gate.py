@@ -95,7 +95,7 @@ class Gate:
         pid = make
         while pid > 1:
             above = parent_of(pid)
-            found = self.owners.get(pid) or self.open.get((above, self.targets.get(pid, "")))
+            found = self.owners.get(pid) or self.open.get((above, self.targets.get(pid, "")))  # guard: further-lines-of-recipe
             if found:
                 return found
             pid = above
@@ -121,7 +121,7 @@ class Gate:
         self.hear_makes()
         rows = {pid: self.bare(pid) for pid in self.waiting}
         further = [pid for pid, (make, name, _) in rows.items() if (make, name) in self.open]
-        free = [pid for pid, (_, _, key) in rows.items() if all(map(self.is_over, self.after.get(key, ())))]
+        free = [pid for pid, (_, _, key) in rows.items() if all(map(self.is_over, self.after.get(key, ())))]  # guard: fixes-hold
         pid = max(further or free or rows, key=lambda one: (self.places.get(rows[one][2], LAST), rows[one][2]))
         make, name, key = rows[pid]
         if (make, name) not in self.open:

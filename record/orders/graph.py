@@ -128,7 +128,7 @@ class Graph:
                 found[self.keys[key]] = place
         for at, one in enumerate(self.tasks):
             if one.key is None:
-                found[at] = max((found[other] + 0.5 for other in numbers(one.before & self.recipes)), default=-0.5)
+                found[at] = max((found[other] + 0.5 for other in numbers(one.before & self.recipes)), default=-0.5)  # guard: looks-of-make
         return found
 
     def left(self, pairs: Sequence[Pair], began: Sequence[Key]) -> list[Pair]:
@@ -180,7 +180,7 @@ class Graph:
                     makers.setdefault(file_of(path), set()).add(at)
                     makers.setdefault(os.path.dirname(path) + "/", set()).add(at)
                 for path in row["reads"]:
-                    users.setdefault(os.path.dirname(path) + "/" if path in lists else file_of(path), set()).add(at)
+                    users.setdefault(os.path.dirname(path) + "/" if path in lists else file_of(path), set()).add(at)  # guard: who-lists-folder
             for path, who in makers.items():
                 others = {at for at in users.get(path, set()) - who if any(not self.is_ordered(at, one) for one in who)}
                 for at in others if len(who) > 1 else ():
@@ -225,5 +225,5 @@ def placed(order: Sequence[Optional[Key]]) -> dict[Key, float]:
     found: dict[Key, float] = {}
     for at, key in enumerate(order):
         for length in range(1, len(key or ()) + 1):
-            found.setdefault((key or ())[:length], -float(at))
+            found.setdefault((key or ())[:length], -float(at))  # guard: recipes-around
     return found

@@ -60,7 +60,7 @@ def is_settled(pid: int, waiting: Container[int], seen: set[int]) -> bool:
     if words_of(pid)[0] != "S":
         return False
     live = [one for one in children_of(pid) if one in waiting or words_of(one)[0] not in "ZX"]
-    return bool(live) and all([is_settled(one, waiting, seen) for one in live])
+    return bool(live) and all([is_settled(one, waiting, seen) for one in live])  # guard: who-does-something-of-its-own
 
 
 def is_quiet(root: int, waiting: Container[int]) -> bool:

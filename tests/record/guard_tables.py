@@ -5,5 +5,5 @@ from typing import List
 
 from guard import Guard
 
-PARTS = ("commands", "trace", "build", "macros", "words", "make", "ninja", "tools", "missing", "record")
+PARTS = ("commands", "trace", "build", "macros", "words", "make", "ninja", "tools", "missing", "orders", "record")
 GUARDS: List[Guard] = [guard for part in PARTS for guard in import_module("guard_" + part).GUARDS]

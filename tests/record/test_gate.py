@@ -56,6 +56,11 @@ class Gates(unittest.TestCase):
         """With two jobs two wait at once."""
         self.assertEqual([["b"], ["c"], ["a"]], self.began({"Makefile": "all: a b c\na b c: ; @echo $@\n"}, ["make", "-j2"], lambda name: "abc".index(name)))
 
+    def test_order_while_one_sleeps(self) -> None:
+        """The next begins when the one before has ended, however long that sleeps."""
+        self.began({"Makefile": "all: a b\na: ; @echo $@\nb: ; @sleep 1; echo $@\n"}, ["make", "-j9"], lambda name: "ab".index(name))
+        self.assertEqual("b\na\n", self.output)
+
     def test_functions_and_further_lines(self) -> None:
         """What a function of make runs begins at once, and so do the lines behind the first."""
         text = "X := $(shell echo 1)\nall: a b\na: ; @echo $(shell echo 2)\n\t@echo a\nb: ; @echo b\n\t@echo $(X)\n"

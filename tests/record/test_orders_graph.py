@@ -1,0 +1,85 @@
+"""The graph of a record for other orders: which pairs are free, and orders that turn them round."""
+
+import json
+import tempfile
+import unittest
+from pathlib import Path
+from typing import Any, Dict, List, Optional, Sequence, Tuple
+
+import support  # noqa: F401  (it finds the modules)
+
+from record.orders.graph import Graph
+
+Row = Tuple[str, Sequence[str], Sequence[str], Sequence[str]]  # label, after, reads, writes
+
+
+class Graphs(unittest.TestCase):
+    """Records of a few lines."""
+
+    def graph(self, *builds: Tuple[Optional[Dict[str, str]], Sequence[Row]], kinds: Optional[Dict[str, Dict[str, Any]]] = None) -> Graph:
+        """The graph of builds: of each the task that it runs inside, and its tasks."""
+        room = tempfile.TemporaryDirectory()
+        self.addCleanup(room.cleanup)
+        top = Path(room.name)
+        (top / "record.json").write_text(json.dumps({"builds": ["%03d" % number for number, _ in enumerate(builds, 1)]}))
+        for number, (within, rows) in enumerate(builds, 1):
+            folder = top / "builds" / ("%03d" % number)
+            folder.mkdir(parents=True)
+            labels = {row[0]: {"target": row[0], "kind": "recipe", **(kinds or {}).get(row[0], {})} for row in rows}
+            (folder / "build.json").write_text(json.dumps({"folder": "/p", "round": "goals", "within": within, "labels": labels}))
+            (folder / "tasks").write_text("".join(json.dumps(dict(zip(("task", "after", "reads", "writes"), row))) + "\n" for row in rows))
+        return Graph(top)
+
+    def began(self, places: Dict[Any, float]) -> List[str]:
+        """The targets in the order of their places."""
+        return [key[-1][1] for key in sorted(places, key=lambda key: -places[key])]
+
+    def test_pairs(self) -> None:
+        graph = self.graph((None, [("a", [], [], []), ("b", [], [], []), ("c", ["a"], [], [])]))
+        self.assertEqual(2, graph.pairs())
+        self.assertEqual(["c", "b", "a"], self.began(graph.flipped()))
+
+    def test_makes_inside(self) -> None:
+        """A recipe is ordered with those that run inside it, and those of two makes by the recipes around them."""
+        graph = self.graph((None, [("a", [], [], []), ("b", [], [], [])]), ({"build": "001", "task": "a"}, [("x", [], [], []), ("y", [], [], [])]),
+                           ({"build": "001", "task": "b"}, [("z", [], [], [])]))
+        self.assertEqual([(("/p", "a", 1),), (("/p", "a", 1), ("/p", "x", 1)), (("/p", "a", 1), ("/p", "y", 1)), (("/p", "b", 1),), (("/p", "b", 1), ("/p", "z", 1))], [*graph.keys])
+        self.assertEqual(7, graph.pairs())
+        self.assertEqual(("001", "a", "b"), graph.together((("/p", "a", 1), ("/p", "x", 1)), (("/p", "b", 1), ("/p", "z", 1))))
+
+    def test_order_of_what_runs_inside(self) -> None:
+        """A recipe has the place of the first that runs inside it: that waits for it."""
+        rows: List[Row] = [("a", [], [], []), ("b#1", [], [], []), ("b", ["b#1"], [], [])]
+        graph = self.graph((None, rows), ({"build": "001", "task": "b#1"}, [("x", [], [], [])]), kinds={"b#1": {"kind": "part", "target": "b"}})
+        places = graph.covering([(0, 2)])
+        self.assertEqual(places[("/p", "b", 1),], places[("/p", "b", 1), ("/p", "x", 1)])
+
+    def test_covers(self) -> None:
+        """The order turns round what is wanted, with what that needs first."""
+        graph = self.graph((None, [("a", [], [], []), ("n", [], [], []), ("b", ["n"], [], []), ("c", [], [], [])]))
+        self.assertEqual(["n", "b", "c", "a"], self.began(graph.covering([(0, 2)])))
+        self.assertEqual(["n", "b", "a", "c"], self.began(graph.alone((0, 2))))
+
+    def test_looks_of_make(self) -> None:
+        """What has no recipe comes as soon as those before it have ended."""
+        graph = self.graph((None, [("a", [], [], []), ("look", [], [], []), ("b", [], [], []), ("d", ["b"], [], [])]), kinds={"look": {"kind": "look"}, "d": {"kind": "decision"}})
+        keys = [*graph.keys]
+        self.assertEqual([(0, 3)], graph.left([(0, 3), (0, 1)], [keys[0], keys[1]]))
+        self.assertEqual([], graph.left([(0, 3), (0, 1)], [keys[1], keys[0]]))
+
+    def test_parts(self) -> None:
+        """A part of a recipe begins when that does, and what it runs is inside the recipe."""
+        rows: List[Row] = [("a#1", [], [], []), ("a", ["a#1"], [], []), ("b", [], [], [])]
+        graph = self.graph((None, rows), ({"build": "001", "task": "a#1"}, [("x", [], [], [])]), kinds={"a#1": {"kind": "part", "target": "a"}})
+        self.assertEqual([(("/p", "a", 1), ("/p", "x", 1)), (("/p", "a", 1),), (("/p", "b", 1),)], [*graph.keys])
+        self.assertEqual(graph.at["001", "a"], graph.recipe_of("001", "a#1"))
+
+    def test_users_first(self) -> None:
+        """Who lists a folder, or uses one, begins before the several that make it."""
+        graph = self.graph((None, [("a", [], [], ["d/a"]), ("c", [], ["d/a", "d/b"], []), ("b", [], [], ["d/b"])]), kinds={"c": {"lists": ["d/a", "d/b"]}})
+        self.assertEqual("c", self.began(graph.users_first() or {})[0])
+        self.assertIsNone(self.graph((None, [("a", [], [], ["d"]), ("c", [], ["d"], [])])).users_first())
+
+
+if __name__ == "__main__":
+    unittest.main()
