@@ -77,7 +77,7 @@ class Graphs(unittest.TestCase):
     def test_users_first(self) -> None:
         """Who lists a folder, or uses one, begins before the several that make it."""
         graph = self.graph((None, [("a", [], [], ["d/a"]), ("c", [], ["d/a", "d/b"], []), ("b", [], [], ["d/b"])]), kinds={"c": {"lists": ["d/a", "d/b"]}})
-        self.assertEqual("c", self.began(graph.users_first() or {})[0])
+        self.assertEqual(["c"], self.began(graph.users_first() or {})[:1])
         self.assertIsNone(self.graph((None, [("a", [], [], ["d"]), ("c", [], ["d"], [])])).users_first())
 
 
