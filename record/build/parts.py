@@ -100,9 +100,10 @@ class Parts:
         self.ends = {id(course): sorted({*self.cuts[id(course)], course.at}) for course in self.courses if id(course) in self.cuts}
         heads = [course for course in self.courses if id(course) in self.cuts or id(course) in self.roots or id(course.parent) in self.cuts and not self.is_merged(course)]
         for course in heads:
+            words = command(course)
             for number in range(len(self.pieces(course))):
                 self.of[id(course), number] = len(self.parts)
-                self.parts.append(Part(words=command(course), is_left=id(course) in self.left))
+                self.parts.append(Part(words=words, is_left=id(course) in self.left))
         for course in self.courses:
             self.fill(course)
         for course in heads:
