@@ -91,7 +91,7 @@ GUARDS: List[Guard] = [
     *guards("make/idle.py",
         ("targets-with-another-name", 'if "GPATH" in base.values:', "idle.Texts.recipes_that_no_start_has_expanded"),
         ("targets-with-another-name", "if not base.prerequisites.keys() >= asked:", "idle.Texts.recipes_that_no_start_has_expanded"),
-        ("recipes-of-targets-that-are-considered", "used = {place for name in () for place in base.places.get(name, ())}", "idle.Makefiles.recipe_of_a_goal", YES),
+        ("recipes-of-targets-that-are-considered", "used = {place for name in () for place in base.places.get(name, ())}", "idle.Texts.recipes_that_no_start_has_expanded"),
         ("rules-with-double-colons", "lone = {name: places[0] for name, places in base.places.items() if len(places) == 1}", "idle.Texts.recipes_that_no_start_has_expanded"),
     ),
     *guards("make/kept.py",
