@@ -132,9 +132,12 @@ def left_behind(tree: FirstTree, before: Dict[str, str], lives: "Iterable[Life]"
     """What an earlier build left, and this one used. `before`: the kinds of the names that were there; `kept`: the folder of the record; `texts`: what
     makefiles said when make read them."""
     tops = tuple(configured_tops(before))
-    written = {path for build in builds for task in build.tasks if task.kind == "recipe" for work in task.works for kind, path in work.events if kind in CHANGES}
-    looks = {*used(before, lives), *listed(before, builds, names)}
-    found = {path for path in looks if not tree.has(path) and (path in written or tree.is_own(path) and not (path + "/").startswith(tops))}
+    recipes = [task for build in builds for task in build.tasks if task.kind == "recipe"]
+    shared = {path for task in recipes for path in task.writes}
+    changed = {path for task in recipes for work in task.works for kind, path in work.events if kind in CHANGES}
+    looks = {path: path in shared for path in used(before, lives)}
+    looks.update((path, looks.get(path, False) or path in changed) for path in listed(before, builds, names))
+    found = {path for path, is_written in looks.items() if not tree.has(path) and (is_written or tree.is_own(path) and not (path + "/").startswith(tops))}
     return {path for path in found if not (path + "/").startswith(kept + "/") and (path not in texts or has_rules(texts[path]))}  # guard: what-earlier-build-left
 
 

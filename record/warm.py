@@ -41,7 +41,7 @@ def warm_names(builds: List[Build], ninjas: List[Ninja], names: Names, cleaned: 
     made = {path for ninja in ninjas for path in made_by(ninja, names)}
     for ninja in ninjas:
         own = {path for path in targets_of(ninja, names) if not cleaned.is_gone(path, ninja.life)}  # guard: what-is-removed-first
-        found.update(own)  # guard: outputs
+        found.update(own)
         left.update(path for path in own - made if path in names.before)  # a folder too: its statement did not run  # guard: folder-that-is-up-to-date
         beyond.update(path for path in own - made if is_beyond(path, names))  # guard: outputs-outside-of-project
     return sorted({*left, *(path for path in found if names.before.get(path) in ("f", "l")), *beyond & found})  # guard: folders-that-are-left

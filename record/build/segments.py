@@ -3,7 +3,7 @@
 Two segments of processes (record/trace/courses.py) that nothing orders conflict where one writes, makes or removes what the other reads, writes, looks for
 or uses. It is luck where a wait for any child orders them in this build alone. What a make or ninja inside the recipe orders is judged in its own build.
 
-These do not conflict: files on which somebody took a lock; a look alone at what is written; a look at a name by who has listed its folder; who makes
+These do not conflict: files on which somebody took a lock, and pipes with names; a look alone at what is written; a look at a name by who has listed its folder; who makes
 a folder, and who uses it but has looked for it, or tried to make it.
 """
 

@@ -48,7 +48,7 @@ def folder_of(parts: List[str], is_whole: bool) -> str:
             begin, names = ANY, []
         elif part not in ("", "."):
             names.append(part)
-    return "/".join([begin, *names]) if names or begin else "/"  # guard: folders-of-patterns-by-their-names
+    return "/".join([begin, *names]) if names or begin else "/"
 
 
 def asked_in(asked: Iterable[Asked], own: str, folder: str, by_links: bool) -> List[str]:

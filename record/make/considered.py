@@ -89,7 +89,7 @@ class Considered:
     def searched(self, names: Set[str]) -> Iterator[str]:
         """The paths of names, and all that fit a pattern."""
         for name in names:
-            if MAGIC.search(name):  # guard: patterns-of-names
+            if MAGIC.search(name):
                 pattern = os.path.normpath(join(self.builder.make.folder, loose(name)))
                 yield from (path for path in self.changed if fnmatchcase(path, pattern))
             else:
@@ -155,7 +155,7 @@ class Considered:
         for kind, path in self.pieces.get(node.name, ()):
             if kind in ASKS:
                 found.add(path)
-            elif kind in (LISTED, MAKE_LISTED):  # guard: what-they-list
+            elif kind in (LISTED, MAKE_LISTED):
                 folder, _, pattern = path.partition("\0")
                 found |= {one for one in self.changed if os.path.dirname(one) == folder and fnmatchcase(os.path.basename(one), pattern or "*")}
         return {path for path in found if path in self.writers}

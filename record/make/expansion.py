@@ -341,5 +341,5 @@ class Answers:
     def texts_of_recipe(self, target: str) -> List[str]:
         """The texts of these macros that make may expand for the recipe. What it worked out when it read the makefiles is none of them."""
         steady, is_sure = self.steady, self.sure("\n".join(self.known.base.recipes.get(target, ())), target) is not None
-        late = {name for name in self.of_recipe(target) if is_sure and not steady.is_odd(name)}  # guard: what-recipe-gives-macro
-        return ["\n".join(steady.texts(name)) if name in late else self.known.text_of(name) for name in self.of_recipe(target)]  # guard: what-is-asked-later
+        late = {name for name in self.of_recipe(target) if is_sure and not steady.is_odd(name)}
+        return ["\n".join(steady.texts(name)) if name in late else self.known.text_of(name) for name in self.of_recipe(target)]

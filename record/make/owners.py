@@ -79,7 +79,7 @@ class Make(Tool):
         """Whether it looked for a makefile, as for `-include`, and found none: that one says nothing."""
         path = os.path.normpath(os.path.join(self.folder, name))
         kinds = self.kinds.get(path, set())
-        return ABSENT in kinds and READ not in kinds and not machine.lexists(path)  # guard: makefiles
+        return ABSENT in kinds and READ not in kinds and not machine.lexists(path)
 
     def begin(self, start: int) -> int:
         """When it began, or began again: then it knows nothing of what it has listed."""

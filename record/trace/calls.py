@@ -333,11 +333,13 @@ class Calls(Started):
         return given if given and any(self.names.find(begun, name, True).path == path for name in names) else ""  # guard: those-above
 
     def on_mknod(self, life: Life, call: Call, ok: bool) -> None:
-        """A file, a pipe with a name or a device is made: it counts as a file that is written."""
+        """A file, a pipe with a name or a device is made: it counts as a file that is written. Who opens such a pipe waits for the other end."""
         base, path = self.base_and_path(life, call)
         found = self.found(life, path, False, base)
         if ok:
             self.write(life, found)
+            if "S_IFIFO" in call.args:
+                self.keep(life, HELD, found.path)  # guard: pipes-with-names
         else:
             self.put_absent(life, found, SEEN if call.error == "EEXIST" else ABSENT)
 

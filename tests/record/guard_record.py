@@ -206,7 +206,6 @@ GUARDS: List[Guard] = [
         ("links-that-are-made", "found.update(node.path for node in nodes)", "warm.Warm.link_that_is_made"),
         ("targets-outside-of-project", "beyond.update(node.path for node in () if not (node.jobs or node.must) and is_beyond(node.path, names))", "warm.Beyond.target_that_is_there"),
         ("what-is-removed-first", "own = {path for path in targets_of(ninja, names) }", "ninja.Ninja.outputs_that_were_removed_first", WITHHELD),
-        ("outputs", "pass", "ninja.Ninja.warm_made_again_ordered"),
         ("folder-that-is-up-to-date", "left.update(path for path in () if path in names.before)", "ninja.Ninja.warm_folder_that_is_up_to_date", LOST_HOLE),
         ("folder-that-is-up-to-date", "left.update(path for path in own if path in names.before)", "ninja.Ninja.folder_that_was_there", WITHHELD),
         ("outputs-outside-of-project", "beyond.update(path for path in () if is_beyond(path, names))", "warm.Beyond.statement_of_ninja"),

@@ -3,6 +3,7 @@
 import shutil
 import tempfile
 import unittest
+from dataclasses import replace
 from pathlib import Path
 
 import support
@@ -164,7 +165,7 @@ class Projects(unittest.TestCase):
         placed = [one for one in drawn if one.place is not None]
         self.assertTrue(50 < len(placed) < 110, len(placed))
         self.assertEqual([one.place for one in drawn], [PlacedDraw(seed).draw().place for seed in range(300)])
-        self.assertEqual([GadgetDraw(seed).draw() for seed in range(50) if drawn[seed].place is None], [one for one in drawn[:50] if one.place is None])
+        self.assertEqual([GadgetDraw(seed).draw() for seed in range(50) if drawn[seed].place is None], [replace(one, left=None) for one in drawn[:50] if one.place is None])
         places = [draw_place(seed, True, True) for seed in range(600)]
         lacks = {"terminal"} if not has_terminals() else set()
         self.assertEqual(({*INPUTS} - lacks, {*OUTPUTS} - lacks, {*FOLDERS}, {*VARIABLES}),

@@ -176,12 +176,6 @@ class Fresh(unittest.TestCase):
         outcome = project.record(words, ["--fresh"])
         self.assertEqual((3, text), (outcome.status, outcome.stderr.decode()))
 
-    def test_make(self) -> None:
-        with support.Project({"Makefile": "all: ; touch all\n"}) as project:
-            self.says(project, "race-record: make clean ended with 2 here, so --fresh has no clean tree: name an archive of it by --from, or record a clean tree "
-                               "without --fresh\n", "make", "-C", "d")
-            self.assertFalse((project.folder / "all").exists())
-
     def test_folder_of_a_run_that_was_killed(self) -> None:
         with support.Project({"b c/build.ninja": RULES, "b c.race-saved/kept": "k"}) as project:
             own = "'%s'" % os.path.realpath(project.folder / "b c")
