@@ -80,7 +80,7 @@ GUARDS: List[Guard] = [
     ),
     *guards("first_tree.py",
         ("what-earlier-build-left", "return set()", "first_tree.Left.dependency_file"),
-        ("what-lists-show", "pass", "first_tree.Left.name_that_a_list_shows", YES),
+        ("what-lists-show", "yield from ()", "first_tree.Left.name_that_a_list_shows", LOST_HOLE),
         ("what-came-with-release", "return self.tree.has(path) or path not in self.written and machine.exists(path) and machine.mtime(path) <= self.since", "first_tree.Fresh.what_git_does_not_ignore"),
         ("used-before-written", 'seen = {path for path in looks if before.get(path) in ("f", "l")}', "cases.Cases.hard_link_ordered", WITHHELD),
     ),

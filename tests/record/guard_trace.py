@@ -9,6 +9,7 @@ GUARDS: List[Guard] = [
         ("open-files-without-name", "word = first_text(args)", "classes.Traces.names_of_open_files"),
     ),
     *guards("trace/calls.py",
+        ("pipes-with-names", "pass", "replay.Makefiles.script_that_is_a_pipe", FALSE_RACE),
         ("old-names", '"getxattrat", "listxattrat", "file_getattr"}', "classes.Traces.new_names_of_old_calls"),
         ("attributes-of-their-own", 'CHANGES = {"chmod", "chown", "lchown", "utime", "utimes", "truncate", "setxattr", "lsetxattr", "removexattr", "fchmodat",', "calls.Descriptors.attributes_of_a_link"),
         ("calls-of-32-bits", '"utimensat_time64",', "replay.Traces.names_of_calls_of_32_bits"),
