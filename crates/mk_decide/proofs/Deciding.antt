@@ -1,11 +1,19 @@
 -- Verdicts, and what they give.
-use Rattle.std.proofs.Common.{ℕ, List, All, get_or, inl, inr, arith}
-use Rattle.std.proofs.lemmas.Bool.{cases_order}
+use Rattle.std.proofs.Common.{ℕ, ◌≡◌, ◌∙◌, ◌≤◌, ◌↔◌, Bool, true, false, IfNone, IfSome, IsTrue, List, Option, None, Some, All, get_or, is_some, length, not, refl, sym, subst, inl, inr, arith}
+use Rattle.std.specs.Bool.{Decides}
+use Rattle.std.specs.List.{Contains}
+use Rattle.std.specs.Ordering.{eq_by_cmp}
+use Rattle.std.proofs.lemmas.Bool.{cases_order, false≢true}
+use Rattle.std.proofs.lemmas.Cmp.{eq_by_cmp_equiv}
 use Rattle.std.proofs.lemmas.List.Elements.{All-contains, Contains-get_or}
+use Rattle.std.proofs.lemmas.Map.Keys.{IsDistinct-from_sorted}
+use Rattle.std.proofs.lemmas.Map.Made.{is_member-Decides, length-le_from_is_member}
 use Rattle.mk_jobs.specs.Jobs.{Jobs, Before, IsRaceFree, IsValid}
 use Rattle.mk_jobs.specs.Shape.{IsWellFormed}
 use Rattle.mk_jobs.proofs.JobsLemmas.{before_less, shape_valid}
 use Rattle.mk_jobs.proofs.Reaching.{turned_clash}
+use Rattle.mk_proof.specs.Shapes.{pair_cmp}
+use Rattle.mk_proof.proofs.Risen.{pair_cmp_total}
 use Rattle.mk_sched.specs.Laws.{IsDeterminate}
 use Rattle.mk_sched.specs.Schedules.{IsDeterminateFromOneRun}
 use Rattle.mk_sched.proofs.Determinate.{headline}
@@ -17,8 +25,10 @@ use Rattle.mk_cert.proofs.Sound.{holds}
 use Rattle.mk_decide.specs.declared.decision.Verdict.{Verdict}
 use Rattle.mk_decide.specs.declared.decision.Verdict.TheVariants.{Safe, Race}
 use Rattle.mk_decide.specs.Decisions.{IfRace, IsSafe, IsVerdict}
-use Rattle.mk_decide.specs.Pairs.{ArePairs, OnlyClashing}
+use Rattle.mk_decide.specs.Pairs.{ArePairs, HasFewPairs, HasManyPairs, IsRising, OnlyClashing}
+use Rattle.mk_decide.specs.Races.{IsLeastRace}
 use Rattle.mk_decide.specs.ShortVerdicts.{IsShortVerdict}
+use Rattle.mk_decide.proofs.Paired.{pair_equal, pair_ties}
 
 -- where all clashing pairs are in order, the jobs are race-free
 pub ordered_free : (jobs : Jobs) (pairs : List (ℕ × ℕ)) → ArePairs jobs pairs → All (λ (p : ℕ × ℕ). Before jobs p.0 p.1) pairs → IsRaceFree jobs
@@ -61,3 +71,33 @@ all_ordered jobs pairs valid free only = λ k d inside.
 pub short_determinate : (jobs : Jobs) (verdict : Verdict) → IsWellFormed jobs → IsShortVerdict jobs verdict → IsSafe verdict → IsDeterminate jobs
 short_determinate jobs (Safe chains) shape is safe = headline jobs (shape_valid shape) is.race_free
 short_determinate jobs (Race trace) shape is safe = absurd safe
+
+pub short_from_one_run : (jobs : Jobs) (verdict : Verdict) → IsWellFormed jobs → IsShortVerdict jobs verdict → IsSafe verdict → IsDeterminateFromOneRun jobs
+short_from_one_run jobs (Safe chains) shape is safe = from_one_run jobs (shape_valid shape) is.race_free
+short_from_one_run jobs (Race trace) shape is safe = absurd safe
+
+-- a list of pairs that has all of another is as long at least
+no_longer : (some all : List (ℕ × ℕ)) → IsRising some → ((p : ℕ × ℕ) → Contains some p → Contains all p) → length some ≤ length all
+no_longer some all rise there =
+    let same : (p q : ℕ × ℕ) → Decides (eq_by_cmp pair_cmp p q) (p ≡ q) = λ p q. (
+      λ ties. pair_equal p q (pair_ties p q ∙ ties),
+      λ is. subst (λ (r : ℕ × ℕ). eq_by_cmp pair_cmp p r ≡ true) is ((eq_by_cmp_equiv pair_cmp_total).refl p),
+    ) in
+    length-le_from_is_member (eq_by_cmp_equiv pair_cmp_total) some all (IsDistinct-from_sorted pair_cmp some rise)
+    (λ p held. (is_member-Decides same all p).1 (there p ((is_member-Decides same some p).0 held)))
+
+-- where few pairs clash, not many do
+pub few_not_many : {jobs : Jobs} → HasFewPairs jobs → HasManyPairs jobs → ⊥
+few_not_many few many =
+    let long = no_longer many.pairs few.pairs many.rise (λ p there. (few.all.clash p.0 p.1).1 (many.clash p.0 p.1 there)) in
+    let up = few.few in
+    let over = many.many in
+    omega (arith, long, up, over)
+
+-- no race was found among all pairs that clash just where the jobs are race-free
+pub free_if_none : (jobs : Jobs) (pairs : List (ℕ × ℕ)) (race : Option (ℕ × ℕ)) (free : Bool) → ArePairs jobs pairs
+    → IfNone race (All (λ (p : ℕ × ℕ). Before jobs p.0 p.1) pairs) → IfSome race (λ r. IsLeastRace jobs r.0 r.1) → is_some race ≡ not free → IsTrue free ↔ IsRaceFree jobs
+free_if_none jobs pairs None true are ordered least is = (λ _. ordered_free jobs pairs are ordered, λ _. refl)
+free_if_none jobs pairs None false are ordered least is = absurd (false≢true is)
+free_if_none jobs pairs (Some race) true are ordered least is = absurd (false≢true (sym is))
+free_if_none jobs pairs (Some race) false are ordered least is = (λ so. absurd (false≢true so), λ free. absurd (least.race.apart (free race.0 race.1 least.race.clash)))

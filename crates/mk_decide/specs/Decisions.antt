@@ -6,10 +6,15 @@ use Rattle.mk_cert.specs.Certificates.{IsCertificate}
 use Rattle.mk_decide.specs.declared.decision.Verdict.{Verdict}
 use Rattle.mk_decide.specs.declared.decision.Verdict.TheVariants.{Safe, Race}
 use Rattle.mk_decide.specs.LeastTraces.{IsOfLeastRace}
-use Rattle.mk_decide.specs.Pairs.{ArePairs}
+use Rattle.mk_decide.specs.Pairs.{ArePairs, HasFewPairs}
 use Rattle.mk_decide.specs.Verdicts.{AreChainsOf}
 
--- safe: the jobs are race-free, and the chains are a certificate of just the clashing pairs
+-- safe: the jobs are race-free, and not too many pairs clash for a certificate
+pub record AreSafe (jobs : Jobs) : Type 0 where
+  pub race_free : IsRaceFree jobs
+  pub few : HasFewPairs jobs
+
+-- safe by chains: the jobs are race-free, and the chains are a certificate of just the clashing pairs
 pub record AreSafeBy (jobs : Jobs) (chains : List (List ℕ)) : Type 0 where
   pub race_free : IsRaceFree jobs
   pub certificate : IsCertificate jobs chains

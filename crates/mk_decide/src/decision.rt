@@ -1,12 +1,13 @@
 //! Whether jobs are race-free, and what shows it.
-ghost use Rattle.std.specs.Prelude.{ℕ, ◌≡◌, ◌≤◌, Err, IfErr, IfOk, length};
+ghost use Rattle.std.specs.Prelude.{ℕ, ◌≡◌, ◌↔◌, ◌≤◌, Err, IfErr, IfOk, IsTrue, length};
 ghost use Rattle.mk_name.specs.Gives.{HaltsAmong};
+ghost use Rattle.mk_jobs.specs.Jobs.{IsRaceFree};
 ghost use Rattle.mk_jobs.specs.Shape.{IsWellFormed};
 ghost use Rattle.mk_sched.specs.Laws.{IsDeterminate};
 ghost use Rattle.mk_sched.specs.Schedules.{IsDeterminateFromOneRun};
 ghost use Rattle.mk_cert.specs.Sure.{IsSure};
 ghost use Rattle.mk_cert.specs.Traces.{TraceHolds};
-ghost use Rattle.mk_decide.specs.Decisions.{IfRace, IsSafe, IsVerdict};
+ghost use Rattle.mk_decide.specs.Decisions.{AreSafe, AreSafeBy, IfRace, IsSafe, IsVerdict};
 ghost use Rattle.mk_decide.specs.Pairs.{ArePairs, HasFewPairs, HasManyPairs, pair_limit, too_many};
 
 use crate::before::Before;
@@ -89,4 +90,31 @@ pub fn decide(alloc: Global, jobs: &Jobs) -> Result<Verdict, Halt>
 {
     let mut rows = Rows::new(alloc, jobs)?;
     decide_with(alloc, jobs, &mut rows)
+}
+
+/// Whether jobs are race-free, as [`decide`] decides it, with the same fault; but with nothing to show it.
+pub fn is_race_free(alloc: Global, jobs: &Jobs) -> Result<bool, Halt>
+    ensures free { IfOk result (λ free. IsTrue free ↔ IsRaceFree jobs.now) }
+    ensures few { IfOk result (λ free. HasFewPairs jobs.now) }
+    ensures many { IfErr result (λ halt.
+        HaltsAmong {Y = ℕ} halt (λ answer. (answer ≡ Err too_many) × HasManyPairs jobs.now)) }
+{
+    let _count = jobs.count();
+    let pairs = clashing_pairs(alloc, jobs)?;
+    let mut rows = Rows::new(alloc, jobs)?;
+    let race = first_race(jobs, &mut rows, &pairs);
+    Ok(race.is_none())
+}
+
+/// The certificate that [`decide`] gives of jobs that are known to be safe. The only error is out of memory.
+pub fn certify(alloc: Global, jobs: &Jobs) -> Result<Certificate, AllocError>
+    requires { AreSafe jobs.now }
+    ensures { IfOk result (AreSafeBy jobs.now) }
+{
+    match decide(alloc, jobs) {
+        Ok(Verdict::Safe(certificate)) => Ok(certificate),
+        Ok(Verdict::Race(_trace)) => unreachable!(),
+        Err(Halt::Fault(_fault)) => unreachable!(),
+        Err(Halt::Memory) => Err(AllocError),
+    }
 }

@@ -3,6 +3,7 @@ ghost use Rattle.std.specs.Prelude.{ℕ, ◌≡◌, ◌↔◌, Err, IfErr, IfOk,
 ghost use Rattle.std.specs.List.{Contains};
 ghost use Rattle.mk_name.specs.Gives.{HaltsAmong};
 ghost use Rattle.mk_sched.specs.Laws.{IsDeterminate};
+ghost use Rattle.mk_sched.specs.Schedules.{IsDeterminateFromOneRun};
 ghost use Rattle.mk_cert.specs.Certificates.{IsAtEnds};
 ghost use Rattle.mk_cert.specs.Sure.{IsSure};
 ghost use Rattle.mk_cert.specs.Traces.{TraceHolds};
@@ -32,6 +33,7 @@ use std::alloc::{AllocError, Global};
 pub fn decide_short(alloc: Global, jobs: &Jobs) -> Result<Verdict, Halt>
     ensures answer { IfOk result (IsShortVerdict jobs.now) }
     ensures determinate { IfOk result (λ verdict. IsSafe verdict → IsDeterminate jobs.now) }
+    ensures from_one_run { IfOk result (λ verdict. IsSafe verdict → IsDeterminateFromOneRun jobs.now) }
     ensures holds { IfOk result (λ verdict. IfRace verdict (TraceHolds jobs.now)) }
     ensures sure { IfOk result (λ verdict. IfRace verdict (IsSure jobs.now)) }
     ensures many { IfErr result (λ halt.

@@ -4,7 +4,7 @@ ghost use Rattle.mk_name.specs.Gives.{HaltsAmong};
 ghost use Rattle.mk_index.specs.Bits.{HasBit};
 ghost use Rattle.mk_jobs.specs.Jobs.{IsPrerequisite, node_count};
 ghost use Rattle.mk_jobs.specs.Shape.{IsWellFormed};
-ghost use Rattle.mk_decide.specs.Pairs.{ArePairs, HasManyPairs, too_many};
+ghost use Rattle.mk_decide.specs.Pairs.{ArePairs, HasFewPairs, HasManyPairs, too_many};
 ghost use Rattle.mk_fix.specs.Fixes.{IsFix};
 ghost use Rattle.mk_fix.specs.Musts.{AreDirect, AreDirectBelow, AreFirsts, AreMustRows, IsBehind, IsDirect, IsMustRow};
 
@@ -25,6 +25,7 @@ const WORD: usize = 64;
 #[tactic(auto, using(crate::proofs::Direct::direct_fix))]
 pub fn fix(alloc: Global, jobs: &Jobs) -> Result<Vec<(u32, u32)>, Halt>
     ensures fix { IfOk result (λ edges. IsFix jobs.now edges.items) }
+    ensures few { IfOk result (λ edges. HasFewPairs jobs.now) }
     ensures many { IfErr result (λ halt.
         HaltsAmong {Y = ℕ} halt (λ answer. (answer ≡ Err too_many) × HasManyPairs jobs.now)) }
 {

@@ -7,7 +7,7 @@ use Rattle.mk_decide.specs.Pairs.{OnlyClashing}
 use Rattle.mk_decide.specs.Verdicts.{AreChainsOf}
 use Rattle.mk_decide.specs.declared.decision.Verdict.TheVariants.{Safe}
 use Rattle.mk_decide.proofs.Certifying.{chains_short, near_clashing}
-use Rattle.mk_decide.proofs.Deciding.{all_ordered, short_determinate}
+use Rattle.mk_decide.proofs.Deciding.{all_ordered, short_determinate, short_from_one_run}
 use Rattle.mk_decide.proofs.short.decide_short.Goals as goal
 
 pub returns-in-Some-clause-holds : goal.returns-in-Some-clause-holds
@@ -53,3 +53,6 @@ returns-clause-answer c =
 
 pub returns-clause-determinate : goal.returns-clause-determinate
 returns-clause-determinate c = short_determinate c.args.jobs.now (Safe c.in_ok-chains.chains) c.count-count.ensures.shape (returns-clause-answer c)
+
+pub returns-clause-from_one_run : goal.returns-clause-from_one_run
+returns-clause-from_one_run c = short_from_one_run c.args.jobs.now (Safe c.in_ok-chains.chains) c.count-count.ensures.shape (returns-clause-answer c)
