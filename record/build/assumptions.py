@@ -44,7 +44,7 @@ TEXTS = {
     "afterwards": "interpreters, programs that nobody knows, and makes that only ask (-n, -q), which look at two files when the build that made them has ended, do not compare which is newer",
     "interpreters": "Perl, Python and other interpreters compare ages only of files that they looked at by name, and ask of a folder by its whole path no more than that it is there",
     # What the answer on missing inputs takes for granted.
-    "later": "you edit sources, add and remove none, and what you edit gets a new time; recipes then read and write the files that they do now; makefiles, commands and the environment stay; each build ends well",
+    "later": "you edit sources, add and remove none, and what you edit gets a new time; in a clean tree recipes then read and write the files that they do now; makefiles, commands and the environment stay; each build ends well",
     "traces": "a recipe leaves the same after the same inputs, whatever it left before, and writes its target whenever it runs",
     "always": "recipes that run in every build have no missing inputs: their targets are phony, or are not there after the build",
     "not-run": "targets that were there when their make looked, and whose recipes did not run, have no missing inputs, and are made alike by what makes them",

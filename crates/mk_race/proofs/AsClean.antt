@@ -83,9 +83,9 @@ free_of_none jobs races shape are none a b clash = elim (cases_order a b) [
 -- so builds of old trees leave what those of clean ones leave, where jobs are declared too
 pub leaves_as_clean : (jobs : Jobs) (listing : List Name) (races : List (ℕ × ℕ)) → IsWellFormed jobs → AreRaces jobs races → races ≡ []
     → IsDeclared jobs (unlisted_names jobs listing) → LeavesAsClean jobs listing
-leaves_as_clean jobs listing races shape are none declared = λ programs opening clean a b kept is_clean same of_opening of_clean.
+leaves_as_clean jobs listing races shape are none declared = λ programs opening clean a b kept is_clean same of_opening of_clean within.
     as_from_clean jobs programs (unlisted_names jobs listing) opening clean a b (shape_valid shape) (free_of_none jobs races shape are none) declared
-    kept is_clean same of_opening of_clean
+    kept is_clean same of_opening of_clean within
 
 -- and so it is of the build that texts mean
 pub builds_as_clean : (texts : Texts) (footprints : List ℕ) (prepared : Prepared) (change : Option Change) → IsPrepared texts footprints (Ok prepared)

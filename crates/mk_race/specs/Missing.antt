@@ -1,10 +1,11 @@
 -- All that keeps a build of an old tree from leaving what a build of a clean tree leaves, and what holds where nothing does.
-use Rattle.std.specs.Prelude.{ℕ, ◌≡◌, List, [], Option, None, Result, Ok, Err}
+use Rattle.std.specs.Prelude.{ℕ, ◌≡◌, true, List, [], Option, None, Result, Ok, Err}
 use Rattle.mk_name.specs.Names.{Name}
 use Rattle.mk_name.specs.Reported.{Reported}
 use Rattle.mk_jobs.specs.Jobs.{Jobs}
 use Rattle.mk_sched.specs.Events.{Event, store_after}
 use Rattle.mk_sched.specs.Programs.{Program}
+use Rattle.mk_sched.specs.Schedules.{stays}
 use Rattle.mk_sched.specs.Stores.{Store, bytes_of}
 use Rattle.mk_stale.specs.Incremental.{IsBuild, IsClean, IsKept, SameSources}
 use Rattle.mk_missing.specs.Unlisted.{unlisted_names}
@@ -38,12 +39,12 @@ pub record IsEmpty (listed : MissingList) : Type 0 where
   pub change : listed.change ≡ None
 
 -- a build of a tree that edits and builds led to from a clean one leaves at each name the bytes that a build of a clean tree with the same
--- sources leaves, where no edit makes or changes an unlisted file
+-- sources leaves, if that one stays within the footprints, where no edit makes or changes an unlisted file
 abbrev pub LeavesAsClean : Jobs → List Name → Type 0
 LeavesAsClean jobs listing =
     (programs : ℕ → Program) (opening clean : Store) (a b : List Event)
     → IsKept jobs programs (unlisted_names jobs listing) opening → IsClean jobs clean → SameSources jobs opening clean
-    → IsBuild jobs programs opening a → IsBuild jobs programs clean b
+    → IsBuild jobs programs opening a → IsBuild jobs programs clean b → stays jobs b ≡ true
     → (x : Name) → bytes_of (store_after opening a x) ≡ bytes_of (store_after clean b x)
 
 -- builds of old trees leave what those of clean ones leave: the texts mean jobs, and no others, whose builds leave so; and a second

@@ -1,10 +1,10 @@
 -- Agreeing recipes and idle recipes in plain words.
-use Rattle.std.proofs.Common.{subst, reverse, slice_get, ℕ, zero, suc, ◌≡◌, ◌&&◌, not, Bool, true, false, List, [], ◌∷◌, Option, Some, None, refl, sym, ap, ◌∙◌, take, is_some, is_none}
+use Rattle.std.proofs.Common.{subst, reverse, slice_get, ℕ, zero, suc, ◌≡◌, ◌<◌, ◌&&◌, not, Bool, true, false, List, [], ◌∷◌, Option, Some, None, refl, sym, ap, ◌∙◌, take, is_some, is_none}
 use Rattle.std.proofs.lemmas.Bool.{false≢true, and_parts, not-true, false_from_ne_true}
-use Rattle.mk_jobs.specs.Jobs.{name_of, prerequisites_of, has_recipe, is_phony, is_listed, is_empty}
-use Rattle.mk_sched.specs.Stores.{File}
-use Rattle.mk_sched.specs.Events.{Entry, Looked, Wrote, history, phase, is_started, store_after}
-use Rattle.mk_sched.specs.Runs.{Agree}
+use Rattle.mk_jobs.specs.Jobs.{Jobs, IsValid, node_count, name_of, prerequisites_of, has_recipe, is_idle, is_phony, is_listed, is_empty}
+use Rattle.mk_sched.specs.Stores.{File, Store, is_stale}
+use Rattle.mk_sched.specs.Events.{Event, Entry, Looked, Wrote, history, phase, is_started, store_after}
+use Rattle.mk_sched.specs.Runs.{Agree, IsRun}
 use Rattle.mk_sched.specs.Plain.{NextAlike, GoOnAlike, AgreeMeans, IdleIsFresh, IdleNeverStarts, ListingAgrees}
 use Rattle.mk_sched.specs.Programs.{Request, ToLook, ToWrite, IsAnswer, ProgramsAgree}
 use Rattle.mk_sched.specs.Serial.{EqualsSerialRun}
@@ -39,26 +39,35 @@ some_is : (o : Option File) → is_some o ≡ true → is_none o ≡ false
 some_is None some = sym some
 some_is (Some file) some = refl
 
-pub idle_is_fresh : IdleIsFresh
-idle_is_fresh jobs tie limit opening past n valid agrees run inside idle unstarted =
+there_is_fresh : (jobs : Jobs) (tie : Bool) (limit : ℕ) (opening : Store) (past : List Event) (n : ℕ) → IsValid jobs → is_some (opening (name_of jobs n)) ≡ is_listed jobs n → IsRun jobs tie limit opening past → n < node_count jobs
+    → is_idle jobs n ≡ true → is_started (phase past n) ≡ false → is_stale jobs tie (store_after opening past) n ≡ false
+there_is_fresh jobs tie limit opening past n valid there run inside idle unstarted =
     let most = and_parts (has_recipe jobs n && is_listed jobs n && not (is_phony jobs n)) (is_empty (prerequisites_of jobs n)) idle in
     let more = and_parts (has_recipe jobs n && is_listed jobs n) (not (is_phony jobs n)) most.0 in
     let listed = (and_parts (has_recipe jobs n) (is_listed jobs n) more.0).1 in
     let unphony : is_phony jobs n ≡ false = not-true _ more.1 in
     let own : store_after opening past (name_of jobs n) ≡ opening (name_of jobs n) = own_file jobs tie limit opening past n valid run inside unstarted in
-    let there : is_none (opening (name_of jobs n)) ≡ false = some_is _ (agrees n inside ∙ listed) in
+    let some : is_none (opening (name_of jobs n)) ≡ false = some_is _ (there ∙ listed) in
     let none : prerequisites_of jobs n ≡ [] = empty_is _ most.1 in
-    rw (unphony, own, there, none) refl
+    rw (unphony, own, some, none) refl
 
-pub idle_never_starts : IdleNeverStarts
-idle_never_starts jobs tie limit opening past n valid agrees run inside idle = false_from_ne_true _ (λ started.
+pub idle_is_fresh : IdleIsFresh
+idle_is_fresh jobs tie limit opening past n valid agrees run inside = there_is_fresh jobs tie limit opening past n valid (agrees n inside) run inside
+
+-- an idle recipe does not start where its own file is there
+pub there_never_starts : (jobs : Jobs) (tie : Bool) (limit : ℕ) (opening : Store) (past : List Event) (n : ℕ) → IsValid jobs → is_some (opening (name_of jobs n)) ≡ is_listed jobs n → IsRun jobs tie limit opening past → n < node_count jobs
+    → is_idle jobs n ≡ true → is_started (phase past n) ≡ false
+there_never_starts jobs tie limit opening past n valid there run inside idle = false_from_ne_true _ (λ started.
     let d = decided jobs tie limit opening past n run (started_begun (phase past n) started) in
-    let fresh = idle_is_fresh jobs tie limit opening d.earlier n valid agrees d.run inside idle (ap is_started d.ready.waits) in
+    let fresh = there_is_fresh jobs tie limit opening d.earlier n valid there d.run inside idle (ap is_started d.ready.waits) in
     false≢true (sym (ap (λ stale. has_recipe jobs n && stale) fresh ∙ and_false (has_recipe jobs n)) ∙ (sym d.chosen ∙ started)))
   where
     and_false : (x : Bool) → x && false ≡ false
     and_false true = refl
     and_false false = refl
+
+pub idle_never_starts : IdleNeverStarts
+idle_never_starts jobs tie limit opening past n valid agrees run inside = there_never_starts jobs tie limit opening past n valid (agrees n inside) run inside
 
 pub listing_agrees : ListingAgrees
 listing_agrees jobs listed opening same agrees n inside = agrees (name_of jobs n) ∙ sym (same n inside)

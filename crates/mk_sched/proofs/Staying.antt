@@ -51,7 +51,7 @@ module _ (jobs : Jobs) (tie : Bool) (limit : ℕ) (opening : Store) where
       (join_run past schedule.0 both.1 rise.0, may_if_can past e.node e.act schedule.1 both.0 rise.1)
 
   -- who can act has not passed
-  open_if_can : (past : List Event) (n : ℕ) (a : Act) → Can jobs tie limit opening past n a → is_passed (phase past n) ≡ false
+  pub open_if_can : (past : List Event) (n : ℕ) (a : Act) → Can jobs tie limit opening past n a → is_passed (phase past n) ≡ false
   open_if_can past n Skip can = ap is_passed can.ready.waits
   open_if_can past n Start can = ap is_passed can.ready.waits
   open_if_can past n (Look path seen) can = ap is_passed can.0

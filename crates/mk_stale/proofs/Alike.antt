@@ -65,7 +65,7 @@ follows_there programs n es follows m started = split (n == m)
     (λ other. absurd (false≢true (sym (ap (λ acts. is_started (phase_after acts)) (idle_there n m es other)) ∙ started)))
 
 -- so two doings of one program agree
-doings_agree : (programs : ℕ → Program) (n : ℕ) (es fs : List Entry) → Follows (programs n) (reverse es) → Follows (programs n) (reverse fs) → Agree (reverse es) (reverse fs)
+pub doings_agree : (programs : ℕ → Program) (n : ℕ) (es fs : List Entry) → Follows (programs n) (reverse es) → Follows (programs n) (reverse fs) → Agree (reverse es) (reverse fs)
 doings_agree programs n es fs one two =
     subst₂ (λ h k. Agree (reverse h) (reverse k)) (history_of n es) (history_of n fs)
     (programs_agree programs (past_of n es) (past_of n fs) (follows_there programs n es one) (follows_there programs n fs two) n (ap is_started (runs_there n es)) (ap is_started (runs_there n fs)))
@@ -78,7 +78,7 @@ module _ (jobs : Jobs) (n : ℕ) (start other : Contents) (inputs : (x : Name) �
       (λ foreign. input_stays jobs n start es x one foreign ∙ inputs x (record { reads = reads; foreign = foreign }) ∙ sym (input_stays jobs n other es x two foreign))
 
   -- so the next steps are the same, if they are alike
-  step_alike : (e f : Entry) (es : List Entry) → AreSteps jobs n start (e ∷ es) → AreSteps jobs n other (f ∷ es) → WritesFirst jobs n (e ∷ es) → AlikeSteps e f → e ≡ f
+  pub step_alike : (e f : Entry) (es : List Entry) → AreSteps jobs n start (e ∷ es) → AreSteps jobs n other (f ∷ es) → WritesFirst jobs n (e ∷ es) → AlikeSteps e f → e ≡ f
   step_alike (Looked x s) (Looked y t) es one two first alike =
       let found : t ≡ left_by other es x = two.1.1 ∙ ap (left_by other es) (sym alike) in
       let same : s ≡ t = one.1.1 ∙ seen_alike es x one.0 two.0 one.1.0 first.1 ∙ sym found in
@@ -88,7 +88,7 @@ module _ (jobs : Jobs) (n : ℕ) (start other : Contents) (inputs : (x : Name) �
   step_alike (Wrote x left) (Looked y t) es one two first alike = absurd alike
 
   -- what holds of the whole held before
-  steps_before : (from : Contents) (xs es : List Entry) → AreSteps jobs n from (reverse_aux xs es) → AreSteps jobs n from es
+  pub steps_before : (from : Contents) (xs es : List Entry) → AreSteps jobs n from (reverse_aux xs es) → AreSteps jobs n from es
   steps_before from [] es steps = steps
   steps_before from (e ∷ xs) es steps = (steps_before from xs (e ∷ es) steps).0
 
@@ -96,7 +96,7 @@ module _ (jobs : Jobs) (n : ℕ) (start other : Contents) (inputs : (x : Name) �
   first_drop (Looked x s) es first = first.0
   first_drop (Wrote x left) es first = first
 
-  first_before : (xs es : List Entry) → WritesFirst jobs n (reverse_aux xs es) → WritesFirst jobs n es
+  pub first_before : (xs es : List Entry) → WritesFirst jobs n (reverse_aux xs es) → WritesFirst jobs n es
   first_before [] es first = first
   first_before (e ∷ xs) es first = first_drop e es (first_before xs (e ∷ es) first)
 

@@ -1,5 +1,5 @@
 -- What a node did in a run of race-free jobs it did alone, from the contents that stood there when it started. So who started is settled.
-use Rattle.std.proofs.Common.{ℕ, ◌≡◌, ◌==◌, ◌⊎◌, inl, inr, Bool, true, false, List, [], ◌∷◌, refl, sym, ap, ◌∙◌, subst, subst₂, eq-eqb, if◌then◌else◌, arith}
+use Rattle.std.proofs.Common.{ℕ, ◌≡◌, ◌==◌, ◌⊎◌, inl, inr, Bool, true, false, List, [], ◌∷◌, refl, sym, ap, ◌∙◌, subst, subst₂, reverse, eq-eqb, if◌then◌else◌, arith}
 use Rattle.std.proofs.lemmas.Bool.{false≢true, or_left, or_right}
 use Rattle.mk_name.specs.Names.{Name, same_name}
 use Rattle.mk_jobs.specs.Jobs.{Jobs, IsValid, IsRaceFree, Before, may_write, may_touch}
@@ -7,11 +7,11 @@ use Rattle.mk_jobs.proofs.JobsLemmas.{before_less}
 use Rattle.mk_sched.specs.Stores.{Store, bytes_of}
 use Rattle.mk_sched.specs.Events.{Act, Skip, Start, Look, Put, Erase, Finish, Event, Entry, Looked, Wrote, Running, entries, is_passed, is_started, acts_of, phase, phase_after, history, store_after, written}
 use Rattle.mk_sched.specs.Runs.{May, IsRun}
-use Rattle.mk_sched.specs.Programs.{Program, FollowsPrograms}
+use Rattle.mk_sched.specs.Programs.{Program, Follows}
 use Rattle.mk_sched.proofs.Basics.{split, split_option, is_begun, started_begun, same_name-true, touch, written-untouched}
 use Rattle.mk_sched.proofs.OneRun.{may_own, toucher, chain_passed, unstarted_empty}
 use Rattle.mk_stale.specs.Watching.{IsInput, IsLastWriter, IsDeclared}
-use Rattle.mk_stale.specs.Doings.{Contents, contents, left_by, AreSteps, AreAfresh, found_by}
+use Rattle.mk_stale.specs.Doings.{Contents, contents, left_by, AreSteps, IsAfresh, found_by}
 use Rattle.mk_stale.specs.Laws.{IsSettled}
 
 -- a history of n, alone from these contents, that leaves what the store has at the names that are n's own by this reading
@@ -61,7 +61,7 @@ module _ (jobs : Jobs) (tie : Bool) (limit : ℕ) (opening : Store) (free : IsRa
   IsAloneNow past n = IsAlone jobs n (λ x. may_touch jobs n x ≡ true) (found_by opening past n) (history past n) (store_after opening past)
 
   -- what n found stays, once it has started
-  found_on : (e : Event) (past : List Event) (n : ℕ) → is_started (phase past n) ≡ true → found_by opening (e ∷ past) n ≡ found_by opening past n
+  pub found_on : (e : Event) (past : List Event) (n : ℕ) → is_started (phase past n) ≡ true → found_by opening (e ∷ past) n ≡ found_by opening past n
   found_on e past n started = ap (λ (b : Bool). if b then found_by opening past n else contents (store_after opening past)) started
 
   found_first : (e : Event) (past : List Event) (n : ℕ) → is_started (phase past n) ≡ false → found_by opening (e ∷ past) n ≡ contents (store_after opening past)
@@ -87,7 +87,7 @@ module _ (jobs : Jobs) (tie : Bool) (limit : ℕ) (opening : Store) (free : IsRa
   own_act past n Finish start run may earlier first runs = absurd (false≢true (sym (ap is_passed runs)))
 
   -- a running node did alone what it did so far
-  alone : (past : List Event) (n : ℕ) → IsRun jobs tie limit opening past → phase past n ≡ Running → IsAloneNow past n
+  pub alone : (past : List Event) (n : ℕ) → IsRun jobs tie limit opening past → phase past n ≡ Running → IsAloneNow past n
   alone [] n run runs = absurd (false≢true (ap is_started runs))
   alone (e ∷ past) n run runs = split (e.node == n)
       (λ own.
@@ -148,15 +148,15 @@ module _ (jobs : Jobs) (tie : Bool) (limit : ℕ) (opening : Store) (free : IsRa
         (rw other (old.0, λ x mine. ap bytes_of (mine_stays e past n x run (started_begun (phase past n) before) other mine) ∙ old.1 x mine)))
 
     -- so it is settled, if it worked afresh
-    pub started_settled : (programs : ℕ → Program) (past : List Event) (n : ℕ) → IsRun jobs tie limit opening past → FollowsPrograms programs past → AreAfresh jobs opening past → is_started (phase past n) ≡ true
+    pub started_settled : (programs : ℕ → Program) (past : List Event) (n : ℕ) → IsRun jobs tie limit opening past → Follows (programs n) (reverse (history past n)) → IsAfresh jobs n (found_by opening past n) (history past n) → is_started (phase past n) ≡ true
         → IsSettled jobs programs (store_after opening past) n
     started_settled programs past n run follows afresh started =
         let now = did_alone past n run started in
         record {
           start = found_by opening past n;
           history = history past n;
-          does = record { follows = follows n started; steps = now.0 };
-          afresh = afresh n started;
+          does = record { follows = follows; steps = now.0 };
+          afresh = afresh;
           inputs = λ x input. sym (now.1 x (inl input) ∙ input_stays jobs n (found_by opening past n) (history past n) x now.0 input.foreign);
           stays = λ x last. now.1 x (inr last);
         }

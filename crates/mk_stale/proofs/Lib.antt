@@ -1,8 +1,10 @@
 pub mod Alike
 pub mod Alone
 pub mod Building
+pub mod Edited
 pub mod Editing
 pub mod Keeping
+pub mod OldTrees
 pub mod Settling
 pub mod Unpacked
 pub mod Waking

@@ -8,12 +8,14 @@ use Rattle.mk_sched.specs.Stores.{Store, bytes_of, is_stale}
 use Rattle.mk_sched.specs.Events.{history, is_started, phase, store_after}
 use Rattle.mk_sched.specs.Programs.{Follows}
 use Rattle.mk_sched.specs.Runs.{IsComplete, IsRun}
+use Rattle.mk_sched.specs.Schedules.{IsSchedule, TimesRise, stays}
 use Rattle.mk_sched.specs.Serial.{IsLast}
 use Rattle.mk_sched.specs.Table.{AllowedInTurn, start_from}
 use Rattle.mk_sched.proofs.Basics.{same_name-true, split, started_begun}
 use Rattle.mk_sched.proofs.ByTable.{runs_by_table}
 use Rattle.mk_sched.proofs.Computed.{each_passes, later_than, put_last}
 use Rattle.mk_sched.proofs.Moving.{in_jobs}
+use Rattle.mk_sched.proofs.Staying.{run_is_schedule}
 use Rattle.mk_stale.specs.Watching.{IsDeclared, IsInput, named}
 use Rattle.mk_stale.specs.Doings.{IsAfresh, found_by, has_write}
 use Rattle.mk_stale.specs.Incremental.{IsBuild, IsClean, IsEdit, IsKept, IsSource, SameSources, clean, edited, same, source}
@@ -24,7 +26,7 @@ nothing_in : (x : ℕ) → Contains [] x → ⊥
 nothing_in x inside = omega (arith, inside.1)
 
 -- there are two nodes, and the second one is live
-each_node : (P : ℕ → Type 0) → P 0 → P 1 → (n : ℕ) → n < node_count unpacking → P n
+pub each_node : (P : ℕ → Type 0) → P 0 → P 1 → (n : ℕ) → n < node_count unpacking → P n
 unfolding node_count
 each_node P p q zero inside = p
 each_node P p q (suc zero) inside = q
@@ -49,7 +51,7 @@ smaller (suc zero) p step = ltb-true p 1 (each_passes (λ k. nat_lt k 1) (0 ∷ 
 smaller (suc (suc n)) p step = absurd (nothing_in p step)
 
 -- nobody may write the archive, which is all that is read
-archive_is_source : IsSource unpacking archive
+pub archive_is_source : IsSource unpacking archive
 unfolding node_count prerequisites_of has_recipe is_phony is_listed writes_of may_write
 archive_is_source zero = refl
 archive_is_source (suc zero) = refl
@@ -64,10 +66,10 @@ own n m inside writes =
     let is = writer_is n (name_of unpacking m) writes in
     is ∙ own_names m inside (subst (λ k. may_write unpacking k (name_of unpacking m) ≡ true) is writes)
 
-valid : IsValid unpacking
+pub valid : IsValid unpacking
 valid = record { smaller = smaller; own = own }
 
-race_free : IsRaceFree unpacking
+pub race_free : IsRaceFree unpacking
 race_free a b clash =
     let live = clash_live clash.1 in
     absurd (clash.1.different (live_is a live.first_live ∙ sym (live_is b live.second_live)))
@@ -82,7 +84,7 @@ read_is x reads = elim (or_cases (same_name archive x) false reads) [
 input_is : (n : ℕ) (x : Name) → IsInput unpacking n x → archive ≡ x
 input_is n x input = read_is x (subst (λ k. may_read unpacking k x ≡ true) (reader_is n x input.reads) input.reads)
 
-declared : IsDeclared unpacking (λ x. false)
+pub declared : IsDeclared unpacking (λ x. false)
 unfolding prerequisites_of name_of has_recipe is_phony is_listed
 declared = record {
   watched = λ n x input. inr (named (0, subst (IsPrerequisite unpacking 0) (sym (reader_is n x input.reads)) (0, omega arith, refl), input_is n x input));
@@ -93,7 +95,7 @@ declared = record {
 }
 
 -- a tree with the archive alone is clean
-packed_clean : (byte time : ℕ) → IsClean unpacking (packed byte time)
+pub packed_clean : (byte time : ℕ) → IsClean unpacking (packed byte time)
 unfolding node_count name_of is_listed prerequisites_of has_recipe is_phony writes_of may_write
 packed_clean byte time = record {
   made = λ n x writes. split (same_name archive x)
@@ -102,7 +104,7 @@ packed_clean byte time = record {
   sources = each_node _ (λ other. refl) (λ other. absurd (false≢true (sym other)));
 }
 
-packed_last : (byte time : ℕ) → IsLast time (packed byte time)
+pub packed_last : (byte time : ℕ) → IsLast time (packed byte time)
 packed_last byte time x file is = split (same_name archive x)
     (λ here. let at : file.time ≡ time = cc (rw here at is) in omega arith)
     (λ other. cc (rw other at is))
@@ -163,13 +165,17 @@ module _ (opening : Store) (byte : ℕ) (last : ℕ) (is_last : IsLast last open
   starter P one n started = each_node (λ k. is_started (phase (reverse (unpacked byte member (suc last))) k) ≡ true → P k)
       (λ no. absurd (false≢true no)) (λ yes. one) n (in_jobs unpacking false 1 opening (reverse (unpacked byte member (suc last))) n run (started_begun _ started)) started
 
+  parts : IsSchedule unpacking false 1 opening (reverse (unpacked byte member (suc last))) × (stays unpacking (reverse (unpacked byte member (suc last))) ≡ true) × TimesRise opening (reverse (unpacked byte member (suc last)))
+  parts = (run_is_schedule unpacking false 1 opening (reverse (unpacked byte member (suc last)))).0 run
+
   -- a build whose recipe removes or writes all that it may write and that was there
   build : ((x : Name) → may_write unpacking 1 x ≡ true → is_some (bytes_of (opening x)) ≡ true → has_write x (history (reverse (unpacked byte member (suc last))) 1) ≡ true)
       → IsBuild unpacking (λ n. unpacks) opening (reverse (unpacked byte member (suc last)))
   build covers = record {
     tie = false;
     limit = 1;
-    run = run;
+    schedule = parts.0;
+    rise = parts.2;
     complete = complete;
     follows = starter (λ n. Follows unpacks (reverse (history (reverse (unpacked byte member (suc last))) n))) program;
     afresh = starter (λ n. IsAfresh unpacking n (found_by opening (reverse (unpacked byte member (suc last))) n) (history (reverse (unpacked byte member (suc last))) n))
@@ -177,7 +183,7 @@ module _ (opening : Store) (byte : ℕ) (last : ℕ) (is_last : IsLast last open
   }
 
 -- what a recipe may write is no archive
-not_archive : (x : Name) → may_write unpacking 1 x ≡ true → same_name archive x ≡ false
+pub not_archive : (x : Name) → may_write unpacking 1 x ≡ true → same_name archive x ≡ false
 not_archive x writes = split (same_name archive x)
     (λ is. absurd (false≢true (sym (archive_is_source 1) ∙ subst (λ y. may_write unpacking 1 y ≡ true) (sym (same_name-true archive x is)) writes)))
     (λ other. other)
@@ -190,7 +196,7 @@ member_b_below : may_write unpacking 1 member_b ≡ true
 unfolding prerequisites_of has_recipe is_phony is_listed writes_of may_write
 member_b_below = refl
 
-target_below : may_write unpacking 1 target ≡ true
+pub target_below : may_write unpacking 1 target ≡ true
 unfolding prerequisites_of has_recipe is_phony is_listed writes_of may_write
 target_below = refl
 
@@ -204,6 +210,9 @@ from_packed byte time member is below = build (packed byte time) byte time (pack
 
 first : IsBuild unpacking (λ n. unpacks) (packed 0 1) first_build
 first = from_packed 0 1 member_a refl member_a_below
+
+first_stays : stays unpacking first_build ≡ true
+first_stays = (parts (packed 0 1) 0 1 (packed_last 0 1) (packed_stale 0 1) refl member_a refl member_a_below).1
 
 first_last : IsLast 3 (store_after (packed 0 1) first_build)
 first_last = built_last (packed 0 1) 0 member_a 1 (packed_last 0 1)
@@ -254,10 +263,13 @@ same_sources x free = split (same_name archive x)
     repacked_at x other no_target no_member ∙ sym absent)
 
 kept : IsKept unpacking (λ n. unpacks) (λ x. false) repacked
-kept = edited (clean (packed_clean 0 1)) first edit
+kept = edited (clean (packed_clean 0 1)) first (inl first_stays) edit
 
 other_build : IsBuild unpacking (λ n. unpacks) (packed 1 4) second_build
 other_build = from_packed 1 4 member_b refl member_b_below
+
+other_stays : stays unpacking second_build ≡ true
+other_stays = (parts (packed 1 4) 1 4 (packed_last 1 4) (packed_stale 1 4) refl member_b refl member_b_below).1
 
 pub unpacks_afresh : UnpacksAfresh
 unpacks_afresh = record {
@@ -268,9 +280,11 @@ unpacks_afresh = record {
   clean = packed_clean 1 4;
   sources = same_sources;
   first = first;
+  first_stays = first_stays;
   second = second;
   other = other_build;
-  alike = as_from_clean unpacking (λ n. unpacks) (λ x. false) repacked (packed 1 4) second_build second_build valid race_free declared kept (packed_clean 1 4) same_sources second other_build;
+  other_stays = other_stays;
+  alike = as_from_clean unpacking (λ n. unpacks) (λ x. false) repacked (packed 1 4) second_build second_build valid race_free declared kept (packed_clean 1 4) same_sources second other_build other_stays;
   was_there = refl;
   is_gone = refl;
 }

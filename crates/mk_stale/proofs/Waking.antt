@@ -7,12 +7,12 @@ use Rattle.mk_name.specs.Names.{Name, same_name}
 use Rattle.mk_jobs.specs.Jobs.{Jobs, IsValid, IsPrerequisite, node_count, name_of, prerequisites_of, has_recipe, is_live, is_phony, is_listed}
 use Rattle.mk_jobs.proofs.JobsLemmas.{live_node}
 use Rattle.mk_sched.specs.Stores.{Bytes, File, Store, bytes_of, is_stale, outdates}
-use Rattle.mk_sched.specs.Events.{Event, Entry, Looked, Wrote, entries, is_started, phase, history, store_after}
-use Rattle.mk_sched.specs.Runs.{IsRun, IsComplete}
-use Rattle.mk_sched.proofs.Basics.{split, split_option, passed_begun, last_of, LeftBy, LeftBy-weaker}
-use Rattle.mk_sched.proofs.OneRun.{own_file, own_last, IsLater, Decided, decided}
+use Rattle.mk_sched.specs.Events.{Event, Entry, Looked, Wrote, Ran, entries, is_started, phase, history, store_after}
+use Rattle.mk_sched.specs.Runs.{IsRun}
+use Rattle.mk_sched.proofs.Basics.{split, split_option, is_begun, passed_begun, ran_if, last_of, LeftBy, LeftBy-weaker}
+use Rattle.mk_sched.proofs.OneRun.{own_file, own_last, ready, IsLater, Decided, decided}
 use Rattle.mk_stale.specs.Watching.{makes_own, is_never_there, RunsAlways, itself, needs, behind, Carries, edge, further}
-use Rattle.mk_stale.specs.Doings.{has_write, AreAfresh, found_by}
+use Rattle.mk_stale.specs.Doings.{has_write, IsAfresh, found_by}
 use Rattle.mk_stale.specs.Incremental.{HasSources}
 use Rattle.mk_stale.specs.Laws.{WillRun, stale, carried}
 
@@ -87,61 +87,65 @@ last_written x (Wrote path left ∷ es) some = split (same_name path x)
     (λ same. (left, rw same refl))
     (λ other. let earlier = last_written x es (rw other at some) in (earlier.0, rw other earlier.1))
 
-module _ (jobs : Jobs) (tie : Bool) (limit : ℕ) (opening : Store) (past : List Event) (valid : IsValid jobs) (run : IsRun jobs tie limit opening past) (complete : IsComplete jobs past) where
-  decision : (n : ℕ) → is_live jobs n ≡ true → Decided jobs tie limit opening past n
-  decision n live = decided jobs tie limit opening past n run (passed_begun _ (complete n (live_node jobs n live)))
+module _ (jobs : Jobs) (tie : Bool) (limit : ℕ) (opening : Store) (past : List Event) (valid : IsValid jobs) (run : IsRun jobs tie limit opening past) where
+  -- n is decided on: it waits no more
+  abbrev IsBegun : ℕ → Type 0
+  IsBegun n = is_begun (phase past n) ≡ true
+
+  decision : (n : ℕ) → IsBegun n → Decided jobs tie limit opening past n
+  decision n begun = decided jobs tie limit opening past n run begun
 
   -- a live node that is stale when it is decided on has started
-  starts_if : (n : ℕ) (live : is_live jobs n ≡ true) → is_stale jobs tie (store_after opening (decision n live).earlier) n ≡ true → is_started (phase past n) ≡ true
-  starts_if n live old = let d = decision n live in d.chosen ∙ rw ((and_parts (has_recipe jobs n) _ live).0, old) refl
+  starts_if : (n : ℕ) → is_live jobs n ≡ true → (begun : IsBegun n) → is_stale jobs tie (store_after opening (decision n begun).earlier) n ≡ true → is_started (phase past n) ≡ true
+  starts_if n live begun old = let d = decision n begun in d.chosen ∙ rw ((and_parts (has_recipe jobs n) _ live).0, old) refl
 
   -- its own file is then as at the opening
-  own_now : (n : ℕ) (live : is_live jobs n ≡ true) → store_after opening (decision n live).earlier (name_of jobs n) ≡ opening (name_of jobs n)
-  own_now n live = let d = decision n live in own_file jobs tie limit opening d.earlier n valid d.run (live_node jobs n live) (ap is_started d.ready.waits)
+  own_now : (n : ℕ) → is_live jobs n ≡ true → (begun : IsBegun n) → store_after opening (decision n begun).earlier (name_of jobs n) ≡ opening (name_of jobs n)
+  own_now n live begun = let d = decision n begun in own_file jobs tie limit opening d.earlier n valid d.run (live_node jobs n live) (ap is_started d.ready.waits)
 
   -- and a prerequisite's file is what its own node left, which is newer than the node's file if it was put
-  step_now : (n p : ℕ) (live : is_live jobs n ≡ true) → IsPrerequisite jobs p n → (own : File) → opening (name_of jobs n) ≡ Some own
-      → LeftBy (λ time. own.time < time) (opening (name_of jobs p)) (store_after opening (decision n live).earlier (name_of jobs p)) (last_of (name_of jobs p) (history past p))
-  step_now n p live step own some =
-      let d = decision n live in
+  step_now : (n p : ℕ) → is_live jobs n ≡ true → (begun : IsBegun n) → IsPrerequisite jobs p n → (own : File) → opening (name_of jobs n) ≡ Some own
+      → LeftBy (λ time. own.time < time) (opening (name_of jobs p)) (store_after opening (decision n begun).earlier (name_of jobs p)) (last_of (name_of jobs p) (history past p))
+  step_now n p live begun step own some =
+      let d = decision n begun in
       let inside = live_node jobs n live in
       let left = own_last jobs tie limit opening d.earlier p valid d.run (lt_trans (valid.smaller n p step) inside) in
       let late = LeftBy-weaker (IsLater jobs tie limit opening d.earlier) (λ time. own.time < time) (λ time later. later n own inside (ap is_started d.ready.waits) some) _ _ _ left in
       subst (λ acts. LeftBy (λ time. own.time < time) (opening (name_of jobs p)) (store_after opening d.earlier (name_of jobs p)) (last_of (name_of jobs p) (entries acts))) (sym (d.final p (d.ready.prerequisites p step))) late
 
   -- a node whose prerequisite's file was written by its own node has started
-  pub put_wakes : (n p : ℕ) (c : Option Bytes) → is_live jobs n ≡ true → IsPrerequisite jobs p n → last_of (name_of jobs p) (history past p) ≡ Some c → is_started (phase past n) ≡ true
-  put_wakes n p c live step some =
-      let d = decision n live in
-      starts_if n live (stale_by jobs tie (store_after opening d.earlier) n p step (λ own here. or_right _ _ (
-      let opened : opening (name_of jobs n) ≡ Some own = sym (own_now n live) ∙ here in
-      let left = subst (LeftBy (λ time. own.time < time) (opening (name_of jobs p)) (store_after opening d.earlier (name_of jobs p))) some (step_now n p live step own opened) in
+  pub put_wakes : (n p : ℕ) (c : Option Bytes) → is_live jobs n ≡ true → IsBegun n → IsPrerequisite jobs p n → last_of (name_of jobs p) (history past p) ≡ Some c → is_started (phase past n) ≡ true
+  put_wakes n p c live begun step some =
+      let d = decision n begun in
+      starts_if n live begun (stale_by jobs tie (store_after opening d.earlier) n p step (λ own here. or_right _ _ (
+      let opened : opening (name_of jobs n) ≡ Some own = sym (own_now n live begun) ∙ here in
+      let left = subst (LeftBy (λ time. own.time < time) (opening (name_of jobs p)) (store_after opening d.earlier (name_of jobs p))) some (step_now n p live begun step own opened) in
       wrote_outdates tie own (opening (name_of jobs p)) (store_after opening d.earlier (name_of jobs p)) c left)))
 
   -- a node that is stale at the opening, where equal times do not count, has started
-  stale_starts : (n : ℕ) → is_live jobs n ≡ true → is_stale jobs false opening n ≡ true → is_started (phase past n) ≡ true
-  stale_starts n live old =
-      let d = decision n live in
-      starts_if n live (split (is_phony jobs n)
+  stale_starts : (n : ℕ) → is_live jobs n ≡ true → IsBegun n → is_stale jobs false opening n ≡ true → is_started (phase past n) ≡ true
+  stale_starts n live begun old =
+      let d = decision n begun in
+      starts_if n live begun (split (is_phony jobs n)
       (λ phony. phony_stale jobs tie (store_after opening d.earlier) n phony)
       (λ plain. split_option (opening (name_of jobs n))
-      (λ none. absent_stale jobs tie (store_after opening d.earlier) n (own_now n live ∙ none))
+      (λ none. absent_stale jobs tie (store_after opening d.earlier) n (own_now n live begun ∙ none))
       (λ own some.
       let newer = one_passes _ (prerequisites_of jobs n) (rw (plain, some) at old) in
       let p = newer.0 in
       stale_by jobs tie (store_after opening d.earlier) n p newer.1 (λ file here. split (is_phony jobs p)
       (λ phony. or_left _ _ phony)
       (λ other.
-      let both : Some own ≡ Some file = sym some ∙ sym (own_now n live) ∙ here in
+      let both : Some own ≡ Some file = sym some ∙ sym (own_now n live begun) ∙ here in
       let same : own ≡ file = cc in
-      or_right _ _ (subst (λ f. outdates tie (Some f) (store_after opening d.earlier (name_of jobs p)) ≡ true) same (still_outdates tie own (opening (name_of jobs p)) (store_after opening d.earlier (name_of jobs p)) (last_of (name_of jobs p) (history past p)) (step_now n p live newer.1 own some) (rw other at newer.2))))))))
+      or_right _ _ (subst (λ f. outdates tie (Some f) (store_after opening d.earlier (name_of jobs p)) ≡ true) same (still_outdates tie own (opening (name_of jobs p)) (store_after opening d.earlier (name_of jobs p)) (last_of (name_of jobs p) (history past p)) (step_now n p live begun newer.1 own some) (rw other at newer.2))))))))
 
   -- a node whose prerequisite's file is absent at the opening has started
-  gone_wakes : (n p : ℕ) → is_live jobs n ≡ true → IsPrerequisite jobs p n → opening (name_of jobs p) ≡ None → is_started (phase past n) ≡ true
-  gone_wakes n p live step none =
-      let d = decision n live in
-      starts_if n live (stale_by jobs tie (store_after opening d.earlier) n p step (λ own here. or_right _ _
-      (still_outdates tie own (opening (name_of jobs p)) (store_after opening d.earlier (name_of jobs p)) (last_of (name_of jobs p) (history past p)) (step_now n p live step own (sym (own_now n live) ∙ here))
+  gone_wakes : (n p : ℕ) → is_live jobs n ≡ true → IsBegun n → IsPrerequisite jobs p n → opening (name_of jobs p) ≡ None → is_started (phase past n) ≡ true
+  gone_wakes n p live begun step none =
+      let d = decision n begun in
+      starts_if n live begun (stale_by jobs tie (store_after opening d.earlier) n p step (λ own here. or_right _ _
+      (still_outdates tie own (opening (name_of jobs p)) (store_after opening d.earlier (name_of jobs p)) (last_of (name_of jobs p) (history past p)) (step_now n p live begun step own (sym (own_now n live begun) ∙ here))
       (ap (outdates false (Some own)) none))))
 
   -- what a node found of its own file is that of the opening
@@ -151,21 +155,30 @@ module _ (jobs : Jobs) (tie : Bool) (limit : ℕ) (opening : Store) (past : List
       (λ started. rw started (own_found earlier n so_far.0 inside))
       (λ idle. rw idle (ap bytes_of (own_file jobs tie limit opening earlier n valid so_far.0 inside idle)))
 
-  module _ (afresh : AreAfresh jobs opening past) where
+  -- a prerequisite of who waits no more has passed, and so has who carries to it
+  needed_begun : (n p : ℕ) → IsBegun n → IsPrerequisite jobs p n → IsBegun p
+  needed_begun n p begun step = passed_begun _ (ready jobs tie limit opening past n p run step begun)
+
+  pub carries_begun : (m n : ℕ) → IsBegun n → Carries jobs m n → IsBegun m
+  carries_begun m n begun (edge live step makes) = needed_begun n m begun step
+  carries_begun m n begun (further {k = k} way live step makes) = carries_begun m k (needed_begun n k begun step) way
+
+  module _ (afresh : (m : ℕ) → phase past m ≡ Ran → IsAfresh jobs m (found_by opening past m) (history past m)) where
     -- who makes its own file wakes each node that needs it
-    maker_wakes : (n m : ℕ) → is_live jobs n ≡ true → IsPrerequisite jobs m n → makes_own jobs m ≡ true → is_started (phase past m) ≡ true → is_started (phase past n) ≡ true
-    maker_wakes n m live step makes started = split_option (opening (name_of jobs m))
-        (λ none. gone_wakes n m live step none)
+    maker_wakes : (n m : ℕ) → is_live jobs n ≡ true → IsBegun n → IsPrerequisite jobs m n → makes_own jobs m ≡ true → is_started (phase past m) ≡ true → is_started (phase past n) ≡ true
+    maker_wakes n m live begun step makes started = split_option (opening (name_of jobs m))
+        (λ none. gone_wakes n m live begun step none)
         (λ file some.
         let there : is_some (found_by opening past m (name_of jobs m)) ≡ true = ap is_some (own_found past m run (lt_trans (valid.smaller n m step) (live_node jobs n live)) ∙ ap bytes_of some) in
-        let written = last_written (name_of jobs m) (history past m) ((afresh m started).rest (name_of jobs m) makes there) in
-        put_wakes n m written.0 live step written.1)
+        let ran = ran_if _ started (ready jobs tie limit opening past n m run step begun) in
+        let written = last_written (name_of jobs m) (history past m) ((afresh m ran).rest (name_of jobs m) makes there) in
+        put_wakes n m written.0 live begun step written.1)
 
-    pub carries_starts : (m n : ℕ) → Carries jobs m n → is_started (phase past m) ≡ true → is_started (phase past n) ≡ true
-    carries_starts m n (edge live step makes) started = maker_wakes n m live step makes started
-    carries_starts m n (further {k = k} way live step makes) started = maker_wakes n k live step makes (carries_starts m k way started)
+    pub carries_starts : (m n : ℕ) → IsBegun n → Carries jobs m n → is_started (phase past m) ≡ true → is_started (phase past n) ≡ true
+    carries_starts m n begun (edge live step makes) started = maker_wakes n m live begun step makes started
+    carries_starts m n begun (further {k = k} way live step makes) started = maker_wakes n k live begun step makes (carries_starts m k (needed_begun n k begun step) way started)
 
-    -- who will run has started
-    pub will_start : (n : ℕ) → WillRun jobs opening n → is_started (phase past n) ≡ true
-    will_start n (stale live old) = stale_starts n live old
-    will_start n (carried {m = m} will way) = carries_starts m n way (will_start m will)
+    -- who will run has started, if it waits no more
+    pub will_start : (n : ℕ) → IsBegun n → WillRun jobs opening n → is_started (phase past n) ≡ true
+    will_start n begun (stale live old) = stale_starts n live begun old
+    will_start n begun (carried {m = m} will way) = carries_starts m n begun way (will_start m (carries_begun m n begun way) will)

@@ -1,10 +1,11 @@
 -- Builds of trees that were built before: edits, and what a row of edits and builds leads to.
-use Rattle.std.specs.Prelude.{ℕ, ◌≡◌, ◌<◌, Bool, true, false, List, Option, Some, None, is_some}
+use Rattle.std.specs.Prelude.{ℕ, ◌≡◌, ◌<◌, ◌⊎◌, Bool, true, false, List, Option, Some, None, is_some}
 use Rattle.mk_name.specs.Names.{Name}
 use Rattle.mk_jobs.specs.Jobs.{Jobs, IsValid, IsRaceFree, node_count, name_of, is_listed, may_write}
 use Rattle.mk_sched.specs.Stores.{File, Store, bytes_of}
 use Rattle.mk_sched.specs.Events.{Event, store_after}
-use Rattle.mk_sched.specs.Runs.{IsRun, IsComplete}
+use Rattle.mk_sched.specs.Runs.{IsComplete}
+use Rattle.mk_sched.specs.Schedules.{IsSchedule, TimesRise, stays}
 use Rattle.mk_sched.specs.Programs.{Program, FollowsPrograms}
 use Rattle.mk_stale.specs.Watching.{makes_own, IsDeclared}
 use Rattle.mk_stale.specs.Doings.{AreAfresh}
@@ -42,28 +43,45 @@ pub record IsEdit (jobs : Jobs) (fixed : Name → Bool) (old new : Store) : Type
   pub each : (x : Name) → Edited jobs fixed old new x
   pub sources : HasSources jobs new
 
--- a build: a complete run from this store, whose recipes follow these programs and work afresh, with any limit and either reading of
--- equal times
+-- a build, wherever its recipes look and write: a complete schedule from this store in which times rise, whose recipes follow these
+-- programs and work afresh, with any limit and either reading of equal times
 pub record IsBuild (jobs : Jobs) (programs : ℕ → Program) (opening : Store) (past : List Event) : Type 0 where
   pub tie : Bool
   pub limit : ℕ
-  pub run : IsRun jobs tie limit opening past
+  pub schedule : IsSchedule jobs tie limit opening past
+  pub rise : TimesRise opening past
   pub complete : IsComplete jobs past
   pub follows : FollowsPrograms programs past
   pub afresh : AreAfresh jobs opening past
 
--- a store is kept: it is clean, or an edit of what a build of a kept store left
+-- it was seen clean: a build of a clean store with the same sources stayed within the footprints
+pub record IsSeenClean (jobs : Jobs) (programs : ℕ → Program) (store : Store) : Type 0 where
+  pub clean : Store
+  pub past : List Event
+  pub is_clean : IsClean jobs clean
+  pub sources : SameSources jobs store clean
+  pub build : IsBuild jobs programs clean past
+  pub stayed : stays jobs past ≡ true
+
+-- a store is kept: it is clean, or an edit of what a build of a kept store left; and that build stayed, or the kept store was seen clean
 pub data IsKept (jobs : Jobs) (programs : ℕ → Program) (fixed : Name → Bool) : Store → Type 0 where
   clean : {store : Store} → IsClean jobs store → IsKept jobs programs fixed store
   edited : {store new : Store} {past : List Event} → IsKept jobs programs fixed store → IsBuild jobs programs store past
-      → IsEdit jobs fixed (store_after store past) new → IsKept jobs programs fixed new
+      → (stays jobs past ≡ true) ⊎ IsSeenClean jobs programs store → IsEdit jobs fixed (store_after store past) new → IsKept jobs programs fixed new
+
+-- old trees stay: of valid, race-free and declared jobs, a build of a kept store that was seen clean stays within the footprints
+abbrev pub OldTreesStay : Type 0
+OldTreesStay =
+    (jobs : Jobs) (programs : ℕ → Program) (fixed : Name → Bool) (opening : Store) (past : List Event)
+    → IsValid jobs → IsRaceFree jobs → IsDeclared jobs fixed
+    → IsKept jobs programs fixed opening → IsSeenClean jobs programs opening → IsBuild jobs programs opening past → stays jobs past ≡ true
 
 -- the second headline: of valid, race-free and declared jobs, a build of a kept store leaves at each name what a build of a clean store
--- with the same sources leaves
+-- with the same sources leaves, if that one stays
 abbrev pub AsFromClean : Type 0
 AsFromClean =
     (jobs : Jobs) (programs : ℕ → Program) (fixed : Name → Bool) (opening clean : Store) (a b : List Event)
     → IsValid jobs → IsRaceFree jobs → IsDeclared jobs fixed
     → IsKept jobs programs fixed opening → IsClean jobs clean → SameSources jobs opening clean
-    → IsBuild jobs programs opening a → IsBuild jobs programs clean b
+    → IsBuild jobs programs opening a → IsBuild jobs programs clean b → stays jobs b ≡ true
     → (x : Name) → bytes_of (store_after opening a x) ≡ bytes_of (store_after clean b x)

@@ -5,6 +5,7 @@ use Rattle.mk_jobs.specs.Jobs.{Jobs, IsValid, IsRaceFree, is_live}
 use Rattle.mk_sched.specs.Stores.{Store, bytes_of, is_stale}
 use Rattle.mk_sched.specs.Events.{Event, Entry, store_after}
 use Rattle.mk_sched.specs.Programs.{Program}
+use Rattle.mk_sched.specs.Schedules.{stays}
 use Rattle.mk_stale.specs.Watching.{Carries, IsLastWriter, IsInput, IsDeclared}
 use Rattle.mk_stale.specs.Doings.{Contents, left_by, Does, IsAfresh}
 use Rattle.mk_stale.specs.Incremental.{HasSources, SameSources, IsEdit, IsBuild}
@@ -32,12 +33,12 @@ AllSettled jobs programs store = (n : ℕ) → is_live jobs n ≡ true → IsSet
 abbrev pub AllKnown : Jobs → (ℕ → Program) → Store → Type 0
 AllKnown jobs programs store = (n : ℕ) → is_live jobs n ≡ true → (WillRun jobs store n → ⊥) → IsSettled jobs programs store n
 
--- a build of a store whose nodes are known leaves one whose nodes are settled
+-- a build of a store whose nodes are known, if it stays, leaves one whose nodes are settled
 abbrev pub BuildSettles : Type 0
 BuildSettles =
     (jobs : Jobs) (programs : ℕ → Program) (fixed : Name → Bool) (opening : Store) (past : List Event)
     → IsValid jobs → IsRaceFree jobs → IsDeclared jobs fixed → HasSources jobs opening
-    → AllKnown jobs programs opening → IsBuild jobs programs opening past → AllSettled jobs programs (store_after opening past)
+    → AllKnown jobs programs opening → IsBuild jobs programs opening past → stays jobs past ≡ true → AllSettled jobs programs (store_after opening past)
 
 -- an edit of a store whose nodes are settled leaves one whose nodes are known
 abbrev pub EditIsKnown : Type 0

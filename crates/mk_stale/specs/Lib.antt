@@ -1,4 +1,5 @@
 pub mod Doings
+pub mod EditedSource
 pub mod Incremental
 pub mod Laws
 pub mod Unpacking

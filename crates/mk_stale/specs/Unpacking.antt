@@ -5,6 +5,7 @@ use Rattle.mk_jobs.specs.Jobs.{Jobs, IsValid, IsRaceFree}
 use Rattle.mk_sched.specs.Stores.{Bytes, Store, bytes_of}
 use Rattle.mk_sched.specs.Events.{Skip, Start, Look, Put, Erase, Finish, Event, Looked, Wrote, store_after}
 use Rattle.mk_sched.specs.Programs.{Program, ToLook, ToWrite}
+use Rattle.mk_sched.specs.Schedules.{stays}
 use Rattle.mk_sched.specs.MissingHeader.{by, file, made, source}
 use Rattle.mk_stale.specs.Watching.{IsDeclared}
 use Rattle.mk_stale.specs.Incremental.{IsBuild, IsClean, IsKept, SameSources}
@@ -82,8 +83,10 @@ pub record UnpacksAfresh : Type 0 where
   pub clean : IsClean unpacking (packed 1 4)
   pub sources : SameSources unpacking repacked (packed 1 4)
   pub first : IsBuild unpacking (λ n. unpacks) (packed 0 1) first_build
+  pub first_stays : stays unpacking first_build ≡ true
   pub second : IsBuild unpacking (λ n. unpacks) repacked second_build
   pub other : IsBuild unpacking (λ n. unpacks) (packed 1 4) second_build
+  pub other_stays : stays unpacking second_build ≡ true
   pub alike : (x : Name) → bytes_of (store_after repacked second_build x) ≡ bytes_of (store_after (packed 1 4) second_build x)
   pub was_there : bytes_of (repacked member_a) ≡ Some (0 ∷ [])
   pub is_gone : bytes_of (store_after repacked second_build member_a) ≡ None

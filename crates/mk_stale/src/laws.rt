@@ -1,5 +1,5 @@
 //! Laws of builds of old trees. Each function's contract is a law, and its body is empty.
-ghost use Rattle.mk_stale.specs.Incremental.{AsFromClean};
+ghost use Rattle.mk_stale.specs.Incremental.{AsFromClean, OldTreesStay};
 ghost use Rattle.mk_stale.specs.Laws.{BuildSettles, EditIsKnown, SettledOnce};
 
 /// Of valid, race-free and declared jobs, a build of a tree that edits and builds led to leaves what a build of a clean tree with the
@@ -8,7 +8,12 @@ pub fn as_from_clean()
     ensures { AsFromClean }
 {}
 
-/// A build of a store whose nodes are known leaves one whose nodes are settled.
+/// A build of an old tree stays within the footprints, if a build of a clean tree with the same sources does.
+pub fn old_trees_stay()
+    ensures { OldTreesStay }
+{}
+
+/// A build of a store whose nodes are known, if it stays within the footprints, leaves one whose nodes are settled.
 pub fn build_settles()
     ensures { BuildSettles }
 {}
