@@ -26,29 +26,29 @@ pub halts_there : (texts : Texts) (footprints : List ℕ) (prepared : Prepared) 
 halts_there texts footprints prepared Memory is of = tt
 halts_there texts footprints prepared (Fault reported) is of = (Ok prepared, is, of)
 
--- the report of races ends as done or as no
-races_end : (races : List (ℕ × ℕ)) → (races_status races ≡ Done) ⊎ (races_status races ≡ No)
-races_end [] = inl refl
+-- the report of races ends as done where there is none, and else as no
+races_end : (races : List (ℕ × ℕ)) → ((races ≡ []) × (races_status races ≡ Done)) ⊎ (races_status races ≡ No)
+races_end [] = inl (refl, refl)
 races_end (race ∷ races) = inr refl
 
 pub races_not_failed : (races : List (ℕ × ℕ)) (status : Status) → status ≡ races_status races → status ≢ Failed
 races_not_failed races status ends failed = elim (races_end races) [
-  | inl done ↦ let e : ◌≡◌ {A = Status} Done Failed = sym done ∙ sym ends ∙ failed in cc
+  | inl done ↦ let e : ◌≡◌ {A = Status} Done Failed = sym done.1 ∙ sym ends ∙ failed in cc
   | inr some ↦ let e : ◌≡◌ {A = Status} No Failed = sym some ∙ sym ends ∙ failed in cc
 ]
 
 -- the report of the fault of a build or of tasks is their answer
-pub unlisted_is : (Is : Result RaceList Reported → Type 0) (halt : Halt) (fault : Reported) (status : Status) (text : List ℕ)
-    → HaltsAmong halt Is → halt ≡ Fault fault → status ≡ Refused → text ≡ refused_text fault → SaysList Is status text
-unlisted_is Is halt fault status text given is ends reported = rw ends (fault, subst (λ (h : Halt). HaltsAmong h Is) is given, reported)
+pub unlisted_is : (Is : Result RaceList Reported → Type 0) (Headline : Type 0) (halt : Halt) (fault : Reported) (status : Status) (text : List ℕ)
+    → HaltsAmong halt Is → halt ≡ Fault fault → status ≡ Refused → text ≡ refused_text fault → SaysList Is Headline status text
+unlisted_is Is Headline halt fault status text given is ends reported = rw ends (fault, subst (λ (h : Halt). HaltsAmong h Is) is given, reported)
 
 -- the report of their races is their answer
-pub listed_is : (Is : Result RaceList Reported → Type 0) (listed : RaceList) (status : Status) (text : List ℕ)
-    → Is (Ok listed) → status ≡ races_status listed.found.races.items
-    → IsRacesText listed.jobs listed.found.pairs listed.found.races.items text → SaysList Is status text
-listed_is Is listed status text is ends reported = elim (races_end listed.found.races.items) [
-  | inl done ↦ subst (λ (s : Status). SaysList Is s text) (sym (ends ∙ done)) (listed, is, sym done, reported)
-  | inr some ↦ subst (λ (s : Status). SaysList Is s text) (sym (ends ∙ some)) (listed, is, sym some, reported)
+pub listed_is : (Is : Result RaceList Reported → Type 0) (Headline : Type 0) (listed : RaceList) (status : Status) (text : List ℕ)
+    → Is (Ok listed) → (listed.found.races.items ≡ [] → Headline) → status ≡ races_status listed.found.races.items
+    → IsRacesText listed.jobs listed.found.pairs listed.found.races.items text → SaysList Is Headline status text
+listed_is Is Headline listed status text is shows ends reported = elim (races_end listed.found.races.items) [
+  | inl done ↦ subst (λ (s : Status). SaysList Is Headline s text) (sym (ends ∙ done.1)) ((listed, is, sym done.1, reported), shows done.0)
+  | inr some ↦ subst (λ (s : Status). SaysList Is Headline s text) (sym (ends ∙ some)) (listed, is, sym some, reported)
 ]
 
 -- without a race it ends as done, and else as no

@@ -191,20 +191,20 @@ IsReportedRaces Is status text =
     (listed : RaceList) × Is (Ok listed) × (status ≡ races_status listed.found.races.items)
     × IsRacesText listed.jobs listed.found.pairs listed.found.races.items text
 
--- that report, or the report of the fault that refuses the texts
-abbrev pub SaysList : (Result RaceList Reported → Type 0) → Status → List ℕ → Type 0
-SaysList Is statuses.Done text = IsReportedRaces Is statuses.Done text
-SaysList Is statuses.No text = IsReportedRaces Is statuses.No text
-SaysList Is statuses.Refused text = (reported : Reported) × Is (Err reported) × (text ≡ refused_text reported)
-SaysList Is statuses.Failed text = ⊥
+-- that report, where the headline holds if there is none; or the report of the fault that refuses the texts
+abbrev pub SaysList : (Result RaceList Reported → Type 0) → Type 0 → Status → List ℕ → Type 0
+SaysList Is Headline statuses.Done text = IsReportedRaces Is statuses.Done text × Headline
+SaysList Is Headline statuses.No text = IsReportedRaces Is statuses.No text
+SaysList Is Headline statuses.Refused text = (reported : Reported) × Is (Err reported) × (text ≡ refused_text reported)
+SaysList Is Headline statuses.Failed text = ⊥
 
--- that of a build
+-- that of a build: without a race no schedule of it shows in its files
 abbrev pub IsListAnswer : Texts → List ℕ → Status → List ℕ → Type 0
-IsListAnswer texts footprints status text = SaysList (IsListed texts footprints) status text
+IsListAnswer texts footprints status text = SaysList (IsListed texts footprints) (NoScheduleShows texts footprints) status text
 
--- that of tasks below a root
+-- that of tasks below a root: without a race each of them starts, and no schedule of them shows in their files
 abbrev pub IsTaskListAnswer : List ℕ → List ℕ → Status → List ℕ → Type 0
-IsTaskListAnswer root tasks status text = SaysList (tasked.IsListedBelow root tasks) status text
+IsTaskListAnswer root tasks status text = SaysList (tasked.IsListedBelow root tasks) (tasked.NoScheduleShows root tasks) status text
 
 -- how the program ends after all races and violations were listed: with 0 where there is none, and no change
 abbrev pub MissingEnds : MissingList → Status → Type 0

@@ -8,7 +8,7 @@ use crate::answers::{Answer, refused};
 use crate::noting::Question;
 use crate::statuses::Status;
 use mk_files::failures::Failure;
-use mk_race::listing::{RaceList, list_jobs};
+use mk_race::listing::{RaceList, list_prepared};
 use mk_race::preparing::Prepared;
 use mk_report::races::races_report;
 use std::alloc::{AllocError, Global};
@@ -34,7 +34,7 @@ fn list_over(alloc: Global, prepared: Prepared) -> Result<Answer, AllocError>
         → IsPrepared texts footprints (Ok prepared)
         → spec.IsListAnswer texts footprints answer.status answer.text.items) }
 {
-    match list_jobs(alloc, prepared.jobs) {
+    match list_prepared(alloc, prepared) {
         Ok(listed) => races_answer(alloc, &listed),
         Err(halt) => refused(alloc, halt),
     }

@@ -10,6 +10,8 @@ use Rattle.mk_jobs.specs.Jobs.{Jobs, Before, edge, further, Clash, IsPrerequisit
 use Rattle.mk_jobs.specs.Shape.{IsWellFormed}
 use Rattle.mk_jobs.proofs.JobsLemmas.{shape_valid}
 use Rattle.mk_jobs.proofs.Reaching.{turned_clash}
+use Rattle.mk_sched.specs.Schedules.{IsDeterminateFromOneRun}
+use Rattle.mk_sched.proofs.Staying.{from_one_run}
 use Rattle.mk_stale.specs.Watching.{IsDeclared}
 use Rattle.mk_stale.proofs.Keeping.{as_from_clean}
 use Rattle.mk_decide.proofs.Finding.{race_is}
@@ -21,9 +23,11 @@ use Rattle.mk_race.specs.Missing.{BuildsAsClean, IsEmpty, IsMissingList, IsMissi
 use Rattle.mk_foot.specs.Footprints.{Footprints}
 use Rattle.mk_race.specs.Parts.{ForTextsRead, listed_as}
 use Rattle.mk_race.specs.Stages.{IsPrepared, Texts}
+use Rattle.mk_race.specs.TasksMissing.{IsPreparedBelow, TasksBuildAsClean}
 use Rattle.mk_race.specs.declared.again.Change.{Change}
 use Rattle.mk_race.specs.declared.missing.MissingList.{MissingList}
 use Rattle.mk_race.specs.declared.preparing.Prepared.{Prepared}
+use Rattle.mk_race.proofs.Alike.{runs_alike}
 use Rattle.mk_race.proofs.OneBuild.{build_is_one}
 
 -- a is one of these nodes, or before one of them
@@ -80,7 +84,11 @@ free_of_none jobs races shape are none a b clash = elim (cases_order a b) [
   | inr (inr more) ↦ inr (in_order jobs races b a shape are none more (turned_clash clash))
 ]
 
--- so builds of old trees leave what those of clean ones leave, where jobs are declared too
+-- so they are determinate from one run
+pub one_of_none : (jobs : Jobs) (races : List (ℕ × ℕ)) → IsWellFormed jobs → AreRaces jobs races → races ≡ [] → IsDeterminateFromOneRun jobs
+one_of_none jobs races shape are none = from_one_run jobs (shape_valid shape) (free_of_none jobs races shape are none)
+
+-- and builds of old trees leave what those of clean ones leave, where jobs are declared too
 pub leaves_as_clean : (jobs : Jobs) (listing : List Name) (races : List (ℕ × ℕ)) → IsWellFormed jobs → AreRaces jobs races → races ≡ []
     → IsDeclared jobs (unlisted_names jobs listing) → LeavesAsClean jobs listing
 leaves_as_clean jobs listing races shape are none declared = λ programs opening clean a b kept is_clean same of_opening of_clean within.
@@ -89,11 +97,14 @@ leaves_as_clean jobs listing races shape are none declared = λ programs opening
 
 -- and so it is of the build that texts mean
 pub builds_as_clean : (texts : Texts) (footprints : List ℕ) (prepared : Prepared) (change : Option Change) → IsPrepared texts footprints (Ok prepared)
-    → IsChange texts prepared change → change ≡ None → LeavesAsClean prepared.jobs prepared.listing → BuildsAsClean texts footprints
-builds_as_clean texts footprints prepared change build is none as_clean = record {
-  prepared = prepared;
-  build = build;
-  only = λ other is. build_is_one texts footprints prepared other build is;
+    → IsChange texts prepared change → change ≡ None → LeavesAsClean prepared.jobs prepared.listing → IsDeterminateFromOneRun prepared.jobs → BuildsAsClean texts footprints
+builds_as_clean texts footprints prepared change build is none as_clean one = record {
+  shows = record {
+    prepared = prepared;
+    build = build;
+    only = λ other same. build_is_one texts footprints prepared other build same;
+    alike = runs_alike texts footprints prepared build one;
+  };
   again = subst (IsChange texts prepared) none is;
   as_clean = as_clean;
 }
@@ -110,7 +121,15 @@ changed_list texts footprints prepared change (Err (halts.Fault reported)) build
 pub builds_headline : (texts : Texts) (listed : Result (List Name) Reported) (read : Result Footprints Reported) (prepared : Prepared) (change : Option Change)
     (result : Result MissingList Halt) → ForTextsRead texts listed read (λ texts lines. IsPrepared texts lines (Ok prepared)) → IsChange texts prepared change
     → Answers result (IsMissingListOf prepared change) → IfOk result (λ given. IsEmpty given → LeavesAsClean prepared.jobs prepared.listing)
+    → IfOk result (λ given. IsEmpty given → IsDeterminateFromOneRun prepared.jobs)
     → IfOk result (λ given. IsEmpty given → ForTextsRead texts listed read BuildsAsClean)
-builds_headline texts listed read prepared change (Ok given) build is h leaves = λ empty listing lines from.
-    builds_as_clean (listed_as texts listing) lines prepared change (build listing lines from) is (sym h.3 ∙ empty.change) (leaves empty)
-builds_headline texts listed read prepared change (Err halt) build is h leaves = tt
+builds_headline texts listed read prepared change (Ok given) build is h leaves one = λ empty listing lines from.
+    builds_as_clean (listed_as texts listing) lines prepared change (build listing lines from) is (sym h.3 ∙ empty.change) (leaves empty) (one empty)
+builds_headline texts listed read prepared change (Err halt) build is h leaves one = tt
+
+-- the same of tasks
+pub tasks_as_clean : (root listing tasks : List ℕ) (prepared : Prepared) (result : Result MissingList Halt) → IsPreparedBelow root listing tasks (Ok prepared)
+    → IfOk result (λ given. IsEmpty given → LeavesAsClean prepared.jobs prepared.listing) → IfOk result (λ given. IsEmpty given → IsDeterminateFromOneRun prepared.jobs)
+    → IfOk result (λ given. IsEmpty given → TasksBuildAsClean root listing tasks)
+tasks_as_clean root listing tasks prepared (Ok given) is leaves one = λ empty. record { prepared = prepared; given = is; from_one_run = one empty; as_clean = leaves empty }
+tasks_as_clean root listing tasks prepared (Err halt) is leaves one = tt

@@ -5,13 +5,11 @@ use Rattle.mk_name.specs.Gives.{Answers}
 use Rattle.mk_name.specs.Reported.{Reported}
 use Rattle.mk_name.specs.declared.fault.Halt.{Halt}
 use Rattle.mk_jobs.specs.Jobs.{Jobs}
-use Rattle.mk_report.specs.declared.answer.Answer.{Answer}
 use Rattle.mk_sched.specs.Schedules.{IsDeterminateFromOneRun}
 use Rattle.mk_text.specs.Spelling.{root_of}
 use Rattle.mk_task.specs.JobsOf.{jobs_of, made}
 use Rattle.mk_task.specs.Tasks.{Task, tasks_of}
 use Rattle.mk_task.proofs.Starting.{AreTasks, each_agrees, each_started, jobs_are_tasks}
-use Rattle.mk_race.specs.Judged.{IsSafe}
 use Rattle.mk_race.specs.Tasked.{EachStarts, NoScheduleShows, ProofShows, RunsAlike, below, tasked}
 use Rattle.mk_race.specs.Verified.{IsVerifiedOn}
 
@@ -33,16 +31,14 @@ each_starts jobs are opening tie limit past n run complete there = each_started 
 pub runs_alike : (jobs : Jobs) → AreTasks jobs → IsDeterminateFromOneRun jobs → RunsAlike jobs
 runs_alike jobs are one opening tie limit other seen past absent = one opening tie limit other seen past (each_agrees jobs are opening absent)
 
--- where the answer on the jobs of tasks makes them determinate from one run, no schedule of the tasks shows
-pub headline_of : {E : Type 0} (root text : List ℕ) (jobs : Jobs) (result : Result Answer E) → tasked root text ≡ Ok jobs
-    → IfOk result (λ answer. IsSafe answer → IsDeterminateFromOneRun jobs) → IfOk result (λ answer. IsSafe answer → NoScheduleShows root text)
-headline_of root text jobs (Ok answer) given one = λ safe. record {
+-- where the jobs of tasks are determinate from one run, no schedule of the tasks shows
+pub no_schedule_shows : (root text : List ℕ) (jobs : Jobs) → tasked root text ≡ Ok jobs → IsDeterminateFromOneRun jobs → NoScheduleShows root text
+no_schedule_shows root text jobs given one = record {
   jobs = jobs;
   given = given;
   start = each_starts jobs (text_of_tasks root text jobs given);
-  alike = runs_alike jobs (text_of_tasks root text jobs given) (one safe);
+  alike = runs_alike jobs (text_of_tasks root text jobs given) one;
 }
-headline_of root text jobs (Err error) given one = tt
 
 shows_on : (root text proof_text : List ℕ) (jobs : Jobs) (accepted : Bool) → tasked root text ≡ Ok jobs
     → IsVerifiedOn jobs proof_text (Ok accepted) → IsTrue accepted → ProofShows root text proof_text

@@ -11,6 +11,7 @@ use Rattle.mk_stale.specs.Incremental.{IsBuild, IsClean, IsKept, SameSources}
 use Rattle.mk_missing.specs.Unlisted.{unlisted_names}
 use Rattle.mk_missing.specs.Violations.{AreViolations, HasNone}
 use Rattle.mk_race.specs.Again.{IsChange}
+use Rattle.mk_race.specs.Judged.{NoScheduleShows}
 use Rattle.mk_race.specs.Listed.{AreFound}
 use Rattle.mk_race.specs.Stages.{IsPrepared, Texts, ThenAny}
 use Rattle.mk_race.specs.declared.again.Change.{Change}
@@ -47,11 +48,9 @@ LeavesAsClean jobs listing =
     → IsBuild jobs programs opening a → IsBuild jobs programs clean b → stays jobs b ≡ true
     → (x : Name) → bytes_of (store_after opening a x) ≡ bytes_of (store_after clean b x)
 
--- builds of old trees leave what those of clean ones leave: the texts mean jobs, and no others, whose builds leave so; and a second
--- build, which finds what the first one made, is planned as the first
+-- builds of old trees leave what those of clean ones leave: no schedule of the build shows, a second build, which finds what the first
+-- one made, is planned as the first, and builds of the jobs leave so
 pub record BuildsAsClean (texts : Texts) (footprints : List ℕ) : Type 0 where
-  pub prepared : Prepared
-  pub build : IsPrepared texts footprints (Ok prepared)
-  pub only : (other : Prepared) → IsPrepared texts footprints (Ok other) → prepared ≡ other
-  pub again : IsChange texts prepared None
-  pub as_clean : LeavesAsClean prepared.jobs prepared.listing
+  pub shows : NoScheduleShows texts footprints
+  pub again : IsChange texts shows.prepared None
+  pub as_clean : LeavesAsClean shows.prepared.jobs shows.prepared.listing

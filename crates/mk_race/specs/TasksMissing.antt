@@ -4,6 +4,7 @@ use Rattle.mk_name.specs.Names.{Name}
 use Rattle.mk_name.specs.Reported.{Reported}
 use Rattle.mk_due.specs.JobsOf.{jobs_in}
 use Rattle.mk_jobs.specs.Jobs.{Jobs}
+use Rattle.mk_sched.specs.Schedules.{IsDeterminateFromOneRun}
 use Rattle.mk_text.specs.Listing.{listing_of}
 use Rattle.mk_text.specs.Spelling.{root_of}
 use Rattle.mk_race.specs.Missing.{IsMissingListOf, LeavesAsClean}
@@ -26,8 +27,9 @@ IsPreparedBelow root listing tasks =
 abbrev pub IsMissingListBelow : List ℕ → List ℕ → List ℕ → Result MissingList Reported → Type 0
 IsMissingListBelow root listing tasks = ThenAny (IsPreparedBelow root listing tasks) (λ prepared. IsMissingListOf prepared None)
 
--- tasks in old trees leave what they leave in clean ones: the texts mean jobs, whose builds leave so
+-- tasks in old trees leave what they leave in clean ones: the texts mean jobs, whose builds leave so; and no schedule of these jobs shows
 pub record TasksBuildAsClean (root listing tasks : List ℕ) : Type 0 where
   pub prepared : Prepared
   pub given : IsPreparedBelow root listing tasks (Ok prepared)
+  pub from_one_run : IsDeterminateFromOneRun prepared.jobs
   pub as_clean : LeavesAsClean prepared.jobs prepared.listing

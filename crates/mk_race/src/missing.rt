@@ -1,6 +1,7 @@
 //! All that keeps a build of an old tree from leaving what a build of a clean tree leaves.
 ghost use Rattle.std.specs.Prelude.{IfOk, List, ℕ};
 ghost use Rattle.mk_name.specs.Gives.{Answers};
+ghost use Rattle.mk_sched.specs.Schedules.{IsDeterminateFromOneRun};
 ghost use Rattle.mk_race.specs.Missing.{BuildsAsClean, IsEmpty, IsMissingList, IsMissingListOf, LeavesAsClean};
 ghost use Rattle.mk_race.specs.Parts.{AreReadFrom, ForTextsRead, texts_with};
 ghost use Rattle.mk_race.specs.Stages.{texts_of};
@@ -37,7 +38,8 @@ pub struct MissingList {
 /// where more than 1,000,000 pairs of recipes clash. The only other error is out of memory.
 pub fn list_missing(alloc: Global, input: &Input<'_>) -> Result<MissingList, Halt>
     ensures missing { Answers result (IsMissingList (texts_of input.now) input.now.footprints.now) }
-    // The headline: where there is none of these, a build of an old tree leaves what a build of a clean tree leaves.
+    // The headline: where there is none of these, a build of an old tree leaves what a build of a clean tree leaves, and no schedule
+    // of the build shows in its files.
     ensures headline { IfOk result (λ listed. IsEmpty listed
         → BuildsAsClean (texts_of input.now) input.now.footprints.now) }
 {
@@ -63,7 +65,7 @@ pub fn missing_parts(
     ensures missing { (listed lines : List ℕ)
         → AreReadFrom (texts_with settings.now base.now makefile.now listed) lines listing footprints
         → Answers result (IsMissingList (texts_with settings.now base.now makefile.now listed) lines) }
-    // The headline: where there is none of these, a build of an old tree leaves what a build of a clean tree leaves.
+    // The headline: as that of `list_missing`.
     ensures headline { IfOk result (λ given. IsEmpty given → (listed lines : List ℕ)
         → AreReadFrom (texts_with settings.now base.now makefile.now listed) lines listing footprints
         → BuildsAsClean (texts_with settings.now base.now makefile.now listed) lines) }
@@ -99,6 +101,7 @@ pub(crate) fn missing_of(
 ) -> Result<MissingList, Halt>
     ensures missing { Answers result (IsMissingListOf prepared change) }
     ensures headline { IfOk result (λ listed. IsEmpty listed → LeavesAsClean prepared.jobs prepared.listing) }
+    ensures from_one_run { IfOk result (λ listed. IsEmpty listed → IsDeterminateFromOneRun prepared.jobs) }
 {
     let _count = prepared.jobs.count();
     let found = races_of(alloc, &prepared.jobs)?;

@@ -1,5 +1,5 @@
 //! From a text of tasks to their jobs, the answer whether they may run side by side, all their races, and the answer to a proof.
-ghost use Rattle.std.specs.Prelude.{IfOk, IsTrue};
+ghost use Rattle.std.specs.Prelude.{◌≡◌, [], IfOk, IsTrue};
 ghost use Rattle.mk_name.specs.Gives.{Answers, Gives};
 ghost use Rattle.mk_race.specs.Judged.{HoldsOfRace, HoldsOfSafe, IsSafe};
 ghost use Rattle.mk_race.specs.Tasked as spec;
@@ -44,7 +44,10 @@ pub fn judge_tasks(alloc: Global, root: &[u8], tasks: &[u8]) -> Result<Answer, A
 /// All races of a text of tasks below a root, each once, with their jobs. The first fault is that of the jobs, and then
 /// `TooManyPairs` as [`list_races`](crate::listing::list_races) reports it. The only other error is out of memory.
 pub fn list_tasks(alloc: Global, root: &[u8], tasks: &[u8]) -> Result<RaceList, Halt>
-    ensures { Answers result (spec.IsListedBelow root.now tasks.now) }
+    ensures races { Answers result (spec.IsListedBelow root.now tasks.now) }
+    // The headline: where there is no race, no schedule of the tasks shows in the files.
+    ensures headline { IfOk result (λ listed. listed.found.races.items ≡ []
+        → spec.NoScheduleShows root.now tasks.now) }
 {
     let jobs = prepare_tasks(alloc, root, tasks)?;
     list_jobs(alloc, jobs)

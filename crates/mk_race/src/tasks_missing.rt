@@ -45,7 +45,7 @@ pub fn list_missing_tasks(
     tasks: &[u8],
 ) -> Result<MissingList, Halt>
     ensures missing { Answers result (IsMissingListBelow root.now listing.now tasks.now) }
-    // The headline: where there is neither, tasks in an old tree leave what they leave in a clean tree.
+    // The headline: where there is neither, tasks in an old tree leave what they leave in a clean tree, and no schedule shows.
     ensures headline { IfOk result (λ listed. IsEmpty listed
         → TasksBuildAsClean root.now listing.now tasks.now) }
 {

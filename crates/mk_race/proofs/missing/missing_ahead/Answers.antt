@@ -21,4 +21,4 @@ returns-clause-missing c = λ listed lines from.
 pub returns-clause-headline : goal.returns-clause-headline
 returns-clause-headline c =
     builds_headline (texts_of c.args.input.now) c.args.listing c.args.footprints c.in_ok-prepared.prepared c.in_ok-change.change c.missing_of.result
-    c.in_ok-prepared.ensures c.in_ok-change.ensures c.missing_of.ensures.missing c.missing_of.ensures.headline
+    c.in_ok-prepared.ensures c.in_ok-change.ensures c.missing_of.ensures.missing c.missing_of.ensures.headline c.missing_of.ensures.from_one_run
