@@ -37,7 +37,7 @@ GUARDS: List[Guard] = [
     *guards("ninja/builds.py",
         ("folders-that-were-there-when-it-began", "builder = NinjaBuilder(ninja, number, names.before, removed, names, assumed)", "ninja.Ninja.folder_that_was_removed_first", YES),
         ("folders-that-were-there-when-it-began", "builder = NinjaBuilder(ninja, number, past.until(ninja.life.starts[-1][0]), removed, names, assumed)",
-         "ninja.Ninja.folder_that_a_stage_removed", YES),
+         "ninja.Ninja.folder_that_a_stage_removed", LOST_RACE),
         ("phony-ones", "beyond += [] if is_said else [one]", "ninja.Ninja.phony_that_nobody_makes"),
         ("phony-ones-that-are-written", "return all(edge is not None and edge.is_phony and not edge.waits() for edge in edges)", "ninja.Ninja.phony_that_somebody_makes", LOST_HOLE),
         ("phony-ones-that-are-written", "return all(edge is not None and edge.is_phony for edge in edges) and not any(path in build.writers for build in builds)",

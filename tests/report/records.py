@@ -81,10 +81,16 @@ def kinds(folder: Path) -> Path:
         task("say", (), (), ("Makefile/@output",)), task("tell", (), (), ("Makefile/@output",)),
         task("gen%.h", (), (), ("gen%.h",)), task("with'quote.o", (), ("gen%.h",), ()),
         task("a.h", (), (), ("a.h", "b.h")), task("b.h", (), (), ("b.h",)),
+        task("cat", (), (), ("log",)), task("sort", (), (), ("log",)),
+        task("serve", (), (), ("port",)), task("ping", (), ("port",), ()),
     ]
     places = {it["task"]: ("sub dir/Makefile", at + 1) for at, it in enumerate(tasks) if at % 5} | dict.fromkeys(("a.h", "b.h"), ("Makefile", 3))
-    return write(folder, tasks, places, meanings={
+    record = write(folder, tasks, places, meanings={
         "t/@age/1": "which of t and its source is newer", "Makefile/@macro/X": "the macro X of make", "Makefile/@output": "the order of what make prints"})
+    for label in ("cat", "sort"):
+        labelled(record, label, target="all", command=f"{label} in")
+    labelled(record, "serve", left=True)
+    return record
 
 
 def large(folder: Path) -> Path:
