@@ -31,7 +31,7 @@ class Topic:
 
 
 ANSWERS = {"SAFE": (), "WARM": ("cold and warm",), "NO VERDICT": ("no verdict, and what to do",)}  # with the sections that say more of each
-PREMISE = re.compile(r"^`(.*)` \(`([a-z-]+)`\)$")
+PREMISE = re.compile(r"^`(.*)` \(`([a-z-]+)`\)(?: \*)?$")
 
 
 @dataclass(frozen=True)

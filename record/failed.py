@@ -14,6 +14,7 @@ from record.make.words import Job, Round
 from record.ninja.manifest import Edge
 from record.ninja.runs import Job as NinjaJob
 from record.ninja.runs import TRIED, Ninja
+from record.trace.lives import Life
 from record.trace.names import Names
 
 HINTS = 5
@@ -162,6 +163,11 @@ def answers(makes: Sequence[Make], folder: str) -> List[str]:
     it matters what else it might have run."""
     found = [(make, passed_over(make)) for make in makes if make.words.has_failed and make not in tried(makes)]
     return ["a make failed, and had not come to %s: %s" % (name, one) for make, name in found if name for one in of_makes([make], {id(make)}, folder)]  # guard: what-make-had-not-come
+
+
+def no_build(lives: Sequence[Life], status: int, setup: str) -> List[str]:
+    """What to say where what comes before the build failed: the shell that runs it becomes the build where it succeeds."""
+    return ["%s ended with status %d, before the build" % (setup, status)] if setup and len(lives[0].ran) < 2 else []  # guard: before-the-build
 
 
 def explained(holes: List[str], makes: Sequence[Make], ninjas: Sequence[Ninja], folder: str) -> List[str]:

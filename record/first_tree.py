@@ -6,20 +6,25 @@ stands.
 What an earlier build left may order recipes, or stand for what they wait for, and a new checkout does not have it. So a record is warm where the build
 used such a name:
 
-- in a git work tree: a name that was there, that somebody looked at before anybody wrote it, and that git does not track;
-- elsewhere, and in a folder that CMake or Meson configured: such a file that a recipe of this build writes;
-- neither a makefile without rules, as automake leaves them, nor what `./configure` made, except what a recipe writes again.
+- in a git work tree: a name that was there, that somebody looked at before anybody wrote it, and that git does not track; a folder, where a recipe uses it
+  that neither makes it nor waits for one that does;
+- elsewhere, and in a folder that CMake or Meson configured: such a file that a recipe of this build writes, or cannot make since it is there, and such a folder
+  that one makes;
+- in a tree that `--fresh` made: a new file that a recipe writes, as it is no source, and may be all that its folder holds;
+- never a makefile without rules, as automake leaves them, nor what `./configure` made, except what a recipe writes again.
 """
 
 import os
 import re
 import subprocess
+import sys
 from dataclasses import dataclass, field
 from functools import cached_property
+from itertools import combinations
 from typing import TYPE_CHECKING, Dict, FrozenSet, Iterable, Iterator, List, Sequence, Set, Tuple
 
 from record import machine
-from record.trace.events import CHANGES, CREATED, LISTED, MADE, MADE_BEFORE, MADE_QUIETLY, READ, SEEN
+from record.trace.events import BY_LIST, CHANGES, CREATED, ENTERED, HELD, LISTED, MADE, MADE_BEFORE, MADE_QUIETLY, MODE_GIVEN, OUTPUT, READ, REFUSED, SEEN
 from record.trace.lists import fits
 from record.trace.names import Names
 
@@ -30,6 +35,7 @@ if TYPE_CHECKING:
 GIT = ["git", "--no-optional-locks", "-c", "safe.directory=*"]
 CONFIGURED_BY = ("CMakeCache.txt", "meson-info")  # what stands at the top of a folder that CMake or Meson configured
 FOLDER_MADE = MADE + MADE_QUIETLY + MADE_BEFORE
+FOLDER_USED = SEEN + ENTERED + LISTED + CREATED
 NAMED = 3  # so many new files are named
 NO_RULES = re.compile(r"(?:[ \t]*(?:#.*)?\n)*[ \t]*(?:#.*)?")  # a makefile of comments alone
 
@@ -64,6 +70,10 @@ class FirstTree:
         """Whether a path is in the work tree, and neither in git's own folder nor among the new files."""
         below = os.path.relpath(path, self.top) if self.top else ".."
         return below.partition("/")[0] not in (".", "..", ".git") and below not in self.new_names
+
+    def is_new(self, path: str) -> bool:
+        """Whether a path is a new file, or a folder of new files."""
+        return bool(self.new) and os.path.relpath(path, self.top) in self.new_names
 
     @cached_property
     def new_names(self) -> Set[str]:
@@ -127,47 +137,103 @@ def has_rules(text: str) -> bool:
     return not NO_RULES.fullmatch(text)
 
 
-def left_behind(tree: FirstTree, before: Dict[str, str], lives: "Iterable[Life]", builds: "Iterable[Build]", kept: str, texts: Dict[str, str],
+def left_behind(tree: FirstTree, before: Dict[str, str], lives: "List[Life]", builds: "Sequence[Build]", kept: str, texts: Dict[str, str],
                 names: Names) -> Set[str]:
     """What an earlier build left, and this one used. `before`: the kinds of the names that were there; `kept`: the folder of the record; `texts`: what
-    makefiles said when make read them."""
+    makefiles said when make read them. What a recipe looked at counts where any recipe changes it, what make or ninja looked at where others use it, too:
+    a manifest that is made again is no leftover."""
     tops = tuple(configured_tops(before))
     recipes = [task for build in builds for task in build.tasks if task.kind == "recipe"]
     shared = {path for task in recipes for path in task.writes}
-    changed = {path for task in recipes for work in task.works for kind, path in work.events if kind in CHANGES}
-    looks = {path: path in shared for path in used(before, lives)}
-    looks.update((path, looks.get(path, False) or path in changed) for path in listed(before, builds, names))
-    found = {path for path, is_written in looks.items() if not tree.has(path) and (is_written or tree.is_own(path) and not (path + "/").startswith(tops))}
+    changed = {path for task in recipes for work in task.works for kind, path in work.events if kind in CHANGES + REFUSED} - locks(lives)  # guard: names-that-could-not-be-made
+    by_any, by_recipes = used(before, lives), {*used(before, [life for life in lives if not (life.is_make or life.is_ninja)]), *listed(before, builds, names)}
+    early, made = early_folders(before, builds, lives)
+    early = {path for path in early if path not in names.tops and not (path + "/").startswith(tops)}  # guard: folders-that-were-configured
+    written = by_any & shared | by_recipes & changed | early & made  # guard: what-one-recipe-changes
+    written |= {path for path in changed & before.keys() if tree.is_new(path)}  # guard: new-files-that-recipes-write
+    own = {path for path in by_any | by_recipes | early if tree.is_own(path) and not (path + "/").startswith(tops)}
+    found = {path for path in written | own if not tree.has(path)}
     return {path for path in found if not (path + "/").startswith(kept + "/") and (path not in texts or has_rules(texts[path]))}  # guard: what-earlier-build-left
 
 
+def locks(lives: "Iterable[Life]") -> Set[str]:
+    """The files on which somebody took a lock, and into which nobody wrote."""
+    done = {kind: {path for life in lives for event, path in life.events if event == kind} for kind in (HELD, OUTPUT)}
+    return done[HELD] - done[OUTPUT]
+
+
 def used(before: Dict[str, str], lives: "Iterable[Life]") -> Set[str]:
-    """The files that were there and that somebody read, or saw who does not write them, before anybody wrote them; and the folders in which somebody made a
-    name, though nobody made them."""
+    """The files that were there and that somebody read, or saw who does not write them, before anybody wrote them."""
     looks: Dict[str, int] = {}
     changes: Dict[str, int] = {}
-    filled: Set[str] = set()
-    made: Set[str] = set()
     for life in lives:
         for (kind, path), place in [*life.events.items(), *(((act.kind, act.path), act.place) for act in life.acts)]:
-            if kind == READ or kind == SEEN and path not in life.changed:
+            if kind == READ or kind in SEEN + BY_LIST and path not in life.changed:
                 looks[path] = min(place, looks.get(path, place))
             elif kind in CHANGES:
                 changes[path] = min(place, changes.get(path, place))
-            elif kind in FOLDER_MADE:
-                made.add(path.rstrip("/"))
-            if kind == CREATED:
-                filled.add(os.path.dirname(path.rstrip("/")))
-    seen = {path for path, place in looks.items() if before.get(path) in ("f", "l") and place <= changes.get(path, place)}  # guard: used-before-written
-    return seen | {path for path in filled - made if before.get(path) == "d"}
+    return {path for path, place in looks.items() if before.get(path) in ("f", "l") and place <= changes.get(path, place)}  # guard: used-before-written
+
+
+@dataclass
+class Folder:
+    """What the recipes of a build do with a folder that was there, by their numbers: where they use it first, where they make it, as far as they know, and how."""
+
+    users: Dict[int, int] = field(default_factory=dict)
+    makers: Dict[int, int] = field(default_factory=dict)
+    ways: Dict[int, Set[str]] = field(default_factory=dict)  # the modes, and that it could not be made, as it was there
+
+    def add(self, at: int, kind: str, mode: str, place: int) -> None:
+        """Takes one event."""
+        if kind in FOLDER_USED + FOLDER_MADE:
+            places = self.makers if kind in FOLDER_MADE else self.users
+            places[at] = min(place, places.get(at, place))
+        if kind in MADE_BEFORE + MODE_GIVEN:
+            self.ways.setdefault(at, set()).add(mode or kind)
+
+    def is_early(self, build: "Build") -> bool:
+        """Whether a recipe uses it that has not made it first, and waits for none that does; or two make it in no order, and differ where it is absent."""
+        used = (not (self.makers.get(at, place) < place or any(build.is_before(one, at) for one in self.makers)) for at, place in self.users.items())
+        if any(used):  # guard: folders-that-were-there
+            return True
+        ways = [(at, self.ways.get(at, set())) for at in self.makers]
+        is_one = all(way == ways[0][1] and MADE_BEFORE not in way for _, way in ways)
+        return not is_one and any((way != other or MADE_BEFORE in way) and build.unordered(at, beside) for (at, way), (beside, other) in combinations(ways, 2))  # guard: folders-that-two-make
+
+
+def folders_of(build: "Build", before: Dict[str, str]) -> Dict[str, Folder]:
+    """By path: what recipes do with the folders that were there; not what the makes in them look at."""
+    found: Dict[str, Folder] = {}
+    for at, task in enumerate(build.tasks):
+        for life in [life for work in task.works for life in work.lives if not (life.is_make or life.is_ninja)] if task.kind == "recipe" else ():
+            for (kind, name), place in life.events.items():
+                path, _, more = name.rstrip("/").partition("\0")
+                path = os.path.dirname(path) if kind == CREATED else path
+                if kind in FOLDER_USED + FOLDER_MADE + MODE_GIVEN and before.get(path) == "d":
+                    found.setdefault(path, Folder()).add(at, kind, more, place)
+    return found
+
+
+def early_folders(before: Dict[str, str], builds: "Sequence[Build]", lives: "Iterable[Life]") -> Tuple[Set[str], Set[str]]:
+    """The folders that were there and that a recipe uses or makes too early; and those that recipes make."""
+    inside = {id(make) for build in builds for task in build.tasks for work in task.works for make in work.makes}
+    early: Set[str] = set()
+    first: Dict[str, int] = {}  # where a recipe makes it
+    for build in builds:
+        for path, folder in folders_of(build, before).items():
+            first[path] = min([first.get(path, sys.maxsize), *folder.makers.values()])
+            if (folder.makers or id(build.make) not in inside) and folder.is_early(build):  # guard: folders-that-outer-recipe-makes
+                early.add(path)
+    sooner = {path for life in lives for (kind, path), place in life.events.items() if kind in FOLDER_MADE and place < first.get(path, 0)}
+    return early - sooner, {path for path, place in first.items() if place < sys.maxsize}  # guard: folders-that-nobody-waits-for
 
 
 def listed(before: Dict[str, str], builds: "Iterable[Build]", names: Names) -> Iterator[str]:
     """The files that were there and that a recipe may have met as it listed their folder: one that comes later has no place in the list."""
     found = {path for build in builds for task in build.tasks for work in task.works for kind, path in work.events if kind == LISTED}
-    inside: Dict[str, Set[str]] = {}
-    for folder, _, pattern in (path.partition("\0") for path in found):
-        inside.setdefault(folder, set()).add(pattern)
+    inside: Dict[str, List[str]] = {}
+    for folder, _, pattern in (path.partition("\0") for path in sorted(found)):  # in one order, so that an import asks the machine what the recording did
+        inside.setdefault(folder, []).append(pattern)
     for path, kind in before.items():
         if kind == "f" and any(fits(pattern, path, names) for pattern in inside.get(os.path.dirname(path), ())):
             yield path  # guard: what-lists-show

@@ -9,14 +9,15 @@ import tempfile
 from contextlib import contextmanager
 from dataclasses import dataclass, field
 from pathlib import Path
-from typing import TYPE_CHECKING, Any, Container, Dict, Iterator, List, Optional
+from typing import TYPE_CHECKING, Any, Container, Dict, Iterator, List, Optional, Set, Tuple
 
 from record import VERSION, machine
 from record.entry import in_one_step
 from record.first_tree import FirstTree
 from record.messages import reason
 from record.places import Places
-from record.build.text import labels_of, lines_of, relative, shown
+from record.build.assumptions import TRIED_OUT
+from record.build.text import OWN_NAME, labels_of, lines_of, relative, shown
 
 if TYPE_CHECKING:
     from record.build.assumptions import Assumptions
@@ -25,7 +26,7 @@ if TYPE_CHECKING:
 ROOMS = "/tmp" if os.path.isdir("/tmp") else None  # where temporary folders are made
 NO_ROOM = "no folder for temporary files lets programs run (%s: they are mounted with noexec, or not for you): name one by TMPDIR that is not in the project"
 NAMES = 12  # so many of the targets that were there before are named
-INSIDE = ("configured", "first", "up_to_date")  # what the record does not hold as it is
+INSIDE = ("configured", "first", "markers", "up_to_date")  # what the record does not hold as it is
 FOUND = 3  # so many names of a folder that is no record
 
 
@@ -79,8 +80,9 @@ class Record:
     hints: List[str] = field(default_factory=list)  # what to try: of a build that failed, who looks for what others make
     first: Optional[FirstTree] = None  # the tree that it started from
     up_to_date: List[str] = field(default_factory=list)  # files that the build makes, and that are part of that tree
+    markers: List[str] = field(default_factory=list)  # files that say that a folder is there (record/tools/exists.py)
     missingdeps: int = 0  # what `ninja -t missingdeps` finds
-    orders: Optional[Dict[str, Any]] = None  # with --orders: what builds in other orders came to
+    orders: Optional[Dict[str, Any]] = None  # what builds in other orders came to
     missing: Optional[Dict[str, Any]] = None  # with --missing: what its answer takes for granted, and why there may be none
 
     def bar(self, kinds: Container[str]) -> None:
@@ -89,6 +91,11 @@ class Record:
             if one["kind"] in kinds:
                 self.holes.append("--strict: %s (%d, such as %s)" % (one["text"], one["count"], one["example"]))
         self.assumptions = [one for one in self.assumptions if one["kind"] not in kinds]
+
+    def try_out(self, orders: Dict[str, Any]) -> None:
+        """Takes in what builds in other orders came to: what they try out is not taken for granted any more."""
+        self.orders = orders
+        self.assumptions = [one for one in self.assumptions if one["kind"] not in TRIED_OUT]  # guard: what-orders-try-out
 
     def text(self) -> str:
         """As it is written."""
@@ -120,7 +127,7 @@ def write_build(folder: Path, build: "Build", within: Optional[Dict[str, str]], 
     labels = labels_of(build.tasks)
     root = build.folder
     about: Dict[str, Any] = {}
-    places = Places(root, build.makefiles())
+    places, leaves = Places(root, build.makefiles()), soft_leaves(build)
     for at, (label, task) in enumerate(zip(labels, build.tasks)):
         own = build.about(at)
         edited = places.of(task.node.name, own)
@@ -132,6 +139,8 @@ def write_build(folder: Path, build: "Build", within: Optional[Dict[str, str]], 
             place.update({"left": True} if part.is_left else {})
         is_loose = task.kind == "recipe" and not machine.isfile(os.path.join(root, task.node.name))  # guard: who-waits-for-what-leaves-no-file
         about[label] = {"target": shown(task.node.name), "kind": task.kind, **place, **({"lists": lists} if lists else {}),
+                        **({"leaves": [relative(root, path) for path in leaves[at]]} if at in leaves else {}),
+                        **({"own": [relative(root, path) for path in sorted(task.own)]} if at in leaves and task.own else {}),
                         **({"order_only": True} if is_loose else {}), **({"place": [shown(edited[0]), edited[1]]} if edited else {})}
     edges = 0
     with open(folder / "tasks", "w", encoding="utf-8", errors="backslashreplace") as file:
@@ -148,6 +157,16 @@ def write_build(folder: Path, build: "Build", within: Optional[Dict[str, str]], 
     text = {"tool": build.tool, "make": record.tools.get("make", ""), "folder": shown(root), "project": shown(record.folder), "top": shown(top_of(record.folder)), "words": shown(build.words), "round": build.stage, "within": within,
             "span": [build.make.life.born, build.make.life.died], "counts": counts, "labels": about, "meanings": meanings, "askers": askers}
     (folder / "build.json").write_text(json.dumps(text, indent=1, ensure_ascii=False) + "\n", encoding="utf-8")
+
+
+def soft_leaves(build: "Build") -> Dict[int, List[str]]:
+    """By task that sees of others more than the bytes of files, or that settles what they see: what it leaves, and no other task touches."""
+    found: Dict[int, Set[str]] = {}
+    for task in build.tasks:
+        found.setdefault(id(task.node), set()).update(task.leaves)
+    asking = {*build.askers.values()}
+    soft = (at for at, task in enumerate(build.tasks) if task.listed or at in asking or any(map(OWN_NAME.search, task.reads | task.writes)))
+    return {at: sorted(found[id(build.tasks[at].node)]) for at in soft}
 
 
 def write_record(folder: Path, record: Record, builds: "List[Build]", assumed: "Assumptions") -> None:
@@ -270,12 +289,13 @@ def aside(folder: Path) -> Iterator[bool]:
     shutil.rmtree(room, ignore_errors=True)
 
 
-def seconds_of(folder: Path) -> float:
-    """How long the build of a record took; 0 where there is no record."""
+def former(folder: Path) -> Tuple[float, int]:
+    """How long the build of a record took, and how many copies were built in other orders; 0 where there is no record."""
     try:
-        return float(json.loads((folder / "record.json").read_text(encoding="utf-8"))["seconds"])
-    except (OSError, ValueError, KeyError, TypeError):
-        return 0.0
+        found = json.loads((folder / "record.json").read_text(encoding="utf-8"))
+        return float(found["seconds"]), int(found.get("orders", {}).get("made", 0))
+    except (OSError, ValueError, KeyError, TypeError, AttributeError):
+        return 0.0, 0
 
 
 def is_record(folder: Path) -> bool:

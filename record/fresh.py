@@ -47,8 +47,15 @@ def fresh_tree(archive: Optional[str], setup: str, room: str, kept: str, left: T
         files = copy_work_tree(tree.top, copy, out)
         new = tuple(os.path.relpath(path, tree.top) for path in files if not tree.has(path))
         return Fresh(replace(tree, new=new, left=left, setup=setup), copy, tree.top)
-    shutil.copytree(folder, copy, symlinks=True, copy_function=Copier().copy, ignore=lambda place, names: [name for name in names if os.path.join(place, name) in out])
+    if not shutil.which("git") and any((up / ".git").exists() for up in Path(folder, ".git").parents):  # guard: git-that-is-missing
+        raise CannotClean("git is missing (Debian: apt-get install git): --fresh builds what it tracks here")
+    shutil.copytree(folder, copy, symlinks=True, copy_function=Copier().copy, ignore=without(out))
     return Fresh(FirstTree(folder, left=left, setup=setup), copy, folder)
+
+
+def without(out: Set[str]) -> Callable[[str, List[str]], List[str]]:
+    """What says of the names in a folder that is copied which stay out."""
+    return lambda place, names: [name for name in names if os.path.join(place, name) in out]
 
 
 def of_archive(archive: str, folder: str, copy: str, room: str, setup: str) -> FirstTree:
@@ -79,7 +86,7 @@ def copy_work_tree(top: str, copy: str, out: Set[str]) -> List[str]:
             continue
         os.makedirs(os.path.dirname(target), exist_ok=True)
         if os.path.isdir(source) and not os.path.islink(source):
-            shutil.copytree(source, target, symlinks=True, dirs_exist_ok=True, copy_function=copier.copy)
+            shutil.copytree(source, target, symlinks=True, dirs_exist_ok=True, copy_function=copier.copy, ignore=without(out))  # guard: what-stays-out-of-inner-repository
         elif os.path.islink(source):
             shutil.copy2(source, target, follow_symlinks=False)
         else:

@@ -8,7 +8,6 @@ import gc
 import os
 import sys
 from dataclasses import dataclass
-from itertools import chain
 from pathlib import Path
 from typing import Dict, List, Optional, Set
 
@@ -19,7 +18,7 @@ from record.cleaned import Cleaned
 from record.clock import named_by_time
 from record.configured import STATUS, find_configured, last_changes
 from record.facts import Facts
-from record.failed import answers, explained, lacked, tried
+from record.failed import answers, explained, lacked, no_build, tried
 from record.first_tree import Release, left_behind
 from record.folder import Record, write_record
 from record.footprints import write_footprints
@@ -36,12 +35,8 @@ from record.premises import add_granted, add_granted_by_ninjas, idle_targets
 from record.progress import watched
 from record.tools.caches import settle_caches
 from record.tools.exists import credit_makes, settle_exists
-from record.tools.jvm import settle_machines
-from record.tools.listed import Calls
-from record.tools.modules import settle_modules
 from record.tools.python import settle
-from record.tools.scripts import settle_scripts
-from record.tools.tex import settle_tex
+from record.trace.calls import Calls
 from record.trace.lives import Life
 from record.trace.names import Names, mounts_below
 from record.trace.sifting import SYSTEM, unseen_changes
@@ -95,18 +90,16 @@ class Imported:
     texts: Dict[str, str]  # what makefiles said when make read them
 
 
-def settle_all(replay: Calls, facts: Facts, assumed: Assumptions) -> Owners:
+def settle_all(replay: Calls, facts: Facts, assumed: Assumptions, record: Record) -> Owners:
     """Puts what is meant in the place of what known programs did; who did what."""
     logs = read_logs(facts.said, facts.said_place)
-    settle_scripts(replay.lists, replay.all, logs)  # guard: read-at-all
-    for kind, example in chain(settle(replay.all, replay.tops), settle_modules(replay.all)):  # guard: byte-code-and-modules
+    for kind, example in settle(replay.all, replay.tops):  # guard: byte-code
         assumed.add(kind, example)
-    settle_machines(replay.all)
-    settle_tex(replay.all)
     for words in settle_caches(replay.all, replay.tops):
         assumed.add("caches", words)
     markers = settle_exists(replay.all, logs)
-    for name in sorted(markers.paths):
+    record.markers = sorted(markers.paths)
+    for name in record.markers:
         assumed.add("makers", name)
     owners = Owners(replay.all, logs, replay.names.links)
     credit_makes(owners, markers)  # guard: makes-that-would-make-folder
@@ -158,7 +151,7 @@ def import_record(facts: Facts, record: Record) -> Imported:
     """Of a trace and make's words: the builds, the holes, and what was taken for granted."""
     names, folder, assumed = facts.names, record.folder, Assumptions()
     replay = replay_trace(facts, folder)
-    owners = settle_all(replay, facts, assumed)
+    owners = settle_all(replay, facts, assumed, record)
     if owners.makes:
         assumed.add("serial", "")
     note_holes(facts.said, replay, owners, names, record)
@@ -168,14 +161,17 @@ def import_record(facts: Facts, record: Record) -> Imported:
     elsewhere.ninjas = ninjas
     of_ninja, more = import_ninjas(ninjas, replay.all, elsewhere, names, assumed, Past(names.before, replay.changes))
     record.holes += holes + more
-    if record.status != 0:
+    ahead = no_build(replay.all, record.status, record.first.setup if record.first else "")
+    if ahead:
+        record.holes, record.hints = [*ahead, *record.holes[int(record.status != 0):]], ["the build did not begin: repair what stands behind --setup first"]
+    elif record.status != 0:
         record.holes = explained(record.holes, owners.makes, ninjas, folder)
         record.hints = lacked(owners.makes, names, folder)  # guard: what-recipe-lacked
     else:
         record.holes += answers(owners.makes, folder)  # guard: make-that-failed
     for make in tried(owners.makes):
         assumed.add("tried", make.folder)  # guard: what-cmake-tries-said
-    if not owners.makes and not ninjas:
+    if not owners.makes and not ninjas and not ahead:
         record.holes.append("no make and no ninja ran")  # guard: no-make-at-all
     for name in unasked(owners.makes, ninjas):
         assumed.add("unasked", name)  # guard: recipes-that-nothing-asked

@@ -30,17 +30,15 @@ FOLDER = Kind(
     "let the reader need the target of the writer, or give each a folder of its own",
 )
 TIME = Kind("compared-time", "two files whose ages a recipe or `make` compares", "let prerequisites order all recipes that write what is compared")
-MACRO = Kind("changed-macro", "a macro of make that a recipe changes with `$(eval ..)`", "set it where the makefile is read, or give each recipe a macro of its own")
 PRINTED = Kind("order-of-output", "the order of what a make prints into a file", "let each recipe write a file of its own")
 AT_ONCE = Kind("one-recipe", "two processes of one recipe that run at once", "write `wait` between the two, or let one end before the other begins (`&&`)")
 LEFT = Kind("left-running", "a process that its recipe does not wait for", "let the recipe wait for it (`wait`), or start it in a recipe of its own that does")
 WIDE = Kind("wide-footprint", "a footprint that is too wide: a tree where a few files were meant", "write down the single files")
 
 # WIDE is advice for footprints that are written by hand: nothing in a race shows it, so no race is given this kind.
-KINDS = (FORGOTTEN, TWO, TEMPORARY, LOG, OUTPUT, ARCHIVE, FOLDER, TIME, MACRO, PRINTED, AT_ONCE, LEFT, WIDE)
+KINDS = (FORGOTTEN, TWO, TEMPORARY, LOG, OUTPUT, ARCHIVE, FOLDER, TIME, PRINTED, AT_ONCE, LEFT, WIDE)
 # Names that stand for something else than a file: an age, or that a folder was made.
 OF_AGE = re.compile(r"(?:^|/)@(?:time|age)(?:/|$)")
-OF_MACRO = re.compile(r"(?:^|/)@macro/")
 OF_OUTPUT = re.compile(r"(?:^|/)@output(?:/|$)")
 OF_FOLDER = re.compile(r"(?:^|/)@(?:make|seen|gone|mode|links)(?:/|$)")
 
@@ -93,8 +91,6 @@ def kind_of(about: Dict[str, Any], race: Race) -> Kind:
         return TIME
     if is_of_folder(race.path):
         return FOLDER
-    if OF_MACRO.search(race.path):
-        return MACRO
     if OF_OUTPUT.search(race.path):
         return PRINTED
     if race.path.endswith(".a") and is_writing:

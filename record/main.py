@@ -13,6 +13,7 @@ import tempfile
 import threading
 import time
 from concurrent.futures import ThreadPoolExecutor
+from contextlib import ExitStack
 from functools import lru_cache, partial
 from importlib import import_module
 from itertools import islice
@@ -24,7 +25,7 @@ from record.entry import STOPPING, UNHEARD, Stopped, end_traced, forget_coerced
 from record.messages import printable
 from record.facts import Facts, begun, first_tree
 from record.first_tree import FirstTree, first_names, tree_of
-from record.folder import NO_ROOM, Idle, NotWhole, Record, Taken, accept_warm, alone, aside, is_record, reading, rewrite, room_of_programs, rooms_of_programs, seconds_of, what_stands
+from record.folder import NO_ROOM, Idle, NotWhole, Record, Taken, accept_warm, alone, aside, former, is_record, reading, rewrite, room_of_programs, rooms_of_programs, what_stands
 from record.build.assumptions import UNTRIED
 from record.fresh import clean, fresh_tree, in_place
 from record.judge import find_race, judge, no_race
@@ -32,8 +33,9 @@ from record.ninja.retry import JOBS, TRIES, by_hand, hints, tops_of, undo, with_
 from record.ninja.cold_copy import CannotClean, cold_copy, fresh_folder, has_ninja, saved_name
 from record.ninja.log import Kept
 from record.orders.builds import CannotTry, with_many
-from record.orders.exploring import MOST, explore, new_room
+from record.orders.exploring import MOST, beside, explore, new_room
 from record.orders.result import Orders, tried, whatever
+from record.orders.trees import CannotCopy
 from record.progress import Elapsed
 from record.report import Judged, colours, read_json, report
 from record.standstill import Standstill
@@ -196,15 +198,23 @@ def parser_of_words() -> argparse.ArgumentParser:
     parser.add_argument("--keep-trace", action="store_true", help="keep the trace in the record")
     parser.add_argument("--footprints", action="store_true", help="keep a listing and footprints of each build, for race check --makefile")
     parser.add_argument("--strict", action="store_true", help="no yes where waits that may be luck order processes, or a program looks at a folder that others change")
-    parser.add_argument("--orders", type=int, nargs="?", const=-1, default=0, metavar="N", help="build again in copies, recipes in other orders, in at most N builds (%d): "
-                        "a conflict that is about no file, such as which of two is newer, is a race if they differ, and none if not" % MOST)
+    parser.add_argument("--orders", type=builds, default=MOST, metavar="N", help="at most N builds in other orders (%d), in copies: a conflict that is about no file, "
+                        "such as which of two is newer, is a race if they leave something else, and none if not" % MOST)
+    parser.add_argument("--once", dest="orders", action="store_const", const=0, help="build once, and try no other order: each such conflict is a race")
     parser.add_argument("--missing", action="store_true", help="report missing inputs too: files whose edit does not make a target again")
     parser.add_argument("-V", "--version", action="version", version="%(prog)s " + RELEASE, help="print the version")
     parser.add_argument("words", nargs=argparse.REMAINDER, metavar="-- COMMAND ..", help="what builds the project")
     parser.set_defaults(tree=None)  # the first tree, where --fresh made it
     parser.set_defaults(gate="")  # where recipes wait in a build in another order
-    parser.set_defaults(linked=[], expected=0.0)  # files of a copy that have names outside of it, in the folder itself; seconds of the former record
+    parser.set_defaults(linked=[], expected=0.0, made=0)  # files of a copy that have names outside of it, in the folder itself; seconds and builds of the former record
     return parser
+
+
+def builds(word: str) -> int:
+    """How many builds there may be; at least one."""
+    if not word.isdecimal() or int(word) == 0:
+        raise argparse.ArgumentTypeError("%r is no number of builds" % word)
+    return int(word)
 
 
 def parse(args: List[str]) -> argparse.Namespace:
@@ -297,18 +307,25 @@ def record_in_order(options: argparse.Namespace, tools: Dict[str, str], first: O
 
 
 def record_all(options: argparse.Namespace, tools: Dict[str, str], out: Path, race: str) -> Record:
-    """The record, and with `--orders` what other orders came to."""
-    if not options.orders:
-        return record_serial(options, tools, out)
+    """The record, and what other orders came to."""
     tops, first = tops_of(options.words, options.top), options.tree or tree_of(os.path.realpath("."))
-    with new_room(tops, prepared(options), options.words, os.path.realpath(out), room_of_programs(tops) or "/tmp", partial(record_in_order, options, tools, first)) as room:
+    with ExitStack() as stack:
+        room, running, why = None, None, ""
+        rooms = room_of_programs(tops)
+        try:
+            if options.orders and rooms:
+                room = stack.enter_context(new_room(tops, prepared(options), options.words, os.path.realpath(out), rooms, partial(record_in_order, options, tools, first)))
+                running = stack.enter_context(beside(room, options.expected, options.made))
+        except (CannotCopy, CannotTry) as fault:
+            why = str(fault)
         record = record_serial(options, tools, out)
-        if record.status == 0 and not record.holes and (not record.warm or options.warm or record.stands_alone):
-            try:
-                record.orders = explore(room, record, out, race, max(options.orders, 0))
-            except CannotTry as fault:
-                record.notes.append("not built in other orders: %s" % fault)
-            rewrite(out, record)
+        try:
+            if room is not None and running is not None and record.status == 0 and not record.holes and (not record.warm or options.warm or record.stands_alone):
+                record.try_out(explore(room, record, out, race, options.orders, running))
+        except (CannotCopy, CannotTry) as fault:
+            why = str(fault)
+        record.notes += ["not built in other orders: " + why] * bool(why)
+        rewrite(out, record)
     return record
 
 
@@ -362,6 +379,7 @@ def record_tree(options: argparse.Namespace, tools: Dict[str, str], fresh: Path,
             in_place(tree, Path(room) / "fault", work)
             record = cast(Record, pickle.loads(said.read_bytes()))
             if records and record.status != 0:
+                print("race-record: the build fails without that: what was recorded before stands", file=sys.stderr, flush=True)
                 break
             records.append(record)
             shutil.rmtree(fresh, ignore_errors=True)
@@ -401,13 +419,13 @@ def run(options: argparse.Namespace) -> int:
     except Idle as idle:
         print("\n".join(["NO VERDICT", *("  - %s" % why for why in idle.args), "  the record that was in %s stays: race-report shows it" % out]))
         return 2
-    except (CannotClean, CannotTry, Missing, NotBuilt, Taken) as fault:
+    except (CannotClean, Missing, NotBuilt, Taken) as fault:
         return stop(str(fault))
 
 
 def record_and_judge(options: argparse.Namespace, tools: Dict[str, str], out: Path, race: str) -> int:
     """Records in the place of an older record, and judges. Where nothing was to be done, the older one stays."""
-    options.expected = seconds_of(out)
+    options.expected, options.made = former(out)
     with aside(out) as has_older:
         record = record_fresh(options, tools, out, race) if options.fresh else record_all(options, tools, out, race)
         if has_older and import_module("record.importing").IDLE in record.holes:

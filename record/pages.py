@@ -11,6 +11,6 @@ def page(name: str) -> str:
     return next((str(place) for place in places if place.is_file()), "docs/" + name)
 
 
-def after_no_verdict() -> str:
+def after_no_verdict(heading: str = "No verdict, and what to do", name: str = "RECORD.md") -> str:
     """The line under a verdict that is none: where the reasons are explained."""
-    return '  what to do: "No verdict, and what to do" in ' + page("RECORD.md")
+    return '  what to do: "%s" in %s' % (heading, page(name))

@@ -14,12 +14,14 @@ from record.kinds import kind_of, of_one_recipe, target, whole
 from record.ninja.fix import pool_text
 from record.orders import result
 from record.pages import after_no_verdict
+from record.build.assumptions import OF_TREE
 from record.build.text import OWN_NAME, file_of, shown
 
 SHOWN_BLOCKS, SHOWN_LINES, SHOWN_FILES, SHOWN_HOLES = 10, 3, 3, 20
 SHOWN_SIGNS = 80  # of an example
 WORDS = 100  # signs of a call
 LISTS, AGES = "\0lists", "\0ages"  # what several paths have in common
+UNJUDGED = "what the trace shows, and nobody can judge, does no harm: "
 NOBODY = "(what runs behind this make)"  # asks for an age, and is no recipe of it
 
 
@@ -227,13 +229,26 @@ def checked(remedies: Sequence[Remedy], is_whole: bool) -> str:
 
 def assumptions_text(record: Dict[str, Any], is_safe: bool) -> List[str]:
     """What was taken for granted."""
-    lines = ["safe, if:" if is_safe else "Assumed:"]
-    lines += [line for text in result.premise(record.get("orders")) for line in wrapped(text)]
-    for one in record["assumptions"]:
-        example = "" if one["count"] == 1 and not one["example"] else " (%d, such as %s)" % (one["count"], shortened(one["example"], record["folder"]))
-        lines += wrapped(one["text"] + example)
-    keys = "race-explain says what to do about a line, by its key: " + ", ".join(one["kind"] for one in record["assumptions"])
-    return lines + textwrap.wrap(keys, 78, initial_indent="  ", subsequent_indent="  ", break_on_hyphens=False) if len(lines) > 1 else []
+    texts, keys = granted(record), [one["kind"] for one in record["assumptions"]]
+    lines = ["safe, if:" if is_safe else "Assumed:", *(line for text in texts for line in wrapped(text))]
+    said = "race-explain says what to do about a line, by its key: " + ", ".join(keys)
+    lines += textwrap.wrap(said, 78, initial_indent="  ", subsequent_indent="  ", break_on_hyphens=False) if keys else []
+    return lines if texts else []
+
+
+def granted(record: Dict[str, Any]) -> List[str]:
+    """The same as lines: one for each kind or, where other orders were tried, three at most."""
+    found = [(one["kind"], one["text"], example_text(one, record["folder"])) for one in record["assumptions"]]
+    if not record.get("orders"):
+        return [text + example for _, text, example in found]
+    tree = "; ".join(text + example for kind, text, example in found if kind in OF_TREE)
+    left = ", ".join(kind + example for kind, _, example in found if kind not in OF_TREE)
+    return [*result.premise(record["orders"]), *filter(None, [tree, left and UNJUDGED + left])]
+
+
+def example_text(one: Dict[str, Any], folder: str) -> str:
+    """How often something was met, and the first case."""
+    return "" if one["count"] == 1 and not one["example"] else " (%d, such as %s)" % (one["count"], shortened(one["example"], folder))
 
 
 def wrapped(text: str) -> List[str]:

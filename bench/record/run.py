@@ -183,7 +183,7 @@ def once(name: str, part: float, race: str) -> Times:
             folder.mkdir(parents=True)
             PROJECTS[name](folder, part)
         plain = timed(words, first, (0,))
-        recorded = timed([sys.executable, str(RECORDER), "--race", race, "--keep-trace", "--", *words], second, (0, 1))
+        recorded = timed([sys.executable, str(RECORDER), "--once", "--race", race, "--keep-trace", "--", *words], second, (0, 1))
         record = json.loads((second / ".race" / "record.json").read_text())
         began, count = time.monotonic(), 0
         for number in record["builds"]:

@@ -4,8 +4,8 @@ from dataclasses import dataclass
 from typing import Dict, List
 
 TEXTS = {
-    "serial": "make decides goals in this order, without --shuffle, and recipes do the same on the same looks: they do not go by how long things take, MAKEFLAGS, the number of processors, a terminal, standard input, descriptors of a job server, or files that were opened for them before make began",
-    "ninja": "commands of ninja do the same on the same looks: they do not go by how long things take, the number of jobs, the number of processors, a terminal, standard input, or files that were opened for them before ninja began; and nobody looks at the order of what ninja prints",
+    "serial": "make decides goals in this order, without --shuffle, and recipes do the same on the same looks: they do not go by macros that another one sets ($(eval ..)), how long things take, the space that is free, MAKEFLAGS, the number of processors, a terminal, standard input, descriptors of a job server, or files that were opened for them before make began",
+    "ninja": "commands of ninja do the same on the same looks: they do not go by how long things take, the space that is free, the number of jobs, the number of processors, a terminal, standard input, or files that were opened for them before ninja began; and nobody looks at the order of what ninja prints",
     "ties": "build statements with one command ran in the order that the log of ninja shows",
     "up-to-date": "builds start from this tree: targets that were up to date stay so",
     "configured": "builds start when ./configure has run: what it makes is there and up to date",
@@ -24,21 +24,15 @@ TEXTS = {
     "search": "the search for implicit rules goes by a listing from before the first recipe (GNU make before 4.4)",
     "output": "what a make prints does the same in any order of its lines, where another program or a file of errors gets it",
     "jobs-said": "a make inside of a recipe, whose output or errors are kept, may print other lines there with several jobs (of a -j of its own, of jobs that it is not handed, of its folder under -O)",
-    "listings": "programs that list a folder do not depend on the order in which its names were made, which some file systems show",
     "outside": "names outside of the project that the build changed were there before it as they are on the disk after it",
     "preload": "recipes do the same where LD_PRELOAD names the library of the recorder, which lets make say what it does",
     "loaded": "objects that make loads (load), and $(guile ..), change no macros and keep nothing in memory from one recipe to the next: files alone settle what they do",
-    "evals": "functions of make put together, or hand on, no eval, no shell and no name of a macro by which a recipe sees what another one has set",
-    "handed": "what programs print, and files hold, names no macros of make where make reads it once more, in $(eval ..), by $(call or ..) or as prerequisites under .SECONDEXPANSION",
-    "makers": "scripts that make folders for themselves (install-sh, mkinstalldirs, libtool, cmake, ExtUtils of Perl, go build, g++ for modules, os.makedirs of Python with exist_ok) ask no more than that it is there; libtool compares no ages, and lists folders for outputs of the same library",
-    "compilers": "OCaml's and Java's compilers look in folders for modules whose names stand in what they read, and no variable of their environment (CLASSPATH, JDK_JAVAC_OPTIONS, OCAMLPARAM) asks for others",
+    "makers": "scripts that make folders for themselves (install-sh, mkinstalldirs, libtool, cmake, ExtUtils of Perl, go build, g++ for modules) ask no more than that it is there; libtool compares no ages",
     "bytecode": "what Python keeps in __pycache__ does what its source does, whichever recipe wrote it; its bytes may differ",
     "caches": "what ccache, cargo, go, guile, npm and fontconfig keep for themselves, and git's notes of what it looked at, change how long they take, and nothing else; what was taken from there needed no compiler, so files for which one would have looked were not seen (CCACHE_RECACHE=1 and an empty GOCACHE show them)",
     "progress": "what CMake counts in CMakeFiles/Progress changes the percentages that it prints, and nothing else; nobody else looks there",
     "tried": "what CMake's try_compile builds, in a folder that is gone when the build ends, comes to the same in any order",
     "tops": "two makes or ninjas that ran at once, and that no make or ninja started, do not meet",
-    "grouped": "recipes that name the target that they run for do the same for each target of their rule, whichever make looks at first",
-    "inherited": "targets that a later rule or a chain of rules asks for do the same whichever target's macros they inherit",
     "beside": "files that a process which no recipe started changed while make ran are touched by no recipe",
     "ages": "programs that nobody knows look at two files, and do not compare which is newer",
     "afterwards": "interpreters, programs that nobody knows, and makes that only ask (-n, -q), which look at two files when the build that made them has ended, do not compare which is newer",
@@ -65,6 +59,10 @@ TEXTS = {
 
 
 UNTRIED = ("luck", "folders")  # what nobody has tried out: with --strict it bars the yes
+# What builds in other orders try out, and the two serial builds among them.
+TRIED_OUT = ("serial", "ninja", "unwritten", "folders", "queries", "ring", "search", "output", "jobs-said", "makers",
+             "tried", "ages", "afterwards", "interpreters")
+OF_TREE = ("unasked", "up-to-date", "configured")  # what is said of the goals and of the tree
 
 
 @dataclass

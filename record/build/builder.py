@@ -6,7 +6,7 @@ from typing import Dict, Iterable, List, NamedTuple, Optional, Protocol, Set, Tu
 from record.build.assumptions import Assumptions
 from record.build.tasks import Build, Node, Task
 from record.build.work import Tool, Work, settle_parts
-from record.trace.events import AGE_SEEN, ASKS, CHANGES, CREATED, ENTERED, FOLDER_ASKED, FOLDER_KEPT, FOLDER_REMOVED, LISTED, MAKES, REMOVED
+from record.trace.events import AGE_SEEN, ASKS, BY_LIST, CHANGES, CREATED, ENTERED, FOLDER_ASKED, FOLDER_KEPT, FOLDER_REMOVED, LISTED, MAKES, REMOVED, TREE_CHANGES
 from record.trace.lists import fits
 from record.trace.names import Names, join
 
@@ -81,6 +81,12 @@ class Builder:
         part = self.build.tasks[at].part
         return {row[number] for number in part.after} if part is not None else set()
 
+    def note_own(self) -> None:
+        """What ninja itself changes for each command, before that begins: in the order of its manifest. What make does for recipes comes in one order."""
+        for task in self.build.tasks:
+            done = {key for work in task.works for life in work.lives for key in life.events}
+            task.own = {path.rstrip("/") for work in task.works for kind, path in work.events if kind in TREE_CHANGES and (kind, path) not in done}
+
     def note_late(self) -> None:
         """Files on which recipes meet that wait for a process by luck alone: it may still run beside what comes later."""
         for at, task in enumerate(self.build.tasks):
@@ -149,6 +155,8 @@ class Builder:
         for kind, path in events:
             if kind in CHANGES and not path.endswith("/"):
                 task.writes.add(path)
+            elif kind == BY_LIST and path in writers:
+                task.read_by_list(path)  # guard: looks-by-list-are-soft
             elif kind in ASKS and path in writers:  # guard: failed-looks-are-reads
                 task.read(path)
             elif kind == LISTED:

@@ -14,12 +14,12 @@ from typing import Dict, Iterable, Iterator, List, NamedTuple, Optional, Set, Tu
 
 from record.trace.courses import Course, Segment, before
 from record.trace.events import (
-    ABSENT, CREATED, ENTERED, FOLDER_KEPT, FOLDER_REMOVED, HELD, LISTED, LOCKED, MADE, MADE_BEFORE, MADE_QUIETLY, OUTPUT, READ, REMOVED, SEEN, WAY_ABSENT, WRITTEN,
+    ABSENT, BY_LIST, CREATED, ENTERED, FOLDER_KEPT, FOLDER_REMOVED, HELD, LOCKED, MADE, MADE_BEFORE, MADE_QUIETLY, OUTPUT, READ, REMOVED, SEEN, WAY_ABSENT, WRITTEN,
 )
 from record.trace.lives import Life
 
-MAKE, USE, LOOKED_USE, LISTED_LOOK = "K", "p", "q", "l"  # a folder was made; a name below it was used, or used by who had looked for it; a look by a list
-KINDS = {READ: READ, SEEN: SEEN, ENTERED: SEEN, FOLDER_KEPT: SEEN, ABSENT: ABSENT, WAY_ABSENT: ABSENT, WRITTEN: WRITTEN, OUTPUT: OUTPUT, CREATED: CREATED, REMOVED: REMOVED,
+MAKE, USE, LOOKED_USE = "K", "p", "q"  # a folder was made; a name below it was used, or used by who had looked for it
+KINDS = {READ: READ, SEEN: SEEN, BY_LIST: BY_LIST, ENTERED: SEEN, FOLDER_KEPT: SEEN, ABSENT: ABSENT, WAY_ABSENT: ABSENT, WRITTEN: WRITTEN, OUTPUT: OUTPUT, CREATED: CREATED, REMOVED: REMOVED,
          FOLDER_REMOVED: REMOVED, MADE: MADE_BEFORE, MADE_QUIETLY: MADE_BEFORE, MADE_BEFORE: MADE_BEFORE}  # (that it came is an event of its own)
 WRITES, COMES = WRITTEN + OUTPUT, CREATED + REMOVED  # of what a file holds; of the name
 GIVES = WRITES + COMES + MAKE
@@ -93,22 +93,19 @@ class Frontier:
 
     def __init__(self, courses: List[Course], changed: Set[str]) -> None:
         self.changed, self.inside = changed, {id(course) for course in courses}
-        rows = (Did(place, course, number, MAKE if path.endswith("/") else KINDS.get(kind, kind), path.rstrip("/") if kind != LISTED else path.partition("\0")[0])
-                for course, number, place, kind, path in done_by(courses) if kind in KINDS or kind in HELD + LISTED + LOCKED)
+        rows = (Did(place, course, number, MAKE if path.endswith("/") else KINDS.get(kind, kind), path.rstrip("/"))
+                for course, number, place, kind, path in done_by(courses) if kind in KINDS or kind in HELD + LOCKED)
         self.rows = sorted(rows, key=lambda row: row.place)
         self.made = {row.path for row in self.rows if row.kind in MAKE + REMOVED}
         self.held = {row.path for row in self.rows if row.kind in HELD + LOCKED}  # guard: files-of-locks-inside
         self.table: Dict[str, Dict[Tuple[int, int, str], Did]] = {}
         self.asked: Set[Tuple[int, str]] = set()  # who has looked for which folder, or tried to make it
-        self.listed: Set[Tuple[int, str]] = set()
         self.found: Dict[Tuple[str, int, int, int, int], Conflict] = {}
 
     def conflicts(self) -> List[Conflict]:
         """All of them."""
         for row in self.rows:
-            if row.kind == LISTED:
-                self.listed.add((id(row.course), row.path))
-            if row.kind not in HELD + LOCKED + LISTED:
+            if row.kind not in HELD + LOCKED:
                 self.take(row)
         return list(self.found.values())
 
@@ -116,8 +113,7 @@ class Frontier:
         """One thing that was done, to its path and to the folders that the path is in."""
         who = id(row.course)
         if row.path in self.changed and (row.path not in self.held or row.kind in REMOVED + ABSENT):
-            is_by_list = row.kind == SEEN and (who, os.path.dirname(row.path)) in self.listed  # guard: looks-by-list
-            self.meet(row._replace(kind=LISTED_LOOK) if is_by_list else row)
+            self.meet(row)
         if row.kind in SEEN + ABSENT + MADE_BEFORE + MAKE:
             self.asked.update((who, path) for path in (row.path, *above(row.path)) if path in self.made)
         for folder in above(row.path) if self.made and row.kind != ABSENT else ():  # what is not there is not there without its folder either

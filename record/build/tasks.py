@@ -43,6 +43,8 @@ class Task:
     writes: Set[str] = field(default_factory=set)
     works: List[Work] = field(default_factory=list)
     listed: Set[str] = field(default_factory=set)  # what it reads by a list of the folder alone
+    leaves: Set[str] = field(default_factory=set)  # what it writes, and no other task touches
+    own: Set[str] = field(default_factory=set)  # what ninja itself changes for it, before its command begins
     part: Optional[Part] = None  # of a recipe, that is judged as this task: of one that is divided the one with which it ends
     parts: List[int] = field(default_factory=list)  # of a recipe that is divided: the tasks of its other parts, in order
 
@@ -169,4 +171,5 @@ def drop_lonely(tasks: List[Task], kept: Set[str]) -> None:
             count[path] = count.get(path, 0) + 1
     for task in tasks:
         task.reads = {p for p in task.reads if p in written and count[p] > 1 and p not in task.writes}
-        task.writes = {p for p in task.writes if count[p] > 1 or p in kept}
+        task.leaves = {p for p in task.writes if count[p] == 1 and p not in kept}
+        task.writes -= task.leaves

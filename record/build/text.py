@@ -9,7 +9,7 @@ if TYPE_CHECKING:
 
 LABEL_LIMIT = 4096
 # What stands for something else than a file: for its age, for who makes a folder.
-OWN_NAME = re.compile(r"(^|/)@(make|seen|gone|time|mode|links|age|macro|output|dyndep)(/.*)?$")
+OWN_NAME = re.compile(r"(^|/)@(make|seen|gone|time|mode|links|age|output|dyndep)(/.*)?$")
 
 
 def shown(text: str) -> str:

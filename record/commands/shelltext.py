@@ -24,8 +24,6 @@ AGELESS = frozenset((
 VERSIONED = re.compile(r"(?:[\w.]+-linux-gnu-)?([a-z+\[.][a-z0-9+.]*?)(?:-[\d.]+)?$")  # one with a machine or a version: `x86_64-linux-gnu-gcc-12` is `gcc`
 TOOLS = re.compile(r"/usr/(?:local/)?bin/(?:makeinfo|texi2any|pod2man|pod2text|help2man)$")  # scripts of the system that compare no ages
 PROGRESS = ("cmake_progress_start", "cmake_progress_report", "cmake_echo_color")  # what `cmake -E` does to count what is built
-# A folder that `cp` or `mv` copies gets its names in that order; with `-v` or `-c` the last four say in which order they come to names.
-SORTERS, NAMING = ("make", "gmake", "rm", "chmod", "chown", "rmdir", "git"), ("rm", "rmdir", "chmod", "chown")  # guard: copies
 COMPRESSORS = ("gzip", "pigz", "bzip2", "xz", "lzma", "lzip", "zstd", "compress")  # they refuse a file that has two names; `tar` that unpacks counts none
 UNPACKS = re.compile(r"\S+(?: -C \S+| --\w[\w-]*=\S*)* (?:-?[vzjJapmko]*x[a-zA-Z]*|--extract|--get)(?: |$)")  # guard: tar-that-packs
 # Scripts that make folders for themselves, and what Perl's makefiles make folders by.
@@ -47,7 +45,7 @@ TAKES_IN = re.compile(r"(^|[;&|({\n`!]\s*|\b(then|do|else|elif|if|while|until|ti
 DOT = re.compile(r"(^|(?<!\\)[;&|\n])(?:[ \t]|\\\n)*\.[ \t]+(?![-=!<>&|;\])])")  # the same at the begin of a command, where no test of bash goes on: `[[ x && . -nt y ]]`  # guard: dots-on-next-line
 # The name of a script that a script takes in: `./x` in `if . ./x; then`, see `sourced`.
 SOURCED = re.compile(r"""
-    (?: (?:^|[;&|{(!]|=`|\w=\S*[ \t])[ \t]*                                  # where a command begins, and behind `a=1 `
+    (?: (?:^|(?<!\\)[;&|{(!]|=`|\w=\S*[ \t])[ \t]*                         # where a command begins, and behind `a=1 `  # guard: bars-behind-backslash
       | \b(?:then|do|else|elif|if|while|until|time|command|builtin)[ \t]+ )  # guard: scripts-behind-if
     (?:\.|source)[ \t]+([^\s;&|)#]+)
     """, re.MULTILINE | re.VERBOSE)
@@ -289,15 +287,6 @@ def is_ageless(argv: List[str]) -> bool:
 def shows_progress(argv: List[str]) -> bool:
     """Whether CMake counts what is built, to print how much of it there is."""
     return base_name(argv) == "cmake" and argv[1:2] == ["-E"] and argv[2:3] != [] and argv[2] in PROGRESS
-
-
-def sorts_names(argv: List[str]) -> bool:
-    """Whether a program that lists a folder sorts what it finds, or does the same with each name."""
-    name = base_name(argv)
-    if name == "ls":
-        return not any(re.match(r"-\w*[Uf]|--so\w*(?:=n|$)", word) for word in argv[1:])  # guard: that-ls-shows
-    is_loud = name in NAMING and any(re.match(r"-\w*[vc]|--[vc]", word) for word in argv[1:])
-    return name in SHELLS or name in SORTERS and not is_loud  # guard: that-rm-says
 
 
 def is_interpreter(argv: List[str]) -> bool:

@@ -11,7 +11,7 @@ from record.build.work import Work
 from record.commands import shellages, shelltext
 from record.make.owners import Make, makes_of
 from record.make.targets import RoundBuilder
-from record.trace.events import AGE_SEEN, AGE_TAKEN, AGE_UNKNOWN, READ, SEEN, WRITTEN
+from record.trace.events import AGE_SEEN, AGE_TAKEN, AGE_UNKNOWN, BY_LIST, READ, SEEN, WRITTEN
 from record.trace.lives import Life
 from record.trace.names import Names
 
@@ -53,7 +53,7 @@ def note_sources(builder: Builder) -> None:
         shown = {path for life in showing for kind, path in life.events if kind == AGE_SEEN}  # a time may come from such a program, as a word
         shown |= {path for _, work in works for path in packed(work)}  # guard: ages-through-pipe
         for life in (life for _, work in works for life in work.lives):
-            names = {path for kind, path in life.events if kind in (READ, SEEN)} | (life.handed() | shown if any(kind == AGE_TAKEN for kind, _ in life.events) else set())  # guard: standard-input-taken
+            names = {path for kind, path in life.events if kind in (READ, SEEN, BY_LIST)} | (life.handed() | shown if any(kind == AGE_TAKEN for kind, _ in life.events) else set())  # guard: standard-input-taken
             looked = made_here(builder, names)
             for name, source in takes_over(life):
                 builder.sources.setdefault(name, []).append({source} if source else looked)
@@ -75,7 +75,7 @@ def packs(life: Life) -> bool:
 
 def packed(work: Work) -> Set[str]:
     """The names that the packers of a recipe have taken in or opened: their ages may come out of an archive that no file keeps."""
-    return {path for life in work.lives if packs(life) for kind, path in life.events if kind in (READ, SEEN)}
+    return {path for life in work.lives if packs(life) for kind, path in life.events if kind in (READ, SEEN, BY_LIST)}
 
 
 def pipes(work: Work) -> bool:
@@ -175,14 +175,16 @@ def compared_in_archives(work: Work) -> Set[str]:
 
 
 def ages_in_archives(builder: Builder, at: int, work: Work) -> None:
-    """`ar` with `u` compares a file with the member of its name that another recipe has put into the archive."""
+    """`ar` with `u` compares a file with the member of its name that another recipe has put into the archive. A folder is none."""
     tasks = builder.build.tasks
     for life in (life for life in work.lives if any(shelltext.base_name(argv) == "ar" and UPDATES.match("".join(argv[1:2])) for argv in life.ran)):
         for archive in sorted({path for kind, path in life.events if kind in (READ, WRITTEN)}):
             others = builder.build.writers.get(archive, set()) - {at}
             members = {os.path.basename(path) for one in others for kind, path in builder.events(tasks[one]) if kind == READ}
-            for path in sorted({path for kind, path in life.events if kind in (READ, SEEN) and path != archive and os.path.basename(path) in members}):  # guard: ar-of-new-members
-                compare(builder, at, archive, path)
+            for path in sorted({path for kind, path in life.events if kind in (READ, SEEN, BY_LIST) and path != archive and os.path.basename(path) in members}):  # guard: ar-of-new-members
+                inode = builder.names.find("/", path, True).inode
+                if inode is None or inode.kind != "d":  # guard: folders-beside-members
+                    compare(builder, at, archive, path)
 
 
 def ages_by_words(builder: Builder, at: int, work: Work, assumed: str = "ages", words: str = "") -> None:

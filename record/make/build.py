@@ -13,7 +13,7 @@ from record.make.inner import add_inner
 from record.make.locks import pass_locks
 from record.make.memory import libraries, place_listings, share_listings
 from record.make.targets import RoundBuilder
-from record.make.unfiled import add_macros, add_outputs, count_listings
+from record.make.unfiled import add_outputs
 from record.make.words import makefiles
 from record.trace.events import CREATED, MAKES, WRITTEN
 
@@ -78,7 +78,7 @@ class MakeBuilder(RoundBuilder):
                 self.of_node[node.label] = self.add(node, "decision", node.label)
             elif own >= 0 and self.is_leaf(node):  # guard: looks-of-leaves
                 acts = self.acts_of(node)
-                if any(self.is_written(p, own) for p in needed) or acts or node.name in self.macros:  # guard: leaves
+                if any(self.is_written(p, own) for p in needed) or acts:  # guard: leaves
                     self.look_of[node.label] = self.add(node, "look", node.label + "@look")
 
     def make_first_looks(self) -> None:
@@ -216,12 +216,10 @@ class MakeBuilder(RoundBuilder):
             build.tasks[at].reads.update(self.asked[label])
         add_inner(self, created)
         find_askers(self, created)
-        add_macros(self, created)  # guard: macros-that-recipes-change
         add_outputs(self)
-        count_listings(self, created)
         add_folders(self)
         add_ages(self)
-        add_elsewhere(self, created)
+        add_elsewhere(self)
         pass_locks(self)
         # the next build reads the makefiles that this one looked for
         drop_lonely(self.build.tasks, {self.names.find(self.make.folder, name, True).path for name in makefiles(self.make.words)})

@@ -55,11 +55,7 @@ class Base:
     search: List[Tuple[str, List[str]]] = field(default_factory=list)  # patterns of names, and the folders in which make looks for them
     values: Dict[str, str] = field(default_factory=dict)  # the text of macros; `$(lines)*` for one of several lines
     bodies: Dict[str, List[str]] = field(default_factory=dict)  # by macro: its lines, and its values for single targets and patterns
-    scoped: Set[str] = field(default_factory=set)  # targets with macros of their own
     own: Set[str] = field(default_factory=set)  # macros of single targets and patterns
-    origins: Dict[str, Tuple[str, str, int]] = field(default_factory=dict)  # by macro: who gave it its value, and where: the makefile, and the line
-    own_places: Dict[str, Set[Tuple[str, int]]] = field(default_factory=dict)  # by macro: where single targets and patterns got theirs
-    cut: Set[str] = field(default_factory=set)  # names of macros that go on
     serial: bool = False
     parts: List[str] = field(default_factory=list)  # which of its parts have begun
     is_unclear: bool = False  # a macro has lines that look like those of the data base
@@ -87,7 +83,6 @@ class _Files:
     def __init__(self, base: Base) -> None:
         self.base, self.name = base, ""
         self.is_macro = self.is_other = False  # the next line sets a macro of one target; it is about a name that is no target
-        self.remarked = ""  # the last remark
         self.is_recipe = self.goes_on = False  # inside of a recipe; inside of one of its lines
 
     def line(self, text: str) -> None:
@@ -113,7 +108,7 @@ class _Files:
     def remark(self, text: str) -> None:
         """A line such as `#  Phony target (prerequisite of .PHONY).`, about the target above it; or one that says where a macro is from."""
         base = self.base
-        self.is_macro, self.remarked = not self.name and bool(ORIGIN.match(text)), text
+        self.is_macro = not self.name and bool(ORIGIN.match(text))
         self.is_other = text == NO_TARGET
         if not text.startswith("#  "):
             return
@@ -140,8 +135,7 @@ class _Files:
         match = TARGET.match(text)
         if self.is_macro or not match:
             if match:
-                self.base.scoped.add(match.group(1))
-                own_value(self.base, match.group(3) or "", text, self.remarked)  # guard: where-targets-got-their-macros
+                own_value(self.base, match.group(3) or "", text)
             self.is_macro = False
             return
         base, self.name = self.base, match.group(1)
@@ -166,13 +160,12 @@ def level(text: str, previous: str) -> int:
     return 0 if found is None else 1 if found.group(1) else -1
 
 
-def own_value(base: Base, text: str, line: str, remark: str) -> None:
-    """A macro that one target, or the targets of a pattern, have for themselves, and where they got it."""
-    value, found = VALUE.match(text), ORIGIN.match(remark)
+def own_value(base: Base, text: str, line: str) -> None:
+    """A macro that one target, or the targets of a pattern, have for themselves."""
+    value = VALUE.match(text)
     if value:
         base.bodies.setdefault(value.group(1), []).append(line)
         base.own.add(value.group(1))
-        base.own_places.setdefault(value.group(1), set()).add((found.group(2) or "", int(found.group(3) or 0)) if found else ("", 0))
 
 
 def with_signs(text: str) -> str:
@@ -199,14 +192,13 @@ class _Macros:
             self.goes_on = not self.depth
             self.body(text) if self.depth else None
         elif ORIGIN.match(previous):
-            self.macro(text, previous)
-            self.from_where(text, previous)
+            self.macro(text)
         elif self.goes_on and not is_behind:  # make shows a value with ends of lines as it is  # guard: values-of-several-lines
             self.body(text)
         else:
             self.goes_on = False
 
-    def macro(self, text: str, remark: str) -> None:
+    def macro(self, text: str) -> None:
         """The value of a macro, or the first line of one that has several. Where its name has a rest, this counts as another value of the name."""
         lines, value = LINES.match(text), VALUE.match(text) if not text.startswith("# ") else None
         self.depth, self.goes_on = int(lines is not None), lines is None and value is not None
@@ -216,20 +208,13 @@ class _Macros:
             self.name = lines.group(1)
             self.base.values.update({self.name: LINES_TEXT} if not lines.group(2) else {})
         elif value is None:
-            own_value(self.base, text[2:], with_signs(text), remark)  # guard: macros-of-patterns
+            own_value(self.base, text[2:], with_signs(text))  # guard: macros-of-patterns
         elif value.group(2):
             self.name = value.group(1)
-            self.base.cut.add(self.name)
             self.body(text)  # guard: blank
         else:
             self.name = value.group(1)
             self.base.values[self.name] = value.group(3)
-
-    def from_where(self, text: str, remark: str) -> None:
-        """Who gave a macro its value that holds for all targets, by the line above it."""
-        found = ORIGIN.match(remark)
-        if found is not None and not text.startswith("# ") and (LINES.match(text) or VALUE.match(text)):  # guard: who-gave-macro-its-value
-            self.base.origins[self.name] = found.group(1), found.group(2) or "", int(found.group(3) or 0)
 
     def body(self, text: str) -> None:
         """A line of the last macro."""

@@ -14,8 +14,7 @@ from record.build.work import Tool, Work
 from record.make.ages import age_paths, ages_by_words, compare, packs, takes_over, works_of
 from record.make.database import Base
 from record.make.owners import Owners
-from record.make.unfiled import Created, unordered
-from record.trace.events import AGE_SEEN, AGE_TAKEN, AGE_UNKNOWN, ORDER_SEEN
+from record.trace.events import AGE_SEEN, AGE_TAKEN, AGE_UNKNOWN
 from record.trace.lives import Life
 from record.trace.names import Names
 
@@ -40,7 +39,7 @@ class Elsewhere:
         self.ninjas: Sequence[Tool] = ()
         self.groups: Dict[int, List[Life]] = {}
         for life in owners.lives:
-            if any(kind in AGES + ORDER_SEEN for kind, _ in life.events) or packs(life):  # guard: archives
+            if any(kind in AGES for kind, _ in life.events) or packs(life):  # guard: archives
                 self.groups.setdefault(id(part_of(life)), []).append(life)  # guard: programs-that-belong-together
 
     @cached_property
@@ -132,7 +131,7 @@ def words_of(life: Life) -> str:
     return " ".join(life.argv)[:60]
 
 
-def find_askers(builder: Builder, created: Created) -> None:
+def find_askers(builder: Builder, created: Dict[str, Dict[str, Set[int]]]) -> None:
     """Who may ask elsewhere for the ages of what a build leaves, and the folders for whose age they ask."""
     if builder.elsewhere is None:
         return
@@ -143,12 +142,9 @@ def find_askers(builder: Builder, created: Created) -> None:
             builder.timed.setdefault(path, set())  # guard: folders
 
 
-def add_elsewhere(builder: Builder, created: Created) -> None:
+def add_elsewhere(builder: Builder) -> None:
     """Adds what is asked of ages elsewhere, where the schedule of this build settles the answer."""
     for first, second in builder.askers.pairs:
         compare(builder, -1, first, second)
     for words, work in builder.askers.works:
         ages_by_words(builder, -1, work, "afterwards", words)
-        for life, path in ((life, path) for life in work.lives for kind, path in life.events if kind == ORDER_SEEN and path in created):
-            if next(unordered(builder, sorted({who for names in created[path].values() for who in names})), None) is not None:
-                builder.assumed.add("listings", "%s lists %s" % (words_of(life), path))  # guard: order-of-names

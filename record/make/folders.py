@@ -13,7 +13,6 @@ from typing import Dict, FrozenSet, List, NamedTuple, Set
 
 from record.build.builder import Builder, Events
 from record.commands import shelltext
-from record.make.ahead import makes_ahead
 from record.make.quiet import excused, makes_itself
 from record.trace.events import (
     ABSENT, CHANGES, CREATED, ENTERED, FOLDER_KEPT, FOLDER_REMOVED, LINKS_CHANGED, LINKS_SEEN, LISTED, LOCKED, LOOKS, MADE_BEFORE,
@@ -28,7 +27,6 @@ NAME_ASKED = "s"  # a kind of event of this module alone: a decision of make ask
 OWN_LOOKS = SEEN + NAME_ASKED + ABSENT  # at the folder's own name
 USES = SEEN + NAME_ASKED + READ + WRITTEN + ENTERED + LISTED  # what needs the folder
 TOUCHES = READ + SEEN + TREE_CHANGES + MADE_BEFORE + ENTERED + LISTED  # what needs the folders above a name
-FOR_IMPORTS, OF_PYTHON = "*/", "*.pyc"  # Python asks for both where it imports
 SEARCH = 0o100  # without this bit of a folder nobody but root finds what is in it
 
 
@@ -177,7 +175,7 @@ def add_folder(builder: Builder, path: str, folder: Folder) -> None:
             if at not in folder.strict | folder.quiet and (at in folder.scripts or excused(builder, at, path)):  # guard: test-d-mkdir
                 folder.quiet.add(at)
                 folder.first_made[at] = -1
-    for at in [at for at in folder.users | folder.absent | folder.quiet if makes_itself(builder, at, path) or makes_ahead(builder, at, path)]:  # guard: rule-that-comes-late
+    for at in [at for at in folder.users | folder.absent | folder.quiet if makes_itself(builder, at, path)]:  # guard: rule-that-comes-late
         folder.quiet.add(at)
         folder.first_made[at] = -1
     for at in list(folder.strict):
@@ -271,7 +269,7 @@ def mark(builder: Builder, name: str, meaning: str, readers: Set[int], writers: 
 
 
 def add_listed(builder: Builder, table: Dict[str, Makers], first_made: Dict[str, Dict[int, int]]) -> None:
-    """A listing sees the folders that recipes make in it; that of a task which makes one itself, only where it lists first, and not for a module."""
+    """A listing sees the folders that recipes make in it; that of a task which makes one itself, only where it lists first."""
     inside: Dict[str, List[str]] = {}
     for name in table:
         inside.setdefault(os.path.dirname(name), []).append(name)
@@ -279,18 +277,17 @@ def add_listed(builder: Builder, table: Dict[str, Makers], first_made: Dict[str,
         lists = {path: place for kind, path, place in events if kind == LISTED}
         for path, place in lists.items():
             where, pattern = path.split("\0")
-            is_import = pattern == FOR_IMPORTS and where + "\0" + OF_PYTHON in lists
             for name in (name for name in inside.get(where, ()) if matches(os.path.basename(name), pattern)):
                 made, gone = table[name]
                 makers = (gone if was_there(builder, name) else made | gone) - {at}
-                is_own = at in gone or at in made and (is_import or first_made[name].get(at, -1) < place)  # guard: listed-before-task-makes-them-itself
+                is_own = at in gone or at in made and first_made[name].get(at, -1) < place  # guard: listed-before-task-makes-them-itself
                 if not is_own and (gone or not any(builder.build.is_before(m, at) for m in makers)):  # guard: listed
                     seen(builder, name, at, makers)
 
 
 def matches(name: str, pattern: str) -> bool:
     """Whether a pattern can match the name of a folder; with a slash behind it, that of no file."""
-    return name != "__pycache__" if pattern == FOR_IMPORTS else fnmatch.fnmatchcase(name, pattern.rstrip("/"))  # guard: folders-that-python-uses
+    return fnmatch.fnmatchcase(name, pattern.rstrip("/"))
 
 
 def add_times(builder: Builder) -> None:

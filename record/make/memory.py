@@ -13,7 +13,7 @@ from record.make.owners import Make
 from record.make.references import with_values
 from record.make.targets import RoundBuilder
 from record.make.words import LATER, numbers_of
-from record.trace.events import LISTED, MAKE_LISTED, MAKE_OPENED, MODE_CHANGED, ORDER_SEEN, SEEN
+from record.trace.events import LISTED, MAKE_LISTED, MAKE_OPENED, MODE_CHANGED, SEEN
 
 LIBRARIES = "lib%.so lib%.a"
 
@@ -44,11 +44,9 @@ def has_modes(make: Make) -> bool:
 
 
 def add_list(make: Make, work: Work, folder: str, patterns: List[str], place: int) -> None:
-    """A folder is listed for patterns; before make sorted what it finds, the order of the names counts too."""
+    """A folder is listed for patterns."""
     for pattern in patterns:
         work.add(LISTED, folder + "\0" + pattern, place)
-    if patterns and not make.words.sorts_names:
-        work.add(ORDER_SEEN, folder, place)  # guard: lists-of-recipes
 
 
 def share_listings(builder: RoundBuilder) -> None:
@@ -110,9 +108,9 @@ def libraries(builder: RoundBuilder, node: Node) -> List[str]:
     names = [name for name in node.prerequisites if name in nodes and builder.build.writers.get(nodes[name].path)]
     names = [name for name in names if not (os.path.dirname(name) and nodes[name].has_recipe)]  # a search path finds targets before they are there
     stems = {name: stem for name in names for stem in stems_of(builder, name)}
-    if not stems or "-l" not in builder.known.text:  # guard: libraries-by-their-short-names
+    if not stems or "-l" not in builder.texts.text:  # guard: libraries-by-their-short-names
         return []
-    words = builder.known.rule_words
+    words = builder.texts.rule_words
     return [nodes[name].path for name, stem in stems.items() if "-l" + stem in words or any(word.startswith("-l") and "$" in word for word in words)]
 
 

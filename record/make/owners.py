@@ -18,7 +18,7 @@ from record.make.database import Base
 from record.make.one_job import has_one_job
 from record.make.programs import Programs
 from record.make.words import Job, Round, Words, makefiles
-from record.trace.events import ABSENT, ENTERED, INSIDE, LISTED, LOOKS, MAKE_LISTED, MAKE_OPENED, ORDER_SEEN, READ, REMOVED, SEEN
+from record.trace.events import ABSENT, ENTERED, INSIDE, LISTED, LOOKS, MAKE_LISTED, MAKE_OPENED, READ, REMOVED, SEEN
 from record.trace.lives import Life
 
 SHELL = re.compile(r"\$[({]shell\s|!=")  # what calls a program while make reads or expands a text
@@ -170,7 +170,6 @@ class Owners:
         self.jobs: Dict[int, Job] = {}  # by id of a life that make started
         self.births: Dict[int, int] = {}  # by id of a job: when its first process was born
         self.lasts: Dict[int, int] = {}  # by id of a job: when its last process was born
-        self.is_sorted = all(one.sorts_names for one in words)  # all are one program, that of makes without words too
         by_key = {(w.pid, w.life): w for w in words}
         for life in lives:
             if life.is_make and life.number >= 0:
@@ -281,8 +280,6 @@ class Owners:
                 if key[0] == MAKE_LISTED:
                     for pattern in make.all_patterns_in(key[1]) if make is not None else ["*"]:  # guard: patterns-of-rules
                         work.add(LISTED, key[1] + "\0" + pattern, place)
-                    if not self.is_sorted:
-                        work.add(ORDER_SEEN, key[1], place)  # guard: makes-inside
                 elif key[0] not in INSIDE and work.events.get(key, place + 1) > place:
                     work.add(SEEN if key[0] == MAKE_OPENED else key[0], key[1], place)
 

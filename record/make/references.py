@@ -1,9 +1,8 @@
 """How a text of make names macros: in references, also those of a text that is read a second time, and in what `$(eval ..)` is handed."""
 
 import re
-from fnmatch import fnmatchcase
 from functools import lru_cache
-from typing import Dict, FrozenSet, Iterable, Iterator, List, NamedTuple, Set
+from typing import Dict, FrozenSet, Iterable, Iterator, List, Set
 
 from record.trace.strace import remembered
 
@@ -16,41 +15,24 @@ COMPUTED = re.compile(r"\$[({]call\s[^,(){}]*\$")  # a function that another mac
 # What reads a text that it gets a second time: `eval`, a function that another macro names, and one that works out its own words, where `call` calls it.
 SECOND = re.compile(EVAL.pattern + "|" + COMPUTED.pattern + r"|\$[({]call\s+(?:foreach|let|if|or|and|intcmp)\s*,")  # guard: what-it-reads-second-time
 GOES_ON = re.compile(r"(?<!\\)((?:\\\\)*)\\\n[ \t]*")  # a line of a makefile: two backslashes at its end are one sign of it  # guard: even-numbers-of-backslashes
-BINDS = re.compile(r"\$[({](?:call[ \t]+)?(?:foreach|let)[ \t,]([^,]*),")  # a loop, and the macros that it gives a value
 SIGNS = re.compile(r"\$+")
 STEM = re.compile(r"\$(?:\*|\(\*[DF]?\)|\{\*[DF]?\})")  # what stands for `%`: its own name is no pattern, though one with it in is
 ENDS = " \t\n:=#,(){}"  # signs before which we cut a name: what stands behind them may be no part of it
 PLAIN = re.compile("[^$" + re.escape(ENDS) + "]+")
 NAME = r"[^\s:=#,(){}$]"  # one of any other signs
-SETS = re.compile(r"[ \t]*(?:override[ \t]+|export[ \t]+)*([\w.-]+)[ \t]*(\+|\?|!|:{0,3})=")
-FILES = re.compile(r"\$[({](?:call[ \t]+)?file[ \t,]*<")  # what reads the lines of a file
+SETS = re.compile(r"[ \t]*(?:override[ \t]+|export[ \t]+)*([\w.-]+)[ \t]*(?:\+|\?|!|:{0,3})=")
 BRACKETS = {"(": re.compile("[()]"), "{": re.compile("[{}]")}
 ANY = "*"  # macros that nobody can name
-CALL = re.compile(r"\$[({]call[ \t]+")
-ONE = r"\$(?:\([\w.-]+\)|\{[\w.-]+\}|\w)"  # a macro
-COMPOSED = re.compile(r"(\$[({]call[ \t]+|)(?<![\w.$-])([\w.-]*(?:%s[\w.-]*)+)" % ONE)  # a name with macros in it
 MACRO = re.compile(r"\$(?:[({]([\w.-]+)[)}]|(\w))")
 DEPTH = 8  # how often macros are put in the places of their names
 
 
-class Eval(NamedTuple):
-    """One `$(eval ..)`: where it stands, the macro that it sets, and whether it sets it anew, or adds to it."""
-
-    start: int
-    end: int
-    name: str
-    is_fresh: bool
-    is_added: bool
-
-
-def evals(text: str) -> Iterator[Eval]:
-    """Those of a text."""
+def set_by_evals(text: str) -> Iterator[str]:
+    """The macros that each `$(eval ..)` of a text sets."""
     for call in EVAL.finditer(text):
-        end = end_of(text, call.start() + 1)
-        body = text[call.end():end - 1]
+        body = text[call.end():end_of(text, call.start() + 1) - 1]
         sets = SETS.match(body) if "\n" not in body else None
-        is_fresh = sets is not None and sets.group(2) not in ("+", "?")
-        yield Eval(call.start(), end, ANY if sets is None else sets.group(1), is_fresh, sets is not None and sets.group(2) == "+")
+        yield ANY if sets is None else sets.group(1)
 
 
 def with_functions(text: str) -> str:
@@ -78,16 +60,6 @@ def named(text: str) -> FrozenSet[str]:
     plain = STEM.sub("$@", text.replace("$$", "  "))
     found = {one.group(1).strip(ENDS) if one.group(1) else name_at(plain, one.end()) for one in BEGIN.finditer(plain)}  # guard: one-sign
     return frozenset(ANY if fits(".VARIABLES", name) else name for name in found)  # guard: list-of-all
-
-
-def outermost(text: str) -> Set[int]:
-    """Where the references of a text begin that stand in no other one: make surely comes to these."""
-    found, at = set(), text.find("$")
-    while at >= 0:
-        is_sign = text[at + 1:at + 2] == "$"
-        found |= set() if is_sign else {at}
-        at = text.find("$", at + 2 if is_sign else end_of(text, at + 1))
-    return found
 
 
 def name_at(text: str, at: int) -> str:
@@ -125,13 +97,6 @@ def fits(name: str, pattern: str) -> bool:
 def matching(names: Iterable[str], pattern: str) -> List[str]:
     """The names that a pattern of `named` fits."""
     return [name for name in names if fits(name, pattern)]
-
-
-def composes(text: str, function: str) -> bool:
-    """Whether `call` may call a function whose name is put together by macros: where it stands, or in a macro that `call` names."""
-    words = [(bool(found.group(1)), re.sub(ONE, "*", found.group(2))) for found in COMPOSED.finditer(text)] if CALL.search(text) else []
-    is_open = (True, "*") in words
-    return any(fnmatchcase(function, word) for is_called, word in words if word != "*" and (is_called or is_open and word.strip("*")))  # guard: names-that-no-function
 
 
 def with_values(text: str, values: Dict[str, str]) -> str:

@@ -10,7 +10,7 @@ from record.make.database import Base
 from record.make.graph import Graph, MakeBuild
 from record.make.owners import Make
 from record.make.programs import are_inside
-from record.make.used import macros_of
+from record.make.texts import Texts
 from record.make.words import LATER, numbers_of
 from record.trace.names import Names
 
@@ -28,8 +28,8 @@ class RoundBuilder(Builder):
         self.asked: Dict[str, Set[str]] = {}  # by label of a first look: the names that it is about
         self.ageless: Set[str] = set()  # labels of targets by whose age nothing is remade
         self.began = -1
-        self.known, self.macros = macros_of(make, self.graph.base)
-        self.works_late = self.known.works_late() or are_inside(self.graph.base, make.folder, names.tops)  # guard: what-make-does-when-recipe-starts
+        self.texts = Texts(make, self.graph.base)
+        self.works_late = are_inside(self.graph.base, make.folder, names.tops)  # guard: what-make-does-when-recipe-starts
 
     def path_of(self, name: str) -> str:
         """The real path of a target, as it was before the build or is now."""

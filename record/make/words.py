@@ -18,7 +18,6 @@ VPATH = re.compile(r"^ *No need to remake target '(.*)'; using VPATH name '(.*)'
 FINISHED = re.compile(r"^ *Finished prerequisites of target file '(.*)'\.$")
 MUST = re.compile(r"^ *Must remake target '(.*)'\.$")
 FAILED = re.compile(r"^ *(?:Failed to remake|Giving up on) target file '(.*)'\.$")  # guard: targets-that-were-given-up-for-makefile
-SORTED = (4, 3)  # from this version on, make sorts what patterns find
 # From this one on `$(shell ..)` gets exported macros, which make works out for it, and make expands all prerequisites a second time when it considers their
 # target, knows rows of some targets, looks for each name of which no rule is about and at all targets of a recipe, and reads folders anew when a command has ended.
 LATER = (4, 4)
@@ -123,21 +122,6 @@ class Words:
     def has_failed(self) -> bool:
         """Whether it failed, or a signal ended it."""
         return self.status != 0
-
-    @property
-    def sorts_names(self) -> bool:
-        """Whether what patterns of its makefiles find is sorted; else it comes in the order in which the file system shows a folder."""
-        return numbers_of(self.version) >= SORTED  # guard: later-ones
-
-    @property
-    def exports_to_shell(self) -> bool:
-        """Whether make works out exported macros for each `$(shell ..)`, and not only for recipes."""
-        return numbers_of(self.version) >= LATER
-
-    @property
-    def expands_late(self) -> bool:
-        """Whether make expands the prerequisites of each target a second time when it considers that; else those of implicit rules alone."""
-        return numbers_of(self.version) >= LATER
 
     @property
     def kept_errors(self) -> str:

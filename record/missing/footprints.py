@@ -87,7 +87,7 @@ class Footprints:
         name, mark, other = path.rstrip("/").partition("\0")
         if kind == "c" and mark and not other:
             self.set_back.add(name)
-        if kind not in "RSNLWCDMTE":
+        if kind not in "RSlNLWCDMTE":
             return
         code = BYTE_CODE.match(name)
         if code and kind != "R":

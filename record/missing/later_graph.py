@@ -15,9 +15,9 @@ from record.make.asked import MAGIC
 from record.make.considered import is_deep
 from record.make.database import Base
 from record.make.graph import MakeBuild
-from record.make.macros import Macros
+from record.make.texts import Texts
 from record.make.memory import filled
-from record.make.references import SECOND, evals, matching, named, read_again, with_functions
+from record.make.references import SECOND, matching, named, read_again, set_by_evals, with_functions
 from record.make.searches import filled as placed
 from record.make.searches import DEPTH, Searches
 from record.missing.later_base import phony_of
@@ -33,7 +33,7 @@ OWN = {"MAKEFLAGS", "MFLAGS", "MAKEFILE_LIST", "MAKE_RESTARTS", "MAKEOVERRIDES",
        ".SHELLSTATUS", "-*-eval-flags-*-", "-*-command-variables-*-", "CURDIR", "MAKELEVEL", "SHELL"}
 
 
-def texts_of(name: str, known: Macros) -> List[str]:
+def texts_of(name: str, known: Texts) -> List[str]:
     """The recipe of a target, and all that the macros which it leads to may be."""
     text = "\n".join(known.base.recipes.get(name, ())).replace("$$", "  ")
     return [text, *(known.text_of(one).replace("$$", "  ") for one in sorted(known.reached(text)))]
@@ -64,7 +64,7 @@ class Anew:
 
     def __init__(self, build: MakeBuild, later: Base, names: Names) -> None:
         self.build, self.first, self.later, self.names = build, build.graph.base, later, names
-        self.known = Macros(build.make, self.first)
+        self.known = Texts(build.make, self.first)
         self.phony = phony_of(self.first, later)
         self.vpath = build.graph.round.vpath
         self.searches = Searches(self.first)
@@ -84,8 +84,8 @@ class Anew:
         """Macros of the makefiles that have another value in a later build, where no recipe changes them."""
         then, now = self.first.values, self.later.values
         recipes = ["\n".join(lines) for lines in self.first.recipes.values()]
-        reached = {name for text in recipes for name in self.known.reached(text)} if self.known.is_used else set()
-        own = {one.name for text in [*recipes, *map(self.known.text_of, reached)] for one in evals(text)}
+        reached = {name for text in recipes for name in self.known.reached(text)}
+        own = {name for text in [*recipes, *map(self.known.text_of, reached)] for name in set_by_evals(text)}
         found = {name for name in {*then, *now} if then.get(name) != now.get(name)}
         found |= {name for name in {*self.first.bodies, *self.later.bodies} if self.first.bodies.get(name) != self.later.bodies.get(name)}  # guard: macros-of-target-and-of-lines
         return found - OWN - own
@@ -96,7 +96,7 @@ class Anew:
         if node.name in self.later.recipes and self.later.recipes[node.name] != lines:  # guard: another-recipe
             yield "the recipe of %s is another one" % node.name
         asked = self.asked("\n".join(lines)) if changed else set()
-        other = sorted(name for name in changed if name in asked or self.known.is_named_in_export(name))  # guard: other-macros
+        other = sorted(name for name in changed if name in asked or self.known.is_exported(name))  # guard: other-macros
         for name in other[:1]:
             yield "the macro %s is another one in the recipe of %s" % (name, node.name)
 
@@ -111,7 +111,7 @@ class Anew:
         for part in texts:
             for one in named_in(part):
                 for name in (matching({*values, *self.later.values, *self.first.bodies, *self.later.bodies}, one) if "*" in one else [one]):
-                    texts += [values.get(name, ""), *self.first.bodies.get(name, ())] if name not in found else []  # guard: values-that-were-worked-out
+                    texts += [values.get(name, ""), *self.first.bodies.get(name, ())] if name not in found else []
                     found.add(name)
         return found, texts
 

@@ -92,7 +92,7 @@ class Turned:
         """What a process looks for, and finds otherwise than it is at the end. Python lists the folder of its script, to find modules."""
         ends = MODULES if base_name(life.argv).startswith("python") else ("",)
         for (kind, path), place in events.items():
-            if kind in "NSR" and path in self.changes and self.differs(kind, path):
+            if kind in "NSRl" and path in self.changes and self.differs(kind, path):
                 self.compare(life, mine, path, place)
             elif kind == "L":  # guard: what-later-recipes-list
                 folder, _, pattern = path.partition("\0")

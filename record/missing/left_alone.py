@@ -10,7 +10,7 @@ from typing import Dict, Optional
 from record.build.tasks import Task
 from record.build.work import Work
 from record.make.database import Base
-from record.make.macros import Macros
+from record.make.texts import Texts
 
 COMPARES = re.compile(r"\bcmp\b|\bdiff\b.*(\|\||&&)|if[-_]change|if[-_]different|\b(cp|mv)\b.* (-[a-zA-Z]*u|--update)|\binstall\b.* (-[a-zA-Z]*C|--compare)"
                       r"|\brsync\b", re.S)
@@ -57,13 +57,13 @@ def looks_first(task: Task) -> bool:
     return False
 
 
-def asks_what_is_newer(name: str, known: Macros) -> bool:
+def asks_what_is_newer(name: str, known: Texts) -> bool:
     """Whether a recipe is expanded by which prerequisites are newer: it does nothing where none of them is."""
     text = "\n".join(known.base.recipes.get(name, ()))
     return any(NEWER.search(one.replace("$$", "  ")) for one in (text, *map(known.text_of, known.reached(text))))  # guard: canned-recipes
 
 
-def expands_by_files(task: Task, known: Macros, acts: Optional[Work]) -> bool:
+def expands_by_files(task: Task, known: Texts, acts: Optional[Work]) -> bool:
     """Whether make looks at files when it expands a recipe, which may be empty then: by functions, or by a process that it calls
     and that looks at what the recipe writes."""
     text = "\n".join(known.base.recipes.get(task.node.name, ()))

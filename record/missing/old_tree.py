@@ -11,7 +11,7 @@ from record.build.tasks import Node, Task, order_tasks
 from record.build.text import labels_of, lines_of, relative
 from record.make.database import Base
 from record.make.graph import MakeBuild
-from record.make.macros import Macros
+from record.make.texts import Texts
 from record.missing.footprints import Footprints
 from record.missing.later_base import needs_of, phony_of
 from record.missing.left_alone import asks_what_is_newer, expands_by_files, keeps
@@ -30,7 +30,7 @@ class OldTree:
         self.first = build.graph.base
         self.phony = phony_of(self.first, later)
         self.foot = Footprints(build, names, out, turned)
-        self.known = Macros(build.make, self.first)
+        self.known = Texts(build.make, self.first)
         self.tasks = [Task(t.label, t.node, t.kind, set(t.after), r, w) for t, r, w in zip(build.tasks, self.foot.reads, self.foot.writes)]
         self.labels = labels_of(build.tasks)
         self.writers = self.names_of_writers()

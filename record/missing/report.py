@@ -176,7 +176,7 @@ def missing_text(question: Question, colour: Colours) -> List[str]:
     looked = plural(question.record["missing"]["judged"], "recipe") + " looked at"
     if holes:
         lines += [colour.bad + "NO VERDICT" + colour.end + "  on missing inputs:", *listed(holes, question.folder)]
-        lines += [] if question.record["holes"] else [after_no_verdict()]  # there it stands already
+        lines += [] if question.record["holes"] else [after_no_verdict("No verdict on missing inputs", "MISSING.md")]  # there it stands already
     if found:
         targets = len({(judged.number, one.reader) for judged, one in found})
         lines.append("%s of %s. %s" % (plural(len(found), "missing input"), plural(targets, "target"), looked))

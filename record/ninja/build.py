@@ -12,7 +12,6 @@ from record.make.elsewhere import add_elsewhere, find_askers
 from record.make.folders import add_folders, apart, parents
 from record.make.inner import add_inner
 from record.make.locks import pass_locks
-from record.make.unfiled import count_listings
 from record.ninja.fix import owner_of
 from record.ninja.manifest import Edge
 from record.ninja.runs import NEVER, Job, Ninja, Stage
@@ -240,7 +239,6 @@ class NinjaBuilder(Builder):
             self.add_events(at, self.events(task), created)
         add_inner(self, created)  # guard: names-that-are-searched
         find_askers(self, created)
-        count_listings(self, created)
         self.add_logs()  # guard: its-log
         add_folders(self)
         self.add_files_of_dyndep()  # guard: outputs-that-dyndep-file-adds
@@ -250,9 +248,10 @@ class NinjaBuilder(Builder):
                 inner_ages(self, at, work)
                 ages_by_words(self, at, work)
                 ages_in_archives(self, at, work)
-        add_elsewhere(self, created)
+        add_elsewhere(self)
         pass_locks(self)  # guard: ninja
         drop_lonely(self.build.tasks, set())
+        self.note_own()
         self.note_late()
 
     def add_logs(self) -> None:
@@ -266,7 +265,7 @@ class NinjaBuilder(Builder):
             if is_new and folder in self.timed:  # guard: its-log-and-age-of-folder
                 self.timers.setdefault(folder, set()).update(makers)
             for at in sorted(ran):
-                if any(kind in "RSN" and found == path for work in tasks[at].works for kind, found in work.events):
+                if any(kind in "RSNl" and found == path for work in tasks[at].works for kind, found in work.events):
                     apart(self, path + "/@output", "which commands stand in the log of ninja", at, ran - {at})
                 elif is_new and self.lists(at, path) and not any(self.build.is_before(maker, at) for maker in makers):  # guard: its-log-among-names
                     apart(self, path + "/@output", "that the log of ninja is there", at, makers - {at})

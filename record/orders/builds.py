@@ -1,27 +1,43 @@
-"""Builds of a project in copies, side by side: each copy lies in the place of the project, with a /tmp and a home of its own, and has a gate."""
+"""Builds of a project in copies, side by side: each copy lies in the place of the project, and has a gate.
+
+Each has a layer of its own over /tmp, the home folder, and each folder of `/` below which nothing is mounted: what a build writes there no other one sees.
+It has ports and keys of its own, and reaches no other machine; where a serial build fails so, all have those of this machine.
+
+The second serial build and the flipped one begin beside the recorded build, which they cannot disturb. What that writes outside of the project they may see, as it
+lies below their layers. So they count only where its record says that it changed no name there that others know, and looked at no processes (`SHARED`); and
+the flipped one only where it left the same. Else they are made anew when the recorded build has ended.
+"""
 
 from __future__ import annotations
 
+import fcntl
 import os
 import pickle
 import re
 import signal
+import socket
+import struct
 import subprocess
 import time
-from collections.abc import Callable, Mapping, Sequence
+from collections.abc import Callable, Iterator, Mapping, Sequence
+from contextlib import contextmanager
 from dataclasses import dataclass, field
 from pathlib import Path
-from typing import Optional
+from typing import ContextManager, Optional
 
-from record.entry import forget_coerced
+from record.entry import forget_coerced, in_one_step
 from record.ninja.retry import with_jobs
 from record.orders.gate import Gate, Key
-from record.orders.processes import end
+from record.orders.processes import children_of, end
 from record.orders.trees import copy, held_by, remove
+from record.trace.names import mounts_below
 from record.watch.lay import BIND, LIBC, NAMES, Watch, leave, makes_of, mount
 
 MANY = 100  # jobs: so many recipes wait at the gate at once
-WITH_PARENT = 1  # for prctl: which signal comes when the parent ends
+ENDING = 2.0  # seconds that the output of a build has to come, when that has ended
+WITH_PARENT, TAKES_LEFT = 1, 36  # for prctl: which signal comes when the parent ends; who outlives its parent becomes a child of this process
+SET_FLAGS, IS_UP = 0x8914, 1  # of a device of the network
+OWN_NET, OWN_KEYS = 0x40000000, 0x8000000  # for unshare: ports; memory and queues that have keys
 SHOWN_LINES = re.compile(r"(?i)\b(error|fatal|cannot|no such|not found|failed|no rule)\b|\*\*\*")
 SHOWN = 3  # so many of them
 
@@ -32,13 +48,19 @@ class CannotTry(Exception):
 
 @dataclass
 class Plan:
-    """A build to be made: which recipe begins of those that wait, with how many jobs, and whether it is recorded."""
+    """A build to be made: which recipe begins of those that wait, with how many jobs, and whether it is recorded. `is_flipped`: where `places` does not say,
+    the last that came to wait, and not the first."""
 
     name: str
     places: Mapping[Key, float]
     jobs: int = MANY
     after: Mapping[Key, set[Key]] = field(default_factory=dict)
     is_recorded: bool = False
+    is_flipped: bool = False
+
+
+SERIAL, FLIPPED = "serial", "flipped"
+BESIDE = (Plan(SERIAL, {}, 1), Plan(FLIPPED, {}, is_recorded=True, is_flipped=True))
 
 
 @dataclass
@@ -69,7 +91,14 @@ class Room:
     setup: Sequence[str]
     words: Sequence[str]
     record: Callable[[Path, int], int]
-    limit: float = 60.0  # seconds in which something begins or ends
+    has_net: bool = False  # builds have the ports of this machine, and reach others
+
+    def limit(self) -> float:
+        """Seconds in which something begins or ends in a build: no end is known while the recorded one runs."""
+        try:
+            return float((self.top / "limit").read_text())
+        except (OSError, ValueError):
+            return float("inf")
 
     def fresh(self, number: int) -> Path:
         """A copy of a folder of the project, as it was before the build."""
@@ -88,7 +117,8 @@ class Room:
 
     def forget(self, plan: Plan) -> None:
         """Takes away what a build left, except its record."""
-        if plan.is_recorded:
+        if (self.place(plan) / "record" / "record.json").exists():
+            remove(self.top / "record")
             (self.place(plan) / "record").rename(self.top / "record")
         remove(self.place(plan))
 
@@ -101,21 +131,39 @@ class Room:
         if not leave():
             raise OSError("the system gives no mounts")
         laid = [(os.open(tree, os.O_PATH), top) for tree, top in zip(self.trees(plan), self.tops)] + [(os.open(self.top, os.O_PATH), str(self.top))]
-        for number, path in enumerate(self.private()):
-            upper, work = (self.place(plan) / ("own-%d-%s" % (number, name)) for name in ("upper", "work"))
-            upper.mkdir()
-            work.mkdir()
-            mount("overlay", path, 0, "overlay", "lowerdir=%s,upperdir=%s,workdir=%s" % (path, upper, work))
+        self.lay_own(self.place(plan))
+        if not self.has_net:  # guard: ports-of-their-own
+            have_own_ports()
         if not all(mount("/proc/self/fd/%d" % file, path, BIND) for file, path in laid):
             raise OSError("a copy cannot be laid over the project")
         for file, _ in laid:
             os.close(file)
         os.chdir(self.folder)
 
+    def lay_own(self, place: Path) -> bool:
+        """Lays a layer over each folder of which a build has its own; whether the system let it."""
+        is_done = True
+        for number, path in enumerate(self.private()):
+            upper, work = (place / ("own-%d-%s" % (number, name)) for name in ("upper", "work"))
+            upper.mkdir()
+            work.mkdir()
+            is_done &= mount("overlay", path, 0, "overlay", "lowerdir=%s,upperdir=%s,workdir=%s" % (path, upper, work))
+        return is_done
+
+    def is_apart(self) -> bool:
+        """Whether builds in copies do not disturb what runs meanwhile: in their own folders, by ports and by keys."""
+        place = self.top / "apart"
+        place.mkdir()
+        self.has_net = not is_child_able(lambda: leave() and self.lay_own(place) and have_own_ports())
+        return not self.has_net
+
     def private(self) -> list[str]:
         """The folders outside of the project of which each build has its own."""
         found = [os.path.realpath(path) for path in ("/tmp", os.path.expanduser("~"))]
-        return [path for path in found if path != "/" and os.path.isdir(path) and not any((path + "/").startswith(top.rstrip("/") + "/") for top in self.tops)]
+        with os.scandir("/") as names:
+            found += [one.path for one in names if one.is_dir(follow_symlinks=False) and not mounts_below(one.path)]  # guard: folders-of-their-own
+        found = [path for path in dict.fromkeys(found) if path != "/" and os.path.isdir(path) and not any((path + "/").startswith(top.rstrip("/") + "/") for top in self.tops)]
+        return [path for path in found if not any(path.startswith(other + "/") for other in found)]
 
     @property
     def folder(self) -> str:
@@ -127,11 +175,13 @@ class Room:
         place = self.place(plan)
         for number, tree in enumerate(self.trees(plan)):
             copy(self.fresh(number), tree)
-        gate, began = Gate(place, plan.places, plan.after), time.monotonic()
-        with gate.listen() as listener, open(place / "output", "wb") as output:
-            pid = os.fork()
-            if pid == 0:
-                self.become(plan, output.fileno())
+        gate, began = Gate(place, plan.places, plan.after, plan.is_flipped), time.monotonic()
+        with gate.listen() as listener, output_to(place / "output") as output:
+            before = {*children_of(os.getpid())}
+            with in_one_step() as heard:
+                pid = os.fork()
+                if pid == 0:
+                    self.become(plan, output, heard)
             ended: list[int] = []
 
             def has_ended() -> bool:
@@ -142,27 +192,32 @@ class Room:
             try:
                 found = gate.serve(pid, listener, has_ended, self.limit)
             finally:
-                end(pid)
+                for one in {*children_of(os.getpid())} - before:  # and what outlived its parent
+                    end(one)
         try:
             status = int((place / "status").read_text()) if found else None
         except (OSError, ValueError):
             status = 1
         return Built(plan, status, time.monotonic() - began, gate.began, (place / "output").read_text(errors="replace"), [held_by(tree) for tree in self.trees(plan)])
 
-    def become(self, plan: Plan, output: int) -> None:
+    def become(self, plan: Plan, output: int, heard: Callable[[], ContextManager[object]]) -> None:
         """Builds in a process of its own, and ends it."""
-        status = 1
         try:
-            os.setsid()
-            for stream, file in ((0, os.open(os.devnull, os.O_RDONLY)), (1, output), (2, output)):
-                os.dup2(file, stream)
-            self.enter(plan)
-            status = self.record(self.place(plan), plan.jobs) if plan.is_recorded else self.build(plan)
-            (self.place(plan) / "status").write_text(str(status))
+            with heard():
+                self.build_in_place(plan, output)
         except BaseException as fault:
             os.write(2, ("race-record: %s\n" % fault).encode(errors="replace"))
         finally:
             os._exit(0)
+
+    def build_in_place(self, plan: Plan, output: int) -> None:
+        """Builds in this process, and writes the status."""
+        os.setsid()
+        for stream, file in ((0, os.open(os.devnull, os.O_RDONLY)), (1, output), (2, output)):
+            os.dup2(file, stream)
+        self.enter(plan)
+        status = self.record(self.place(plan), plan.jobs) if plan.is_recorded else self.build(plan)
+        (self.place(plan) / "status").write_text(str(status))
 
     def build(self, plan: Plan) -> int:
         """A build that is not recorded."""
@@ -174,48 +229,114 @@ class Room:
         return subprocess.run([*self.setup, *words], env=watch.environment(env), preexec_fn=watch.lay, check=False).returncode
 
 
+@contextmanager
+def output_to(file: Path) -> Iterator[int]:
+    """A pipe that leads into a file: a recipe cannot empty it, as it could a file (`> /dev/stdout`)."""
+    read, write = os.pipe()
+    with open(file, "wb") as kept, subprocess.Popen(["cat"], stdin=read, stdout=kept) as cat:
+        os.close(read)
+        try:
+            yield write
+        finally:
+            os.close(write)
+            try:
+                cat.wait(ENDING)
+            except subprocess.TimeoutExpired:  # a process that outlives the build has it
+                cat.kill()
+
+
 def with_many(words: Sequence[str], env: Mapping[str, str], jobs: int) -> tuple[list[str], dict[str, str]]:
-    """A command and its environment, so that all makes and ninjas in it have so many jobs; with one job makes stay as they are."""
+    """A command and its environment, so that all makes and ninjas in it have so many jobs, except makes that a ninja runs (watch/hold.c); with one job makes
+    stay as they are."""
     words = with_jobs([*words], jobs)
     if jobs == 1:
         return words, dict(env)
     if os.path.basename(words[0]) in NAMES:
         return [*words, "-j%d" % jobs], dict(env)
-    return words, {**env, "MAKEFLAGS": env.get("MAKEFLAGS") or "-j%d" % jobs, "CMAKE_BUILD_PARALLEL_LEVEL": str(jobs)}
+    return words, {**env, "MAKEFLAGS": env.get("MAKEFLAGS") or " -j%d" % jobs, "CMAKE_BUILD_PARALLEL_LEVEL": str(jobs)}
+
+
+@dataclass
+class Running:
+    """Builds that run at once, each in a process of its own. At the end of the `with` those are ended for which nobody has waited."""
+
+    room: Room
+    children: dict[str, int] = field(default_factory=dict)  # by plan: its process
+
+    def __enter__(self) -> Running:
+        return self
+
+    def __exit__(self, *_: object) -> None:
+        self.end()
+
+    def begin(self, *plans: Plan) -> None:
+        """Begins builds."""
+        for plan in plans:
+            self.room.place(plan).mkdir()
+            with in_one_step() as heard:
+                pid = self.children[plan.name] = os.fork()
+                if pid == 0:
+                    work(self.room, plan, heard)
+
+    def result(self, name: str) -> Built:
+        """Waits for a build."""
+        os.waitpid(self.children[name], 0)
+        del self.children[name]
+        found = pickle.loads((self.room.top / name / "built").read_bytes())
+        if isinstance(found, Built):
+            return found
+        raise CannotTry(found)
+
+    def end(self, *names: str) -> None:
+        """Ends builds, or all for which nobody has waited, and takes away what they left."""
+        with in_one_step():
+            left = {name: self.children.pop(name) for name in names or [*self.children]}
+            for pid in left.values():
+                os.kill(pid, signal.SIGTERM)
+            for name, pid in left.items():
+                os.waitpid(pid, 0)
+                remove(self.room.top / name)
 
 
 def side_by_side(room: Room, plans: Sequence[Plan]) -> list[Built]:
-    """Some builds at once, each in a process of its own."""
-    children = {}
-    try:
-        for plan in plans:
-            room.place(plan).mkdir()
-            pid = os.fork()
-            if pid == 0:
-                work(room, plan)
-            children[pid] = plan
-        for pid in [*children]:
-            os.waitpid(pid, 0)
-            del children[pid]
-    finally:
-        for pid in children:
-            os.kill(pid, signal.SIGTERM)
-            os.waitpid(pid, 0)
-    found = [pickle.loads((room.place(plan) / "built").read_bytes()) for plan in plans]
-    for one in found:
-        if isinstance(one, str):
-            raise CannotTry(one)
-    return found
+    """Some builds at once."""
+    with Running(room) as running:
+        running.begin(*plans)
+        return [running.result(plan.name) for plan in plans]
 
 
-def work(room: Room, plan: Plan) -> None:
-    """Makes a build, writes what it came to, and ends this process."""
+def work(room: Room, plan: Plan, heard: Callable[[], ContextManager[object]]) -> None:
+    """Makes a build, writes what it came to, and ends this process. An interrupt is for the recorded build, which may go on all the same."""
     found: object = "no end of a build"
-    LIBC.prctl(WITH_PARENT, signal.SIGTERM)
     try:
-        found = room.run(plan)
+        if signal.getsignal(signal.SIGINT) is not signal.SIG_IGN:
+            signal.signal(signal.SIGINT, lambda *_: None)
+        LIBC.prctl(WITH_PARENT, signal.SIGTERM)
+        LIBC.prctl(TAKES_LEFT, 1)
+        with heard():
+            found = room.run(plan)
     except BaseException as fault:
         found = "%s: %s" % (type(fault).__name__, fault)
     finally:
         (room.place(plan) / "built").write_bytes(pickle.dumps(found))
         os._exit(0)
+
+
+def have_own_ports() -> bool:
+    """Gives this process ports and keys of its own, where nobody else is; whether the system let it."""
+    if LIBC.unshare(OWN_NET | OWN_KEYS):
+        return False
+    with socket.socket(socket.AF_INET, socket.SOCK_DGRAM) as one:
+        fcntl.ioctl(one, SET_FLAGS, struct.pack("16sH14x", b"lo", IS_UP))
+    return True
+
+
+def is_child_able(try_out: Callable[[], bool]) -> bool:
+    """Whether a child of this process can do something."""
+    child = os.fork()
+    if child == 0:
+        try:
+            os._exit(0 if try_out() else 1)
+        except OSError:
+            os._exit(1)
+    return os.waitpid(child, 0)[1] == 0

@@ -1,4 +1,4 @@
-"""What `--orders` does: the project is copied before it is recorded, and built again in other orders when it was."""
+"""Builds in other orders: the project is copied before it is recorded, and built again in copies when it was."""
 
 from __future__ import annotations
 
@@ -12,28 +12,18 @@ from pathlib import Path
 from typing import Any
 
 from record.folder import Record, replace, runs_programs
-from record.orders.builds import CannotTry, Room
+from record.orders.builds import BESIDE, CannotTry, Room, Running, is_child_able
 from record.orders.graph import Graph
 from record.orders.softness import conflicts, is_soft
-from record.orders.trees import CannotCopy, held_by, remove
+from record.orders.trees import held_by, remove
 from record.orders.trial import Trial
 from record.watch.lay import leave
 
 TMPFS = "/dev/shm"
 COPIES, GROWTH = 6, 4  # so many copies are there at once, and a build may make so many times of what it begins with
 QUIET, TIMES = 20.0, 2.0  # a build hangs where nothing begins or ends for so many seconds, and so many times as long as the recorded one took
+SHARED = {"outside", "processes"}  # of what is taken for granted: by these a build may see what another one does beside it
 MOST = 40  # builds, where nobody says how many
-
-
-def can_leave() -> bool:
-    """Whether the system gives a process mounts of its own."""
-    child = os.fork()
-    if child == 0:
-        try:
-            os._exit(0 if leave() else 1)
-        except OSError:
-            os._exit(1)
-    return os.waitpid(child, 0)[1] == 0
 
 
 def size_of(tops: Sequence[str]) -> int:
@@ -42,39 +32,63 @@ def size_of(tops: Sequence[str]) -> int:
 
 
 def has_memory(size: int) -> bool:
-    """Whether a tmpfs may hold so much: half of the memory that is free."""
+    """Whether the tmpfs may hold so much: half of the memory that is free, and of its own room, which a container may have little of."""
     try:
-        words = next(line for line in open("/proc/meminfo", encoding="ascii") if line.startswith("MemAvailable")).split()
+        words, room = next(line for line in Path("/proc/meminfo").read_text(encoding="ascii").splitlines() if line.startswith("MemAvailable")).split(), os.statvfs(TMPFS)
     except (OSError, StopIteration):
         return False
-    return size < int(words[1]) * 512 and runs_programs(TMPFS)
+    return size < min(int(words[1]) * 512, room.f_bavail * room.f_frsize // 2) and runs_programs(TMPFS)  # guard: room-of-the-tmpfs
 
 
 @contextmanager
 def new_room(tops: Sequence[str], setup: Sequence[str], words: Sequence[str], out: str, rooms: str, record: Callable[[Path, int], int]) -> Iterator[Room]:
     """The folder of the copies, with the project as it is before it is recorded."""
-    if not can_leave():
-        raise CannotTry("the system gives no mounts of its own, by which a copy lies in the place of the project: run it as root, or leave --orders out")
+    for top in tops:
+        if not os.path.isdir(top):
+            raise CannotTry("%s is not there before the build" % top)
+    if not is_child_able(leave):
+        raise CannotTry("the system gives no mounts of its own, by which a copy lies in the place of the project: run it as root")
     place = TMPFS if has_memory(COPIES * GROWTH * size_of(tops)) else rooms
     room = Room(Path(tempfile.mkdtemp(prefix="race-orders-", dir=place)), tops, setup, words, record)
+    room.top.chmod(0o711)  # makes of other users find the library  # guard: makes-of-other-users
     try:
         room.take(out)
         yield room
-    except CannotCopy as fault:
-        raise CannotTry(str(fault)) from fault
     finally:
         remove(room.top)
 
 
-def explore(room: Room, record: Record, out: Path, race: str, most: int) -> dict[str, Any]:
+@contextmanager
+def beside(room: Room, expected: float, made: int) -> Iterator[Running]:
+    """Builds that begin before the recorded one, where they cannot disturb it. `expected`, `made`: seconds and builds of the former record, if there is one."""
+    with Running(room) as running:
+        if room.is_apart():
+            last = "the last time it took %s, and %d builds in copies" % (clock(expected), made) if made else "others may follow"
+            print("race-record: two builds in copies run meanwhile; " + last, file=sys.stderr, flush=True)
+            running.begin(*BESIDE)
+        yield running
+
+
+def clock(seconds: float) -> str:
+    """How long a build takes."""
+    return "about %.0f seconds" % seconds if seconds > 1 else "a second or less"
+
+
+def explore(room: Room, record: Record, out: Path, race: str, most: int, running: Running) -> dict[str, Any]:
     """Builds in other orders; what the record keeps of them."""
+    (room.top / "limit").write_text(str(QUIET + TIMES * record.seconds))
+    if not SHARED.isdisjoint(one["kind"] for one in record.assumptions):  # guard: what-builds-beside-could-see
+        running.end()
     graph = Graph(out)
     soft, after = conflicts(graph, race, room.top)
-    room.limit = QUIET + TIMES * record.seconds
-    trial = Trial(room, graph, [held_by(Path(top), str(out)) for top in room.tops], soft, after, most or MOST)
-    print("race-record: %d builds in copies, of about %.0f seconds each; one more for each step where something differs" % (trial.expected(), record.seconds), file=sys.stderr, flush=True)
-    trial.run()
-    join(graph, Graph(room.top / "record"))
+    trial = Trial(room, graph, [held_by(Path(top), str(out)) for top in room.tops], soft, after, most, {*record.markers})
+    count = trial.expected() - (0 if not running.children else 1 if after else 2)
+    if count:
+        many, each = ("s", " each") if count > 1 else ("", "")
+        print("race-record: %d build%s in copies, of %s%s; one more for each step where something differs" % (count, many, clock(record.seconds), each), file=sys.stderr, flush=True)
+    trial.run(running)
+    if (room.top / "record").exists():  # else that build was stopped, as all of it waited
+        join(graph, Graph(room.top / "record"))
     trial.soft, _ = conflicts(Graph(out), race, room.top)
     trial.cleared = [pair for pair in trial.cleared if pair in trial.soft]
     trial.pairs = [pair for pair in trial.pairs if pair in trial.soft]

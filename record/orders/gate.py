@@ -18,12 +18,13 @@ from dataclasses import dataclass, field
 from pathlib import Path
 from typing import Optional
 
-from record.orders.processes import folder_of, is_quiet, parent_of, pulse, words_of
+from record.build.text import shown
+from record.orders.processes import born, folder_of, is_quiet, parent_of, pulse, words_of
 
 Key = tuple[tuple[str, str, int], ...]  # a recipe: from the outermost make or ninja on its folder, the target, and which of those of that name it is
 OF_CHILD = re.compile(rb"(?:Putting|Live) child \S+ \((.*)\) PID (\d+)|Removing child \S+ (?:\(.*\) )?PID (\d+)")
 CREDENTIALS = struct.Struct("3i")  # of who has connected: process, user, group
-LEAST, MOST = 0.001, 0.016  # seconds from one look at the processes to the next
+LEAST, MOST = 0.001, 0.032  # seconds from one look at the processes to the next
 PATIENCE = 0.3  # seconds without a sign of life, behind which another recipe may begin: a process waits for what no process of the build will do
 LAST = float("inf")
 
@@ -47,11 +48,12 @@ def held_command(pid: int) -> str:
 @dataclass
 class Gate:
     """What waits, and what has begun. `places`: of each recipe its place in the order; of those that wait the one with the greatest begins. `after`: those
-    that one waits for besides."""
+    that one waits for besides. `is_flipped`: of those without a place, or of one place, the last that came begins, and else the first."""
 
     top: Path  # the folder of the build: `gate` in it is the socket
     places: Mapping[Key, float]
     after: Mapping[Key, set[Key]] = field(default_factory=dict)
+    is_flipped: bool = False
     waiting: dict[int, socket.socket] = field(default_factory=dict)
     began: list[Key] = field(default_factory=list)
     owners: dict[int, Key] = field(default_factory=dict)  # by first process of a recipe
@@ -88,7 +90,7 @@ class Gate:
                 if found[3]:
                     self.ended.add((int(path.name.partition(".")[0]), self.targets.get(int(found[3]), "")))
                 else:
-                    self.targets[int(found[2])] = os.fsdecode(found[1])
+                    self.targets[int(found[2])] = shown(os.fsdecode(found[1]))  # guard: names-as-a-record-has-them
 
     def outer(self, make: int) -> Key:
         """The recipe inside which a make or ninja runs: the process of it may be that of a further line."""
@@ -105,7 +107,7 @@ class Gate:
         """Of a process that waits: its make or ninja, the target or the sum, and its recipe, as the next of that name."""
         make = parent_of(pid)
         name = self.targets.get(pid) or held_command(pid)
-        above, folder = self.outer(make), folder_of(make)
+        above, folder = self.outer(make), shown(folder_of(make))
         return make, name, (*above, (folder, name, self.counts.get((*above, (folder, name, 0)), 0) + 1))
 
     def is_over(self, key: Key) -> bool:
@@ -122,7 +124,7 @@ class Gate:
         rows = {pid: self.bare(pid) for pid in self.waiting}
         further = [pid for pid, (make, name, _) in rows.items() if (make, name) in self.open]
         free = [pid for pid, (_, _, key) in rows.items() if all(map(self.is_over, self.after.get(key, ())))]  # guard: fixes-hold
-        pid = max(further or free or rows, key=lambda one: (self.places.get(rows[one][2], LAST), rows[one][2]))
+        pid = max(further or free or rows, key=lambda one: (self.places.get(rows[one][2], LAST), *(at if self.is_flipped else -at for at in born(one))))  # guard: last-that-came
         make, name, key = rows[pid]
         if (make, name) not in self.open:
             self.began.append(key)
@@ -140,7 +142,7 @@ class Gate:
             self.still = (found, now)
         return found is not None and now - self.still[1] > PATIENCE
 
-    def serve(self, root: int, listener: socket.socket, has_ended: Callable[[], bool], limit: float) -> bool:
+    def serve(self, root: int, listener: socket.socket, has_ended: Callable[[], bool], limit: Callable[[], float]) -> bool:
         """Answers until the build has ended; false where nothing began or ended in it for so many seconds."""
         self.since, pause = time.monotonic(), LEAST
         with selectors.DefaultSelector() as choose:
@@ -157,8 +159,8 @@ class Gate:
                 if began is not None:
                     choose.register(began, selectors.EVENT_READ)
                 if found or began is not None:
-                    self.since, pause = time.monotonic(), LEAST
-                elif time.monotonic() - self.since > limit:
+                    self.since, pause = time.monotonic(), LEAST if found else MOST  # the end of what begins is heard
+                elif pause == MOST and time.monotonic() - self.since > limit():
                     return False
                 else:
                     pause = min(2 * pause, MOST)

@@ -6,6 +6,7 @@ import json
 import os
 from collections.abc import Iterator, Mapping, Sequence
 from dataclasses import dataclass, field
+from functools import cached_property
 from pathlib import Path
 from typing import Any, Optional
 
@@ -105,6 +106,26 @@ class Graph:
         if found.get("kind") != "part":
             return self.at[number, label]
         return next((self.at[number, other] for other, one in labels.items() if one["kind"] == "recipe" and one["target"] == found["target"]), self.at[number, label])
+
+    def left_by(self, number: str, label: str) -> set[str]:
+        """What a task of a build writes, as far as that is kept: all of it, where the task has a part in a soft conflict."""
+        build = self.builds[number]
+        own: Sequence[str] = self.row_of.get((number, label), {"writes": ()})["writes"]
+        return {os.path.normpath(os.path.join(build["folder"], path)) for path in (*own, *build["labels"].get(label, {}).get("leaves", ()))}
+
+    @cached_property
+    def row_of(self) -> dict[tuple[str, str], dict[str, Any]]:
+        """The line of each task, by its build and label."""
+        return {(number, row["task"]): row for number, rows in self.rows.items() for row in rows}
+
+    @cached_property
+    def askers(self) -> dict[tuple[str, str], set[str]]:
+        """By build and task that settles which of two names is newer: who asks for that. An empty label stands for who is no task of the build."""
+        found: dict[tuple[str, str], set[str]] = {}
+        for (number, label), row in self.row_of.items():
+            asked = self.builds[number]["askers"]
+            found[number, label] = {asked[path] for path in row["writes"] if path in asked}
+        return found
 
     def pairs(self) -> int:
         """How many pairs of recipes nothing orders."""

@@ -4,9 +4,11 @@ from __future__ import annotations
 
 import os
 import signal
+import time
 from collections.abc import Container, Iterator
 from pathlib import Path
 
+PATIENCE = 10.0  # seconds that killed processes have to end
 SLEEPS = ("nanosleep", "hrtimer_nanosleep", "do_nanosleep")  # a process that waits for a time to pass, and not for another one
 
 
@@ -21,6 +23,11 @@ def words_of(pid: int) -> list[str]:
 def parent_of(pid: int) -> int:
     """Who started a process; 0 where it has ended."""
     return int(words_of(pid)[1])
+
+
+def born(pid: int) -> tuple[int, int]:
+    """When a process began, in hundredths of a second, and its number: who is started later has the greater ones."""
+    return int((words_of(pid)[19:20] or ["0"])[0]), pid
 
 
 def folder_of(pid: int) -> str:
@@ -89,10 +96,16 @@ def pulse(root: int) -> list[tuple[int, str]] | None:
 
 
 def end(root: int) -> None:
-    """Ends a process, those below it, and those of its session."""
-    session = [int(name) for name in os.listdir("/proc") if name.isdigit() and words_of(int(name))[3:4] == [str(root)]]
-    for pid in [*below(root), *session]:
-        try:
-            os.kill(pid, signal.SIGKILL)
-        except OSError:
-            pass
+    """Ends a process, those below it, and those of its session, and what these start meanwhile."""
+    until = time.monotonic() + PATIENCE
+    while time.monotonic() < until:
+        session = [int(name) for name in os.listdir("/proc") if name.isdigit() and words_of(int(name))[3:4] == [str(root)]]
+        left = [pid for pid in {*below(root), *session} if words_of(pid)[0] not in "ZX"]
+        for pid in left:
+            try:
+                os.kill(pid, signal.SIGKILL)
+            except OSError:
+                pass
+        if not left:
+            return
+        time.sleep(0.002)

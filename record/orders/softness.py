@@ -5,8 +5,9 @@ from __future__ import annotations
 import json
 from pathlib import Path
 
-from record.build.text import OWN_NAME
-from record.judge import Verdict, judge
+from record.build.text import OWN_NAME, file_of
+from record.judge import Verdict, judge, unshown
+from record.orders.builds import CannotTry
 from record.orders.gate import Key
 from record.orders.graph import Graph, Pair
 
@@ -30,20 +31,31 @@ def hard_verdict(graph: Graph, number: str, race: str, room: Path) -> Verdict:
     return judge(race, text, build["folder"])
 
 
+def is_early(graph: Graph, number: str, one: str, other: str) -> bool:
+    """Whether two tasks meet on what ninja itself does for the earlier one: it has done that when the command waits at the gate."""
+    first, second = sorted((one, other), key=lambda label: graph.at[number, label])
+    own = graph.builds[number]["labels"].get(first, {}).get("own", ())
+    rows = [graph.row_of[number, label] for label in (first, second)]
+    common = {*rows[0]["reads"], *rows[0]["writes"]} & {*rows[1]["reads"], *rows[1]["writes"]} if own else set()
+    return any(is_soft(path) and file_of(path) in own for path in common)
+
+
 def conflicts(graph: Graph, race: str, room: Path) -> tuple[dict[Pair, list[list[str]]], dict[Key, set[Key]]]:
     """The pairs of recipes, or of what make does by itself, with conflicts that are soft alone, each with the builds and labels of these; and what the fixes of
-    the others say: which recipe waits for which."""
+    the others say: which recipe waits for which. `CannotTry` where `race` does not judge a build."""
     pairs: dict[Pair, list[list[str]]] = {}
     after: dict[Key, set[Key]] = {}
     for number, build in graph.builds.items():
         full = judge(race, graph.record / "builds" / number / "tasks", build["folder"])
         hard = hard_verdict(graph, number, race, room) if full.races else full
+        if full.refused or hard.refused:
+            raise CannotTry("no verdict on build %s" % number)
         known = {(one.first, one.second) for one in hard.races}
         for one in full.races:
             first, second = sorted(graph.recipe_of(number, label) for label in (one.first, one.second))
-            if (one.first, one.second) not in known and first != second:
+            if (one.first, one.second) not in known and first != second and not is_early(graph, number, one.first, one.second):  # guard: what-tool-does-itself
                 pairs.setdefault((first, second), []).append([number, one.first, one.second])
-        for late, _, early in (line.partition(": ") for line in hard.fix):
+        for late, _, early in (unshown(line).partition(": ") for line in hard.fix):
             keys = [graph.tasks[graph.recipe_of(number, label)].key if (number, label) in graph.at else None for label in (late, early)]
             if keys[0] and keys[1]:
                 after.setdefault(keys[0], set()).add(keys[1])

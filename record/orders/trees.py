@@ -31,10 +31,14 @@ def copy(source: Path, to: Path) -> None:
 
 
 def remove(path: Path) -> None:
-    """A tree, with folders that nobody may write."""
+    """A tree, with folders that nobody may write or read."""
     def again(call: object, name: str, _: object) -> None:
         os.chmod(os.path.dirname(name), 0o700)
-        os.unlink(name) if os.path.islink(name) or not os.path.isdir(name) else shutil.rmtree(name)
+        if os.path.islink(name) or not os.path.isdir(name):
+            os.unlink(name)
+        else:
+            os.chmod(name, 0o700)
+            shutil.rmtree(name)
 
     if path.exists():
         shutil.rmtree(path, onerror=again)

@@ -5,19 +5,18 @@ from __future__ import annotations
 import os
 import re
 from collections.abc import Callable, Sequence
-from dataclasses import dataclass, field
+from dataclasses import dataclass, field, replace
 from pathlib import Path
 from typing import Any, Optional
 
-from record.orders.builds import MANY, Built, Plan, Room, side_by_side
+from record.orders.builds import FLIPPED, MANY, SERIAL, Built, CannotTry, Plan, Room, Running, side_by_side
 from record.orders.gate import Key
 from record.orders.graph import Graph, Pair, placed
 from record.orders.trees import difference, differing, passing, remove
 
-AT_ONCE = 3  # builds that run side by side while a difference is narrowed down
+AT_ONCE = 4  # builds that run side by side
 SHOWN = 5  # differences that are named
 FEW = 6  # so many conflicts are tried alone
-FLIPPED = "flipped"
 
 
 @dataclass
@@ -48,28 +47,40 @@ class Trial:
     soft: dict[Pair, list[list[str]]]  # soft conflicts
     after: dict[Key, set[Key]]  # which recipe waits for which besides: what ends the other conflicts
     most: int
+    markers: set[str]  # files that say that a folder is there: which of the recipes runs that make one depends on the order
     order: list[Key] = field(default_factory=list)  # recipes as they begin in a serial build
-    unstable: list[set[str]] = field(default_factory=list)
-    passing: list[list[re.Pattern[str]]] = field(default_factory=list)
     builds: int = 0
     others: int = 0  # builds in other orders that left the same
-    turned: list[int] = field(default_factory=list)
     cleared: list[Pair] = field(default_factory=list)
     shown: list[Shown] = field(default_factory=list)
     bases: set[int] = field(default_factory=set)  # with so many jobs the order of the serial build leaves the same
 
     def __post_init__(self) -> None:
         self.pairs = [*self.soft]  # those that no other order has tried yet
+        self.turned = [0] * len(self.graph.tasks)
+        self.unstable: list[set[str]] = [set() for _ in self.serial]  # names in which serial builds differ
+        self.passing: list[list[re.Pattern[str]]] = [[] for _ in self.serial]
 
     def expected(self) -> int:
         """How many builds it will take if nothing differs, and each runs as its order says."""
-        left, count, places = self.pairs, 2, self.graph.flipped()
-        while count < self.most:
-            rest = self.graph.left(left, sorted(places, key=lambda key: -places[key]))
-            if not rest or count > 2 and len(rest) == len(left):
+        orders = [self.graph.flipped()]
+        left, orders = self.unturned(orders, self.pairs), orders + self.each_alone()
+        while left and len(orders) < self.most:
+            orders.append(self.graph.covering(left))
+            left, known = self.unturned(orders, left), len(left)
+            if len(left) == known:
                 break
-            left, count, places = rest, count + 1, self.graph.covering(rest)
-        return count + (len(self.soft) if len(self.soft) <= FEW else 1)
+        return 1 + len(orders)
+
+    def unturned(self, orders: Sequence[dict[Key, float]], pairs: list[Pair]) -> list[Pair]:
+        """The pairs that some orders do not turn round, where each build runs as its order says."""
+        for places in orders:
+            pairs = self.graph.left(pairs, sorted(places, key=lambda key: -places[key]))
+        return pairs
+
+    def each_alone(self) -> list[dict[Key, float]]:
+        """What a look finds may depend on several: orders that turn round each soft conflict alone, and where there are many, one in which all users come first."""
+        return [self.graph.alone(pair) for pair in self.soft] if len(self.soft) <= FEW else list(filter(None, [self.graph.users_first()]))
 
     def make(self, *plans: Plan) -> list[tuple[Built, Optional[Ended]]]:
         """Some builds that count, side by side, and how they ended where that is otherwise than the serial one."""
@@ -83,21 +94,50 @@ class Trial:
             self.room.forget(plan)
         return found
 
-    def begin(self) -> tuple[Built, Optional[Ended]]:
-        """A second serial build, and the flipped one beside it."""
-        again, flipped = side_by_side(self.room, [Plan("serial", {}, 1), Plan(FLIPPED, self.graph.flipped(), after=self.after, is_recorded=True)])
-        self.builds += 2
-        self.order = again.began
-        self.turned = [0] * len(self.graph.tasks)
-        for one, other in zip(self.serial, again.held):
-            self.unstable.append(differing(one, other))
-            self.passing.append(passing(one.keys() - other.keys(), other.keys() - one.keys()))
+    def begin(self, running: Running) -> list[Plan]:
+        """The second serial build, and the flipped one: those that ran beside the recorded build, where they count. A flipped one that is still to be made.
+        `CannotTry` where the project cannot be built a second time."""
+        flip = Plan(FLIPPED, self.graph.flipped(), after=self.after, is_recorded=True)
+        if not running.children:
+            running.begin(Plan(SERIAL, {}, 1), flip)
+        elif self.after:  # it began before anybody knew the fixes
+            running.end(FLIPPED)
+        again = running.result(SERIAL)
+        if again.status != 0 and not self.room.has_net:
+            running.end()
+            self.room.forget(again.plan)
+            self.room.has_net = True  # guard: builds-that-need-other-machines
+            return self.begin(running)
         if again.status != 0:
-            self.shown.append(Shown(None, None, Ended(again.status, ["a second serial build, in a copy:", *again.message()], "")))
-        ended = self.ended(flipped)
+            raise CannotTry("of a second serial build, in a copy: " + "; ".join(again.message()))
+        self.compare(again)
+        self.builds += 1
+        if not running.children:
+            return [flip]
+        built = running.result(FLIPPED)
+        ended = self.ended(built)
+        self.room.forget(built.plan)
+        self.builds += 1
+        self.settle(replace(built, plan=flip), ended)
+        return []
+
+    def compare(self, again: Built) -> None:
+        """Takes in another serial build."""
+        self.order = again.began
+        for number, (one, other) in enumerate(zip(self.serial, again.held)):
+            self.unstable[number] |= differing(one, other)
+            self.passing[number] += passing(one.keys() - other.keys(), other.keys() - one.keys())
+        self.pairs = [pair for pair in self.pairs if not self.is_unseen(pair)]  # guard: what-is-not-compared-clears-nothing
         self.room.forget(again.plan)
-        self.room.forget(flipped.plan)
-        return flipped, ended
+
+    def is_unseen(self, pair: Pair) -> bool:
+        """Whether what two tasks, or who asks for what they settle, leave is not compared, as two serial builds differ in it."""
+        loose = {os.path.join(self.room.tops[number], name) for number, found in enumerate(self.unstable) for name in found}
+        for number, first, second in self.soft[pair] if loose else ():
+            askers = self.graph.askers[number, first] & self.graph.askers[number, second]
+            if "" in askers or any(not loose.isdisjoint(self.graph.left_by(number, label)) for label in (first, second, *askers)):
+                return True
+        return False
 
     def names(self, built: Built) -> list[tuple[int, str]]:
         """What a build left otherwise: the tree, and the name in it."""
@@ -111,7 +151,7 @@ class Trial:
         if built.status != 0:
             return Ended(built.status, built.message(), path)
         both = (("does not run", {*self.order} - {*built.began}), ("runs, and does not in a serial build", {*built.began} - {*self.order}))
-        text = ["the recipe of %s %s" % (key[-1][1], how) for how, keys in both for key in sorted(keys)]
+        text = ["the recipe of %s %s" % (key[-1][1], how) for how, keys in both for key in sorted(keys) if target_of(key) not in self.markers]
         text += [str(difference(name, Path(self.room.tops[number]), self.room.trees(built.plan)[number])) for number, name in names]
         return Ended(0, text[:SHOWN], path) if text else None
 
@@ -124,27 +164,31 @@ class Trial:
         self.cleared += [pair for pair in self.pairs if pair not in left]
         self.pairs = left
 
-    def run(self) -> None:
-        """All builds: the flipped one, those that cover what it left, the first with two jobs, and those in which one conflict alone is turned."""
-        self.settle(*self.begin())
-        for number in range(self.most):
+    def run(self, running: Running) -> None:
+        """All builds: the flipped one, those in which one conflict alone is turned, and those that cover what is left, the first with two jobs."""
+        plans = self.begin(running)
+        covers = [] if plans or not self.pairs else [self.cover(2)]  # beside the others, where the flipped one has shown what is left
+        self.try_all(plans + covers + [Plan("alone%d" % number, places, after=self.after) for number, places in enumerate(self.each_alone())])
+        left = len(self.pairs) + 1
+        while 0 < len(self.pairs) < left or self.pairs and len(covers) < 2:
             left = len(self.pairs)
-            if not left or not self.goes_on:
+            covers.append(self.cover(MANY if covers else 2))
+            self.try_all(covers[-1:])
+            if not self.goes_on:
                 break
-            self.settle(*self.make(Plan("cover", self.graph.covering(self.pairs), MANY if number else 2, self.after))[0])
-            if number and len(self.pairs) == left:
-                break
-        self.try_alone()
 
-    def try_alone(self) -> None:
-        """What a look finds may depend on several: each soft conflict is turned round alone, and where there are many, all users come first."""
-        orders = [self.graph.alone(pair) for pair in self.soft] if len(self.soft) <= FEW else list(filter(None, [self.graph.users_first()]))
-        for at in range(0, len(orders), AT_ONCE):
-            plans, known = [Plan("alone%d" % number, places, after=self.after) for number, places in enumerate(orders[at:at + AT_ONCE])], len(self.shown)
-            for plan, (built, ended) in zip(plans, self.make(*plans) if self.goes_on else ()):
-                if ended is not None and len(self.shown) > known and self.goes_on:  # what one of the others showed may be the same
-                    (built, ended), = self.make(plan)
-                if self.goes_on:
+    def cover(self, jobs: int) -> Plan:
+        """A build that turns round what no other has."""
+        return Plan("cover", self.graph.covering(self.pairs), jobs, self.after)
+
+    def try_all(self, plans: Sequence[Plan]) -> None:
+        """Makes builds, some at once."""
+        left = [*plans]
+        while left and self.goes_on:
+            some = left[:min(AT_ONCE, self.most - self.builds)]  # guard: no-more-than-there-may-be
+            left = left[len(some):]
+            for built, ended in self.make(*some):
+                if ended is None or all(one.first for one in self.shown):
                     self.settle(built, ended)
 
     @property
@@ -154,6 +198,8 @@ class Trial:
 
     def settle(self, built: Built, ended: Optional[Ended]) -> None:
         """Takes in a build. What differs is narrowed down to two recipes, and the build made again where these keep the order of the serial one."""
+        if ended is not None:
+            built, ended = self.made_again(built.plan)
         while ended is not None:
             found = self.narrow(built, ended)
             self.shown.append(found)
@@ -166,6 +212,16 @@ class Trial:
             (built, ended), = self.make(Plan("again", built.plan.places, built.plan.jobs, self.after))
         self.note(built)
 
+    def made_again(self, plan: Plan) -> tuple[Built, Optional[Ended]]:
+        """Makes a build in which something differs again, and a serial one beside it: that shows what goes by the time. What another build has shown is no
+        difference any more, and neither is what the recorded build did meanwhile."""
+        again, built = side_by_side(self.room, [Plan(SERIAL, {}, 1), plan])
+        if again.status == 0:
+            self.compare(again)  # guard: what-goes-by-the-time
+        ended = self.ended(built)
+        self.room.forget(plan)
+        return built, ended
+
     def narrow(self, built: Built, ended: Ended) -> Shown:
         """The two recipes whose order makes a difference: of the orders between the serial one and that of a build, two that differ by one step."""
         log = [key for key in built.began if key in {*self.order}]
@@ -173,26 +229,26 @@ class Trial:
         def begun(count: int) -> list[Key]:
             return log[:count] + [key for key in self.order if key not in {*log[:count]}]
 
-        if built.plan.jobs not in self.bases:
-            (_, base), = self.step(Plan("base", placed(begun(0)), built.plan.jobs, self.after))
-            if base is not None:
-                return Shown(None, None, base)
-            self.bases.add(built.plan.jobs)
-        count, ended = self.boundary(begun, len(log), built.plan.jobs, ended)
+        least = 0 if built.plan.jobs in self.bases else -1  # guard: order-of-the-serial-build
+        most = next(count for count in range(len(log) + 1) if begun(count) == begun(len(log)))
+        count, ended = self.boundary(begun, least, max(most, 1), built.plan.jobs, ended)
+        if count == 0:
+            return Shown(None, None, ended)
+        self.bases.add(built.plan.jobs)
         moved, rest = log[count - 1], begun(count - 1)
         at = rest.index(moved)
 
         def stepped(steps: int) -> list[Key]:
             return [*rest[:at - steps], moved, *(key for key in rest[at - steps:] if key != moved)]
 
-        steps, ended = self.boundary(stepped, at - count + 1, built.plan.jobs, ended)
+        steps, ended = self.boundary(stepped, 0, at - count + 1, built.plan.jobs, ended)
         return Shown(rest[at - steps] if steps else None, moved, ended)
 
-    def boundary(self, order: Callable[[int], Sequence[Key]], most: int, jobs: int, ended: Ended) -> tuple[int, Ended]:
-        """The least of some numbers with a difference that the one before it has not, where 0 has none and `most` has this one; and its difference."""
-        low, high = 0, most
+    def boundary(self, order: Callable[[int], Sequence[Key]], low: int, high: int, jobs: int, ended: Ended) -> tuple[int, Ended]:
+        """The least of some numbers with a difference that the one before it has not, where `low` has none and `high` has this one; and its difference. Below 0
+        there is none: the first of the numbers is tried too."""
         while high - low > 1:
-            tried = sorted({low + (high - low) * part // (AT_ONCE + 1) for part in range(1, AT_ONCE + 1)} - {low})
+            tried = sorted({max(low, 0) + (high - max(low, 0)) * part // AT_ONCE for part in range(AT_ONCE)} - {low})
             for number, (_, found) in zip(tried, self.step(*(Plan("step%d" % number, placed(order(number)), jobs, self.after) for number in tried))):
                 if found is not None:
                     high, ended = number, found
@@ -202,7 +258,7 @@ class Trial:
 
     def result(self) -> dict[str, Any]:
         """What a record keeps of it."""
-        return {"builds": self.others, "pairs": self.graph.pairs(), "turned": sum(bin(one).count("1") for one in self.turned),
+        return {"builds": self.others, "made": self.builds, "pairs": self.graph.pairs(), "turned": sum(bin(one).count("1") for one in self.turned),
                 "files": sum(text.startswith("file") for held in self.serial for text in held.values()),
                 "unstable": sorted(os.path.join(self.room.tops[number], name) for number, found in enumerate(self.unstable) for name in found),
                 "cleared": [one for pair in self.cleared for one in self.soft[pair]], "left": [one for pair in self.pairs for one in self.soft[pair]], "shown": list(map(self.shown_labels, self.shown))}
@@ -211,3 +267,9 @@ class Trial:
         """A difference, by the build and the labels of its two recipes."""
         build, first, second = one.first and one.second and self.graph.together(one.first, one.second) or ("", "", "")
         return {"build": build, "first": first, "second": second, "path": one.ended.path, "status": one.ended.status, "text": one.ended.text}
+
+
+def target_of(key: Key) -> str:
+    """The path of the target of a recipe."""
+    folder, name, _ = key[-1]
+    return os.path.normpath(os.path.join(folder, name))

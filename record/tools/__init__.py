@@ -1,1 +1,1 @@
-"""What tools do by themselves, such as Python and compilers, and what shells do in their scripts."""
+"""What known tools keep for themselves: byte code, caches, marks that a folder is there."""

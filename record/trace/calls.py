@@ -11,12 +11,13 @@ from typing import Callable, Dict, Iterable, List, Tuple
 from record.commands import shellages, shelltext
 from record.commands.system import SETTINGS, TEMPORARY
 from record.trace.arguments import TEXT_END, Opening, opening, spelled
-from record.trace.classes import COPIES, DOUBLES, NO_FILES, PAIRS, SHARING, SIGNALLED, SLEEPS, WAITS, WRITES
+from record.trace.classes import COPIES, DOUBLES, LIMITS, NO_FILES, PAIRS, SHARING, SIGNALLED, SIGNALS, SLEEPS, WAITS, WRITES
 from record.trace.descriptors import CHANGING, OF_KERNEL, READING, requests
 from record.trace.events import (
     ABSENT, AGE_SEEN, AGE_TAKEN, AGE_UNKNOWN, CREATED, ENTERED, FOLDER_ASKED, FOLDER_KEPT, FOLDER_REMOVED, HELD, LINKS_CHANGED, LINKS_SEEN, LISTED, MADE,
-    MADE_BEFORE, MADE_QUIETLY, MAKE_LISTED, MODE_CHANGED, MODE_GIVEN, ORDER_SEEN, READ, REMOVED, SEEN, TIME_CHANGED,
+    MADE_BEFORE, MADE_QUIETLY, MAKE_LISTED, MODE_CHANGED, MODE_GIVEN, READ, REFUSED, REMOVED, SEEN, TIME_CHANGED,
 )
+from record.trace.findwords import find_patterns
 from record.trace.lives import Life
 from record.trace.names import Found, Inode
 from record.trace.proc import plain_path
@@ -36,7 +37,7 @@ CHANGES = {"chmod", "chown", "lchown", "utime", "utimes", "truncate", "setxattr"
            "setxattrat", "removexattrat", "file_setattr"}  # guard: new-names
 TIMES = {"utime", "utimes", "utimensat", "futimesat", "utimensat_time64"}
 BY_NUMBER = {"fchmod", "fchown", "fchown32", "ftruncate", "ftruncate64", "fsetxattr", "fremovexattr"}  # by a descriptor alone
-NUMBERED = {"umask", "kill", "tkill", "tgkill", "rt_sigqueueinfo", "rt_tgsigqueueinfo", "pidfd_open", *WAITS, *WRITES, *NO_FILES}  # calls whose first number is no descriptor  # guard: no-descriptors
+NUMBERED = {"umask", *SIGNALS, *LIMITS, *WAITS, *WRITES, *NO_FILES}  # calls whose first number is no descriptor  # guard: no-descriptors
 THERE = ("EEXIST", "EISDIR", "ENXIO", "EACCES", "ENOTEMPTY")  # errors of an open that say that something has the name
 
 # Parts of arguments, as strace shows them.
@@ -217,15 +218,18 @@ class Calls(Started):
         if self.makes_way(life, asked.flags, found.missing):  # guard: file-that-it-opens-first
             return
         self.put_look(life, found, call.error in THERE, SEEN)
+        if call.error == "EEXIST":
+            self.put(life, REFUSED, found.path)  # guard: files-that-could-not-be-made
         if (asked.changes or call.name == "creat") and call.error == "ENOENT" and found.missing != found.path:
             self.put(life, ABSENT, found.missing)
 
     def open_to_write(self, life: Life, found: Found, flags: str, is_creat: bool) -> None:
         """A file was opened to change it: what it held may be read too, unless it is emptied, or written alone."""
+        is_new = "O_EXCL" in flags or found.inode is not None and found.inode.is_unmade  # another process may have seen it before this call has ended
         if "O_EXCL" in flags:
             self.fresh.add(found.path)
-        if "O_CREAT" in flags and not self.is_inside(found.path):
-            self.put(life, CREATED, found.path)  # the disk has it after the build: nobody knows whether it was there before
+        if "O_CREAT" in flags and (is_new or not self.is_inside(found.path)):  # guard: files-that-others-saw-first
+            self.put(life, CREATED, found.path)  # the disk has what is outside after the build: nobody knows whether it was there before
         if self.opens_to_lock(life, flags):
             self.open_to_lock(life, found)
             return
@@ -273,7 +277,7 @@ class Calls(Started):
             self.put(life, AGE_SEEN if self.ages(life) else AGE_UNKNOWN, found.path)  # guard: what-is-opened
 
     def on_list(self, life: Life, call: Call, ok: bool) -> None:
-        """A folder is listed: the event says for which names, and whether their order counts. Make remembers what it lists."""
+        """A folder is listed: the event says for which names. Make remembers what it lists."""
         where = folders(call.args)
         if not ok or not where:
             return
@@ -283,17 +287,13 @@ class Calls(Started):
         elif where[0] == "/proc":  # guard: listed-said
             self.watchers.append(" ".join(life.argv)[:100])
         else:
-            self.put_lists(life, where[0], self.patterns(life, where[0]), call.result == 0)  # guard: listings-of-interpreters-count
-            if not self.is_in_order(life):
-                self.put(life, ORDER_SEEN, where[0])
+            life.listed.add(where[0])
+            for pattern in self.patterns(life):
+                self.put(life, LISTED, where[0] + "\0" + pattern)  # guard: listings-count
 
-    def patterns(self, life: Life, where: str) -> List[str]:
-        """The patterns of the names that a program lists a folder for: any, where nobody reads its words."""
-        return ["*"]
-
-    def is_in_order(self, life: Life) -> bool:
-        """Whether it does the same in whichever order the folder has its names: nobody knows, where nobody reads its words."""
-        return False
+    def patterns(self, life: Life) -> Iterable[str]:
+        """The patterns of names that a program lists a folder for, by its words; options of shells in the environment may change what they say."""
+        return ["*"] if self.is_open_shell or life.taken or life.cut else find_patterns(life) or shelltext.patterns(life.argv, False)  # guard: names
 
     def on_mkdir(self, life: Life, call: Call, ok: bool) -> None:
         """A folder is made, or is there already: with a word where the program shows who was first, else quietly; and its mode."""
@@ -415,7 +415,8 @@ METHODS: Tuple[Tuple[Handler, Iterable[str]], ...] = (
     (Calls.on_sleep, SLEEPS),
     (Calls.on_signal, SIGNALLED),
     (Calls.on_ptrace, ("ptrace",)),
-    (Calls.on_kill, ("kill", "tkill", "tgkill", "rt_sigqueueinfo", "rt_tgsigqueueinfo", "pidfd_open")),
+    (Calls.on_kill, SIGNALS),
+    (Calls.on_limits, LIMITS),
     (Calls.on_umask, ("umask",)),
     (Calls.on_unshare, ("unshare",)),
     (Calls.on_fcntl, ("fcntl", "fcntl64")),

@@ -21,18 +21,17 @@ REASONS: Dict[str, str] = {
         mq_notify mq_timedreceive mq_timedreceive_time64 mq_timedsend mq_timedsend_time64 inotify_rm_watch""",
     # Memory of the process itself. To write a file by it, the file is opened to write.
     "memory": """mmap mmap2 munmap mremap mprotect pkey_mprotect pkey_alloc pkey_free madvise process_madvise mincore mlock mlock2 mlockall munlock munlockall
-        msync brk sbrk remap_file_pages mbind get_mempolicy set_mempolicy set_mempolicy_home_node migrate_pages move_pages mseal map_shadow_stack process_mrelease membarrier rseq rseq_slice_yield cacheflush riscv_flush_icache""",
-    # Processes, rights and limits. Signals are traced: who signals a process of another recipe may have its number from a file that both read. The
-    # end of a process stands in the trace without its call.
-    "processes": """exit exit_group pidfd_send_signal kcmp alarm
+        msync brk sbrk remap_file_pages mbind get_mempolicy set_mempolicy set_mempolicy_home_node mseal map_shadow_stack process_mrelease membarrier rseq rseq_slice_yield cacheflush riscv_flush_icache""",
+    # Processes, rights and limits of who calls. What names another process is traced: its number may come from a file that both read, and make is
+    # the parent. The end of a process stands in the trace without its call.
+    "processes": """exit exit_group pidfd_send_signal alarm
         rt_sigaction rt_sigpending rt_sigprocmask rt_sigtimedwait rt_sigtimedwait_time64 sigaction sigaltstack sigpending
-        sigprocmask sgetmask ssetmask restart_syscall getpid getppid gettid getpgid getpgrp getsid setpgid setsid getuid getuid32 geteuid
+        sigprocmask sgetmask ssetmask restart_syscall getpid getppid gettid getpgrp setsid getuid getuid32 geteuid
         geteuid32 getgid getgid32 getegid getegid32 getresuid getresuid32 getresgid getresgid32 getgroups getgroups32 setuid setuid32 setgid setgid32 setreuid
         setreuid32 setregid setregid32 setresuid setresuid32 setresgid setresgid32 setfsuid setfsuid32 setfsgid setfsgid32 setgroups setgroups32 capget capset
-        getrlimit ugetrlimit setrlimit prlimit64 getrusage getpriority setpriority nice ioprio_get ioprio_set prctl arch_prctl personality seccomp
+        getrlimit ugetrlimit setrlimit getrusage nice prctl arch_prctl personality seccomp
         landlock_create_ruleset landlock_add_rule landlock_restrict_self lsm_get_self_attr lsm_set_self_attr lsm_list_modules sched_get_priority_max
-        sched_get_priority_min sched_getaffinity sched_setaffinity sched_getattr sched_setattr sched_getparam sched_setparam sched_getscheduler
-        sched_setscheduler sched_rr_get_interval sched_rr_get_interval_time64 sched_yield set_tid_address get_robust_list set_robust_list get_thread_area
+        sched_get_priority_min sched_yield set_tid_address set_robust_list get_thread_area
         set_thread_area set_tls get_tls modify_ldt ioperm iopl vm86 vm86old uprobe uretprobe""",
     # Waiting, and the time of day, which nobody can keep a recipe from asking.
     "waiting and time": """poll ppoll ppoll_time64 select _newselect pselect6 pselect6_time64 epoll_ctl epoll_wait epoll_pwait
@@ -51,6 +50,11 @@ LEFT_OUT = {name for names in REASONS.values() for name in names.split()}
 WRITES = {"write", "writev", "pwrite64", "pwritev", "pwritev2"}
 COPIES = {"sendfile", "sendfile64", "copy_file_range", "splice"}  # the same from one descriptor to another, which strace names
 WAITS = {"wait4", "waitpid", "waitid"}
+SIGNALS = {"kill", "tkill", "tgkill", "rt_sigqueueinfo", "rt_tgsigqueueinfo", "pidfd_open"}
+# What holds of a process, by its number; that of itself is zero.
+LIMITS = {"prlimit64", "getpriority", "setpriority", "ioprio_get", "ioprio_set", "sched_getaffinity", "sched_setaffinity", "sched_getattr", "sched_setattr",
+          "sched_getparam", "sched_setparam", "sched_getscheduler", "sched_setscheduler", "sched_rr_get_interval", "sched_rr_get_interval_time64", "getpgid",
+          "setpgid", "getsid", "kcmp", "get_robust_list", "migrate_pages", "move_pages"}
 SLEEPS = {"rt_sigsuspend", "sigsuspend", "pause"}  # until a signal comes
 SIGNALLED = {"rt_sigreturn", "sigreturn"}  # a handler of a signal has run
 DOUBLES = {"dup", "dup2", "dup3"}

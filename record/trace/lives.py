@@ -5,7 +5,7 @@ A process number comes again, so a life is what counts. An event is a kind and a
 
 from dataclasses import dataclass, field
 from functools import cached_property
-from typing import Dict, Iterable, List, NamedTuple, Optional, Set, Tuple
+from typing import Dict, Iterable, List, Optional, Set, Tuple
 
 from record.commands.shelltext import Traits
 from record.trace.courses import Course, Key
@@ -30,11 +30,6 @@ class Program:
     place: int
     name: str = ""  # as who started it named it
     folder: str = ""
-    script: str = ""  # the file of a shell's script, by its whole path
-    shell: str = ""  # the file of that shell
-    option: str = ""  # what the first line of the script hands to it
-    given: str = ""  # the script as who started it named it, where its first line says which shell runs it
-    is_ninja: bool = False
     file: str = ""  # what runs
 
 
@@ -52,6 +47,7 @@ class Life:
     cut: bool = False
     events: Dict[Key, int] = field(default_factory=dict)
     changed: Dict[str, int] = field(default_factory=dict)  # names: where it last changed what stands there
+    listed: Set[str] = field(default_factory=set)  # folders
     acts: List[Act] = field(default_factory=list)
     starts: List[Tuple[int, str]] = field(default_factory=list)  # where make began (again), and its folder
     is_make: bool = False
@@ -122,28 +118,3 @@ class Life:
         while life is not None:
             yield life
             life = life.parent
-
-
-class Listed(NamedTuple):
-    """A folder that a process lists, for any name as far as its words say. `is_plain`: no more than the text of a script may be run; `is_end`: all
-    names were read."""
-
-    life: Life
-    place: int
-    folder: str
-    is_plain: bool
-    is_end: bool
-
-    def program(self) -> Optional[Program]:
-        """The program that listed it."""
-        return program_at(self.life, self.place)
-
-
-def program_at(life: Optional[Life], place: int) -> Optional[Program]:
-    """The program that a process ran at a place of the trace; where it had begun none, that of who started it."""
-    while life is not None:
-        found = [one for one in life.programs if one.place < place]
-        if found:
-            return found[-1]
-        place, life = life.born, life.parent
-    return None

@@ -23,7 +23,7 @@ MOUNT_ESCAPE = re.compile(r"\\([0-7]{3})")
 class Inode:
     """A file (`f`), folder (`d`) or link (`l`); a folder knows its place, a file its names, and how many more it had when it was first met."""
 
-    __slots__ = ("kind", "entries", "target", "parent", "name", "walked", "names", "first", "unknown")
+    __slots__ = ("kind", "entries", "target", "parent", "name", "walked", "names", "first", "unknown", "is_unmade")
 
     def __init__(self, kind: str, target: str = "") -> None:
         self.kind = kind
@@ -35,6 +35,7 @@ class Inode:
         self.names: List[Tuple["Inode", str]] = []
         self.first = False
         self.unknown = 0
+        self.is_unmade = False  # somebody saw it, and nobody made it so far
 
     def path(self) -> str:
         """The folder's path."""

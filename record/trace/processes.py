@@ -9,16 +9,14 @@ from typing import List
 from record import machine
 from record.commands import shelltext
 from record.trace.events import LISTED
-from record.trace.lives import Life, Listed, Program
+from record.trace.lives import Life, Program
 from record.trace.moves import Moves
 from record.trace.strace import Call
 
-SETTERS = ("prlimit", "taskset", "chrt", "ionice")
-OTHER = re.compile(r"-[a-zA-Z]*[pPu]|--(?:pid|pgid|uid)")  # the word behind which they name a process
 ANY_CHILD = re.compile(r"-|0,|P_(?:ALL|PGID)\b")  # a wait for any child, or any of a group
 WAITED = re.compile(r"\bsi_pid=(\d+)")
 STOPPED = re.compile(r"WIFSTOPPED|WIFCONTINUED|CLD_(?:STOPPED|CONTINUED|TRAPPED)")
-NUMBER = re.compile(r"-?(\d+)\b")  # of a process, or of the first one of a group
+NUMBER = re.compile(r"(?:(?:IOPRIO_WHO|PRIO)_PROCESS, )?-?(\d+)\b")  # of a process, or of the first one of a group
 
 
 def first_of(life: Life) -> Life:
@@ -39,12 +37,6 @@ def lends_rights(program: str, user: int) -> bool:
     except OSError:
         return False
     return user != 0 and bool(found.st_mode & stat.S_ISUID and found.st_uid != user or found.st_mode & stat.S_ISGID and found.st_mode & stat.S_IXGRP)  # guard: not-of-root
-
-
-def sets_others(argv: List[str]) -> bool:
-    """Whether a program sets limits of a process that runs, by its words: what that starts later gets them too."""
-    name = shelltext.base_name(argv)
-    return name == "renice" or name in SETTERS and any(OTHER.match(word) for word in argv[1:])  # guard: limits-of-their-own
 
 
 class Processes(Moves):
@@ -102,6 +94,12 @@ class Processes(Moves):
         if not life.is_make and (other is None or first_of(other) is not first_of(life)):  # guard: signals-inside-of-recipe
             self.watchers.append(" ".join(life.argv)[:100])  # guard: signals
 
+    def on_limits(self, life: Life, call: Call, ok: bool) -> None:
+        """Limits and the like of a process: what it starts later has them too, and make starts the recipes. A group, and all of a user, have more."""
+        match = NUMBER.match(call.args)
+        if match is None or match.group(1) != "0":  # guard: limits-of-their-own
+            self.on_kill(life, call, ok)  # guard: limits-of-others
+
     def on_umask(self, life: Life, call: Call, ok: bool) -> None:
         """The bits that a process makes names without, as in `umask(022) = 0`."""
         life.set_mask(int(call.args, 8))  # guard: masks
@@ -111,20 +109,7 @@ class Processes(Moves):
         if ok and re.search(r"CLONE_(?:FS|NEWNS|NEWUSER)\b", call.args):
             life.leave_threads()  # guard: folder-of-their-own
 
-    def begin_program(self, life: Life, words: List[str], first: List[str]) -> None:
-        """What a process runs from now on; which script, where it is a shell. `words`: the program, and the words that it is handed; `first`: the
-        words of the first line, where that is a script."""
+    def begin_program(self, life: Life, name: str) -> None:
+        """What a process runs from now on. `name`: as who started it named it."""
         life.course.run(self.place)
-        name = shelltext.script_of(life.argv)
-        script = self.names.find(life.folder, name, True).path if name else ""
-        shell = self.names.find(life.folder, first[0], True).path if name and first else life.program if name else ""
-        life.programs.append(Program(
-            life, life.argv, self.place, name=words[1] if words[1:] else words[0], folder=life.folder, script=script, shell=shell,
-            option="".join(first[1:]), given=words[0] if first else "", is_ninja=life.is_ninja, file=life.program))
-
-    def put_lists(self, life: Life, folder: str, patterns: List[str], is_end: bool) -> None:
-        """A folder was listed for names of these patterns. The text of a script may say more of a list for any name (record/tools/scripts.py)."""
-        for pattern in patterns:
-            self.put(life, LISTED, folder + "\0" + pattern)
-        if patterns == ["*"]:
-            self.lists.append(Listed(life, self.place, folder, not (self.is_open_shell or life.taken or life.cut), is_end))
+        life.programs.append(Program(life, life.argv, self.place, name, life.folder, life.program))

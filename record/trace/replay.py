@@ -8,10 +8,10 @@ from record import machine
 from record.commands import shellages, shelltext
 from record.commands.system import OF_SYSTEM
 from record.trace.events import (
-    ABSENT, AGE_SEEN, AGE_UNKNOWN, CHANGES, CREATED, ENTERED, FOLDER_REMOVED, MADE, MADE_QUIETLY, MAKER_SEEN, MAKE_OPENED, READ, REMOVED, SEEN, TREE_CHANGES, WAY_ABSENT, WRITTEN,
+    ABSENT, AGE_SEEN, AGE_UNKNOWN, BY_LIST, CHANGES, CREATED, ENTERED, FOLDER_REMOVED, MADE, MADE_QUIETLY, MAKER_SEEN, MAKE_OPENED, READ, REFUSED, REMOVED, SEEN, TREE_CHANGES, WAY_ABSENT, WRITTEN,
 )
 from record.trace.courses import Course
-from record.trace.lives import Act, Life, Listed
+from record.trace.lives import Act, Life
 from record.trace.names import Found, Inode, Names
 from record.trace.proc import NUMBER, is_hidden, plain_path
 from record.trace.strace import Begun, Call, Event, Unread
@@ -59,7 +59,6 @@ class Replay:
         self.watchers: List[str] = []  # who lists the processes that run, or waits for changes of files
         self.changes: List[Tuple[int, str, str]] = []  # names that come and go, in order
         self.askers: List[str] = []  # who asks when a file was read last
-        self.lists: List[Listed] = []  # lists of folders that may be about any name
         self.is_open_shell = bool(shelltext.SHELL_MACROS & {*machine.variables()})  # shells may have other options than their words say
 
     # ---------------------------------------------------------------- processes
@@ -254,8 +253,12 @@ class Replay:
 
     def put_look(self, life: Life, found: Found, ok: bool, kind: str, word: str = "") -> None:
         """A look at what was found: an event of this kind where something is there (`ok`), else that it is absent, and the folder on the way too."""
+        if kind == SEEN and os.path.dirname(found.path) in life.listed:  # guard: looks-by-list
+            kind = BY_LIST
         if ok and found.inode is None and found.folder is not None and self.names.is_walked(found.folder):
-            self.names.put(found.folder, found.name, Inode("f"))
+            found.inode = Inode("f")
+            found.inode.is_unmade = True
+            self.names.put(found.folder, found.name, found.inode)
         if kind == SEEN and not life.is_make and life.traits().makes_folders and shelltext.makes(life.argv, found.path):  # guard: scripts-that-make-folders-are-quiet
             for path in (found.path, *shelltext.above(life.argv, found.path)):  # guard: extutils-of-perl-those-above
                 self.put(life, MAKER_SEEN, path)
@@ -276,6 +279,8 @@ class Replay:
     def put_absent(self, life: Life, found: Found, kind: str) -> None:
         """A name that could not be made: that its folder is absent counts too."""
         self.put(life, kind, found.path)
+        if kind == SEEN:
+            self.put(life, REFUSED, found.path)  # guard: links-that-could-not-be-made
         if found.missing and found.missing != found.path:  # guard: names-that-cannot-be-made
             self.put(life, ABSENT, found.missing)
 

@@ -13,7 +13,6 @@ from record.trace.events import AGE_SEEN, AGE_UNKNOWN, READ
 from record.trace.lives import Life
 from record.trace.loader import interpreter_words
 from record.trace.names import Found
-from record.trace.processes import sets_others
 from record.trace.strace import Call, first_text, folders, is_cut, texts
 
 CHECKS = re.compile(r"\b(?:AT_EXECVE_CHECK|0x10000(?: /\* AT_\?\?\? \*/)?)$")  # flags of execveat by which nothing is run
@@ -43,11 +42,9 @@ class Started(Opened):
         words = [program, *texts(call.args)[1:]]
         found = self.names.find(life.folder, words[0], True)
         self.take_words(life, call, words, found)
-        self.begin_program(life, words, self.first_words(found.path))
+        self.begin_program(life, (words[1:] or words)[0])
         self.note_rights(life, found.path)
         self.is_open_shell = self.is_open_shell or shelltext.sets_options(life.argv, life.folder)
-        if sets_others(life.argv):  # guard: limits-of-others
-            self.watchers.append(" ".join(life.argv)[:100])
         if shellages.asks_reads(life.argv, life.folder):  # guard: said
             self.askers.append(" ".join(life.argv)[:100])
         is_real = self.is_real_make(found.path)

@@ -18,6 +18,7 @@
 
 #define NEXT(name) ((__typeof__(&name))dlsym(RTLD_NEXT, #name)) /* that of the C library */
 #define HOLD "race-hold"                                        /* the first word of a process that waits */
+#define JOBS "MAKEFLAGS"                                        /* that of the gate begins with a blank: how many jobs makes have */
 
 static char gate[sizeof((struct sockaddr_un *)0)->sun_path], holder[4096]; /* empty where no recipe waits */
 static int is_ninja;
@@ -50,8 +51,9 @@ __attribute__((constructor(101))) static void find_gate(int argc, char **argv) {
   if (!length || length + sizeof "gate" > sizeof gate) return;
   snprintf(gate, sizeof gate, "%.*sgate", length, here.dli_fname);
   snprintf(holder, sizeof holder, "%.*shold", length, here.dli_fname);
-  if (argc > 2 && !strcmp(argv[0], HOLD)) {
+  if (argc > 2 && !strncmp(argv[0], HOLD, sizeof HOLD - 1)) {
     wait_at_gate();
+    if (argv[0][sizeof HOLD - 1] && getenv(JOBS) && *getenv(JOBS) == ' ') unsetenv(JOBS); /* ninja hands makes no jobs */
     execvp(argv[1], argv + 2);
     _exit(127);
   }
@@ -76,7 +78,7 @@ int posix_spawn(pid_t *pid, const char *path, const posix_spawn_file_actions_t *
   while (words[count]) count++;
   char **held = waits(path) ? malloc((count + 3) * sizeof *held) : NULL;
   if (!held) return NEXT(posix_spawn)(pid, path, files, flags, words, environment);
-  held[0] = HOLD, held[1] = (char *)path;
+  held[0] = is_ninja ? HOLD "-ninja" : HOLD, held[1] = (char *)path;
   memcpy(held + 2, words, (count + 1) * sizeof *held);
   int fault = NEXT(posix_spawn)(pid, holder, files, flags, held, environment);
   free(held);

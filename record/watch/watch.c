@@ -62,11 +62,13 @@ static struct timespec began;
 
 /* ---- the file */
 
-/* Writes all bytes to the end of a file; whether that could be done. A limit on the size of files is raised meanwhile, as far as it may be. */
+/* Writes all bytes to the end of a file; whether that could be done. A limit on the size of files, that which make
+   began with, is raised meanwhile, as far as it may be. */
 static int put_bytes(int file, const char *text, size_t size) {
-  struct rlimit old = {RLIM_INFINITY, RLIM_INFINITY}, now = old;
+  static struct rlimit old = {0, 0};
+  struct rlimit now = {RLIM_INFINITY, RLIM_INFINITY};
   size_t at = 0;
-  getrlimit(RLIMIT_FSIZE, &old);
+  if (!old.rlim_max) getrlimit(RLIMIT_FSIZE, &old);
   if (old.rlim_cur != RLIM_INFINITY && setrlimit(RLIMIT_FSIZE, &now)) {
     now.rlim_cur = now.rlim_max = old.rlim_max;
     setrlimit(RLIMIT_FSIZE, &now);
@@ -370,7 +372,7 @@ static FILE *copied(const char *path, FILE *file) {
   struct stat found;
   char name[LONGEST + 32], bytes[LONGEST];
   size_t got;
-  if (fstat(fileno(file), &found)) return file;
+  if (fstat(fileno(file), &found) || S_ISDIR(found.st_mode)) return file;
   int is_plain = S_ISREG(found.st_mode), is_whole = 1;
   long newer = found.st_ctim.tv_sec != began.tv_sec ? found.st_ctim.tv_sec - began.tv_sec : found.st_ctim.tv_nsec - began.tv_nsec;
   if (is_plain && (found.st_size > MOST || newer < 0)) return file;

@@ -129,7 +129,7 @@ _race() {
       --setup) COMPREPLY=(); return ;;
       --orders) COMPREPLY=(); return ;;
     esac
-    case $word in -*) mapfile -t COMPREPLY < <(compgen -W "-h --help -o --output --race --top --warm --fresh --from --setup --keep-trace --footprints --strict --orders --missing -V --version" -- "$word"); return ;; esac
+    case $word in -*) mapfile -t COMPREPLY < <(compgen -W "-h --help -o --output --race --top --warm --fresh --from --setup --keep-trace --footprints --strict --orders --once --missing -V --version" -- "$word"); return ;; esac
     mapfile -t COMPREPLY < <(compgen -c -- "$word") ;;
   'race-report')
     case $before in

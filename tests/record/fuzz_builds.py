@@ -44,7 +44,7 @@ JOBS = 16  # enough for all recipes at once
 OWN = (".ninja_log", ".ninja_deps", ".ninja_lock")
 SHOWN = "nohup.out"  # what make prints where `nohup` calls it from a terminal: its commands show who delays them
 USUAL = Place(outputs="joined")
-AHEAD = re.compile(rb"[0-9.e+]+ s in the future")  # what passes meanwhile
+AHEAD = re.compile(rb"[0-9.e+]+ s in the future|race-record: [^\n]* in copies[, ][^\n]*\n")  # what passes meanwhile, and builds in other orders
 VERDICT = re.compile(rb"(\x1b\[[0-9;]*m)?(WARM|SAFE|RACE|NO VERDICT|make )")
 Tree = Dict[str, str]
 
@@ -243,7 +243,7 @@ def assumptions(output: str) -> List[str]:
 
 def granted(project: Project, assumed: List[str]) -> List[str]:
     """The files that may differ, since the recorder has printed the assumption that they break."""
-    return [name for name, key in project.assumed().items() if any(one.startswith(TEXTS[key]) for one in assumed)]
+    return [name for name, key in project.assumed().items() if any(one.startswith(TEXTS[key]) or re.search(r"by its key: .*\b%s\b" % key, one) for one in assumed)]
 
 
 def judge(project: Project, room: Path, runs: int, recorder: Path = RECORDER, shuffles: bool = False) -> Result:
@@ -278,7 +278,7 @@ def judge(project: Project, room: Path, runs: int, recorder: Path = RECORDER, sh
     else:
         shuffled = shuffles and result.verdict != "safe"
         shake(builder, serial[0], result, chain((builder.parallel(shuffled) for _ in range(runs)), builder.directed(holds)))
-        if result.kind == "wrong yes" and project.left and (is_about_another(recorded.output) or any(one.startswith(TEXTS["up-to-date"]) for one in result.assumed)):
+        if result.kind == "wrong yes" and project.left and (is_about_another(recorded.output) or any(TEXTS["up-to-date"] in one for one in result.assumed)):
             result.kind = "assumption broken"
     return result
 

@@ -72,7 +72,7 @@ if how == "1": first.wait()
 second.wait()
 if how == "2": time.sleep(0.1)
 """
-LISTS = (("find NAME.d > $@", "listings"), ("find NAME.d | sort > $@", ""), ("ls NAME.d > $@", ""), ("echo NAME.d/* > $@", ""))
+LISTS = (("find NAME.d > $@", ""), ("find NAME.d | sort > $@", ""), ("ls NAME.d > $@", ""), ("echo NAME.d/* > $@", ""))
 
 
 class GadgetDraw(Draw):
@@ -233,8 +233,7 @@ class GadgetDraw(Draw):
         later = "NAME:: NAME.s\n\t@$N $@; touch NAME.t\nNAME:: NAME.c\n\t@$N $@; cp NAME.c $@\n"
         text = "NAME: V = 1\n" + (later if self.random.random() < 0.5 else self.plain("NAME", "NAME.s NAME.c", "cp NAME.c $@")) + self.plain("NAME.b", "NAME.c", "cp NAME.c $@")
         text += self.plain("NAME.s", "", "touch $@") + self.plain("NAME.c", "", "echo '$(V)' > $@")
-        breaks = {name + end: "inherited" for end in ("", ".b", ".c")} if later in text else {}
-        return Block([name, name + ".b"], text.replace("V", "V" + name).replace("NAME", name), {}, breaks)
+        return Block([name, name + ".b"], text.replace("V", "V" + name).replace("NAME", name))
 
     def inside(self, name: str) -> Block:
         """A make inside a recipe answers from a list of a folder, in which another recipe makes a name."""

@@ -2,10 +2,11 @@
 
 from typing import List
 
-from guard import FALSE_RACE, YES, Guard, guards
+from guard import FALSE_RACE, UNSAID, YES, Guard, guards
 
 GUARDS: List[Guard] = [
     *guards("build/builder.py",
+        ("looks-by-list-are-soft", "task.read(path)", "orders.Orders.case_names_that_a_list_has_shown", UNSAID),
         ("folders-that-nobody-changes", "if created.get(folder):", "calls.Makefiles.folder_that_nobody_changes", "True is not false"),
         ("later-rules", "return self.make.acts.get((self.number, node.name)) if node.rule == 0 else None", "build.Makefiles.act_of_a_second_rule", YES),
         ("failed-looks-are-reads", 'elif kind in "RSPK" and path in writers:', "small.Makefiles.absent_file", YES),
@@ -20,7 +21,6 @@ GUARDS: List[Guard] = [
     *guards("build/segments.py",
         ("files-of-locks-inside", "self.held = set[str]()", "parts.Makefiles.file_that_is_locked", FALSE_RACE),
         ("who-tries-to-make-folder", "is_asked = False", "parts.Divided.recipes_that_are_whole"),
-        ("looks-by-list", "is_by_list = False", "parts.Makefiles.look_by_a_list", FALSE_RACE),
         ("what-make-inside-orders", "return False and [*above]", "parts.Makefiles.race_of_a_make_inside"),
     ),
     *guards("build/tasks.py",

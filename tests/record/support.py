@@ -51,7 +51,7 @@ def warm() -> None:
     with Project({"Makefile": "all: a b\na: ; @echo > a\nb: ; @cat a > b\n"}) as project, contextlib.redirect_stdout(io.StringIO()):
         os.chdir(project.folder)
         try:
-            record.main.main(["--race", race_program(), "--", "make", "-s"])
+            record.main.main(["--once", "--race", race_program(), "--", "make", "-s"])
         finally:
             os.chdir(here)
     gc.freeze()
@@ -120,12 +120,14 @@ class Project:
         """Runs a command that is not recorded."""
         return subprocess.run(list(words), cwd=self.folder, capture_output=True, stdin=subprocess.DEVNULL, timeout=SECONDS, check=False)
 
-    def record(self, words: Sequence[str] = ("make",), options: Sequence[str] = ()) -> Outcome:
-        """Runs `race-record` over a command, and reads what it left."""
-        return self.run(["--race", race_program(), *options, "--", *words])
+    def record(self, words: Sequence[str] = ("make",), options: Sequence[str] = (), once: bool = True) -> Outcome:
+        """Runs `race-record` over a command, in one build or with other orders, and reads what it left."""
+        return self.run(["--race", race_program(), *options, "--", *words], once=once)
 
-    def run(self, args: Sequence[str], env: Optional[Dict[str, str]] = None) -> Outcome:
-        """Runs `race-record` with these words: in a child of the tests or, with an environment, as the command that it is."""
+    def run(self, args: Sequence[str], env: Optional[Dict[str, str]] = None, once: bool = True) -> Outcome:
+        """Runs `race-record` with these words: in a child of the tests or, with an environment, as the command that it is. `once`: a build that it
+        records is not built in other orders."""
+        args = [*(["--once"] if once and "--" in args else []), *args]
         if env is None:
             work = forked.script(RECORDER, args)
             ran = forked.run(self.place.watched(work, args) if self.place else work, self.folder, SECONDS)

@@ -55,6 +55,8 @@ Makefiles = makefiles(__name__, {
     "age_beside_a_script_that_looks": Small("safe", "all: d\na: ; touch a\nb: ; touch b\nc: a b ; python3 p.py; cp -p k c\nd: c ; test c -nt b || true; touch d\n", {"k": "k", "p.py": "import os\nos.stat('a')\n"}),
     # ages that a shell compares by commands that do not stand in its text
     "ages_by_ar": Small("race", "all: c\nl.a: ; touch x; ar rcU l.a x; rm x\nb: ; touch b\nc: l.a b ; mv b x; ar ruU l.a x; touch c\n"),
+    "ages_by_ar_in_a_folder": Small("safe", "all: c\n\ttest d -nt in.mk || true\nd/x: l/d/f; cat l/d/f > $@\nd/y: ; touch $@\nc: d/x d/y ; (test -e d && cd d && exec ar cru ../l.a x y 2> ../c)\n", {"e/f": "f", "d/k": "k", "l/k": "k"},
+                                    "ln -s ../e l/d"),
     "ages_by_ar_of_new_members": Small("safe", "all: c\nx y z: ; touch $@\nl.a: x ; ar cru l.a x 2> /dev/null\nc: l.a y z ; ar ru l.a y z 2> /dev/null; touch c\n"),
     # ages
     "ages_for_which_a_recipe_asks": Small("race", SIDE % "test x -nt y", says="  c  Makefile:4  may ask for it\n"),

@@ -34,7 +34,7 @@ class Places(unittest.TestCase):
         with support.Project({"Makefile": makefile}) as project:
             room = project.folder.parent
             command = place.command(["make"])
-            words = [str(support.RECORDER), "--race", support.race_program(), "--", *command] if is_recorded else command
+            words = [str(support.RECORDER), "--once", "--race", support.race_program(), "--", *command] if is_recorded else command
             status, out, err = Ran(place, words, room, BARE).wait(support.SECONDS)
             here = os.fsencode(room)
             files = {path.name: path.read_bytes() for path in sorted(project.folder.iterdir()) if path.is_file()}
@@ -49,6 +49,9 @@ class Places(unittest.TestCase):
 
     def test_descriptors_that_the_caller_has_opened(self) -> None:
         self.assertEqual(b"3\n9\n", self.both("all: ; @echo 3 >&3; echo 9 >&9; touch all\n", Place(open=[3, 9])).log)
+
+    def test_folder_in_the_place_of_a_makefile(self) -> None:
+        self.both("all: ; touch all\n", Place(env={"MAKEFILES": "/"}), 2)
 
     def test_signs_where_no_locale_is_set(self) -> None:
         for given, wanted in (({}, b"2\n"), ({"LANG": "C"}, b"2\n"), ({"LC_CTYPE": "C"}, b"2\nLC_CTYPE=C\n"), ({"LC_CTYPE": "C.UTF-8"}, b"1\nLC_CTYPE=C.UTF-8\n")):

@@ -104,7 +104,7 @@ Makefiles = makefiles(__name__, {
     "other_text_from_a_pipe": Small("safe", HERE % "cat ../t | sh", {"t": "[ s -nt t ] && echo newer; true\n", "d/s": "", "d/t": ""}),
     "script_that_bash_takes_in": Small("safe", "SHELL = /bin/bash\nall: a b\na: ; y=2; . ./v; echo $$x > a\nb: ; touch b\n", {"v": "x=1\n"}),
     # the same of a script
-    "file_that_is_there_beside_folders": Small("safe", SCRIPT.replace("a b", "b a", 1) % "touch y d/y", {"s": DEEP}, TREE),
+    "file_that_is_there_beside_folders": Small("safe", SCRIPT.replace("a b", "b a", 1) % "touch y d/y", {"s": DEEP}, TREE, is_tried=True),
     "folder_that_was_a_file_and_is_named": Small("race", SCRIPT % "rm y; mkdir y", {"s": "for f in y/*.c; do echo $f; done\n"}, TREE + "; touch y"),
     "folder_that_a_path_by_way_of_proc_leaves_again": Small("race", WAY % "/proc/self/cwd/d/../f", {"f": ""}, says=IS_THERE),
     # folders that several recipes give an owner

@@ -98,7 +98,7 @@ class Places(unittest.TestCase):
         with support.Project({"b/build.ninja": RULES + sh("../gen/a", "", "echo 1 > ../gen/a")}) as project:
             project.sh("ninja -C b > /dev/null")
             before = state(project)
-            words = [str(support.RECORDER), "--race", support.race_program(), "--fresh", "--", *BUILD]
+            words = [str(support.RECORDER), "--once", "--race", support.race_program(), "--fresh", "--", *BUILD]
             for number in range(1, 9):
                 inject = ["strace", "-o", os.devnull, "-e", "inject=rename,renameat,renameat2:signal=TERM:when=%d" % number]
                 ended = subprocess.run([*inject, *words], cwd=project.folder, capture_output=True, timeout=support.SECONDS, check=False)

@@ -15,8 +15,6 @@ Makefiles = makefiles(__name__, {
     "copy_of_make": Small("no verdict", "all: ; +./other -s -f in.mk\n", {"in.mk": "all: ; touch all\n"}, "cp $(command -v make) other", says="ran past the recorder"),
     "another_make": Small("no verdict", "export PATH := $(CURDIR)/bin:$(PATH)\nall: ; make -s -f in.mk\n", {"in.mk": "all: ; touch all\n"}, "mkdir bin; cp /bin/true bin/make", says="ran past the recorder"),
     "script_that_is_called_make": Small("safe", "all: ; ./make all\n", {"make": "#!/bin/sh\ntouch $1\n"}, "chmod +x make"),
-    "macro_of_lines_of_a_makefile_that_goes": Small("race", "all: s a b z\ninclude in.mk\ns: ; touch s\na: s ; $(set)\nb: ; echo '$(X)' > b\nz: a b ; rm in.mk; touch z\n",
-                                                    {"in.mk": "define set\n$(eval X := set)\ntouch a\nendef\n"}),
     # folders that are made, where something shows who made them
     "folder_made_or_true_and_traced": Small("race", "all: a b\na b: ; set -x; exec 2> $@; mkdir d 2> /dev/null || true\n"),
     "folder_made_or_true_and_traced_by_a_word": Small("race", ".SHELLFLAGS = -xc\nall: a b\na b: ; exec 2> $@; mkdir d 2> /dev/null || true\n"),

@@ -2,16 +2,14 @@
 
 import unittest
 from types import SimpleNamespace
-from typing import Dict, cast
+from typing import cast
 
 from record.build.assumptions import Assumptions
 from record.make.considered import Considered, is_by_search, is_row, takes_for_file
-from record.make.database import Base, read_base
-from record.make.macros import Macros
+from record.make.database import read_base
 from record.make.memory import Lists, keeps_lists
 from record.make.owners import Make
 from record.make.targets import looked_with
-from record.make.unfiled import set_by_expansion
 from record.make.words import Words
 from record.trace.events import MAKE_LISTED
 from test_small import Small, makefiles
@@ -29,11 +27,6 @@ FILES = {"t.y": "y", "t.s": "s"}
 FOUND = "all: w %s\n%%.o: %%.c ; echo c > $@\n%%.o: %%.s ; echo s > $@\n%%.d: %%.c ; echo d > $@\n%s: %%.y | w ; echo y > $*.q; touch t.c\nw: ; echo w > t.c; touch w\n"
 AWAY = "all: g x.o\n%.o: d/%.c ; echo c > $@\n%.o: %.s ; echo s > $@\ng: ; mv d e; touch g\n"
 IN_FOLDER = {"x.s": "s", "d/x.c": "c"}
-def macros_of(text: str, values: Dict[str, str], version: str) -> Macros:
-    """The macros of a make of some version, whose makefile has this text."""
-    words = Words(7, 0, version=version, read=[["Makefile"]])
-    make = SimpleNamespace(words=words, known_text=lambda name: text, stale=set(), never_read=lambda name: False)
-    return Macros(cast(Make, make), Base(values=values))
 Makefiles = makefiles(__name__, {
     # what make looks for when it first considers a target, though what that needs is made later
     "search_before_what_a_target_needs": Small("race", "all: gen sub/z.t\n" + TWO_RULES + "gen: ; rm sub/z.a; touch gen\nsub/z.b: gen ; echo b > $@\n", {"sub/z.a": "a"}),
@@ -112,15 +105,6 @@ class Versions(unittest.TestCase):
         for version, wanted in (("4.3", [True] * 5), ("4.4", [True, False, True, False, False])):
             lists = Lists(cast(Make, SimpleNamespace(words=Words(1, 0, version=version), life=life)))
             self.assertEqual(wanted, [lists.has(folder, start) for folder, start in (("d", 4), ("d", 6), ("d", 7), ("d", 9), ("e", 9))], version)
-
-    def test_macros_that_second_expansions_set(self) -> None:
-        for rule, wanted in (("b: $$(set)", "none X"), ("b: $(also)", "none X"), ("b: $(set)", "none none"), ("b: $(set) $$(other)", "none none"),
-                             ("b: $(value set)", "none X"), ("b: $(subst !,$$,!(set))", "none *"), ("b: $$$$(set)", "none X"), ("two = b: $$$$(set)\n$(eval $(two))", "none X"),
-                             ("two = b: $$(set)\n$(two)", "none X"), ("two = b: $$(set)", "none none"), ("b: $$@ $${other} $$(@D) $$x", "none none")):
-            text = "set = $(eval X := 2)\nalso = $$(set)\nother = 1\n" + rule + "\n"
-            values = {"set": "$(eval X := 2)", "also": "$$(set)", "other": "1", "two": "b: $$$$(set)" if "eval $(two)" in rule else "b: $$(set)"}
-            found = [set_by_expansion(macros_of(text, values, version)) for version in ("4.3", "4.4")]
-            self.assertEqual(wanted, " ".join("".join(sorted(one)) or "none" for one in found), rule)
 
     def test_targets_at_which_make_looks_together(self) -> None:
         for version, name, ran, wanted in (("4.3", "x", "", []), ("4.4", "x", "", ["y"]), ("4.4", "x", "x", ["y"]), ("4.4", "x", "y", []), ("4.4", "y", "", [])):

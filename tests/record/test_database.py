@@ -5,7 +5,6 @@ from typing import List
 
 import support  # noqa: F401
 from record.make.database import Base, Colons, read_base
-from record.make.references import composes
 from record.trace.strace import folders, said, texts
 from test_small import Small, makefiles
 
@@ -99,7 +98,7 @@ class Lines(unittest.TestCase):
 
     def test_macro_of_one_target(self) -> None:
         base = read_base(["# Files", "", "# makefile (from 'Makefile', line 2)", "a: X = 1", "a:: s", "# automatic", "# @ := a", "", "b: t"])
-        self.assertEqual(({"a"}, ["s"], ["t"]), (base.scoped, base.prerequisites["a"], base.prerequisites["b"]))
+        self.assertEqual((["s"], ["t"]), (base.prerequisites["a"], base.prerequisites["b"]))
 
     def test_archive_member(self) -> None:
         self.assertEqual(["a.o"], self.prerequisites("lib.a(a.o): a.o"))
@@ -109,6 +108,7 @@ Makefiles = makefiles(__name__, {
     # what make looks for when it first considers a target, though what that needs is made later
     "search_path_of_a_pattern": Small("race", "vpath %.c v w\nall: g t\ng: ; rm v/x.c; touch g\nt: x.c ; touch t log\n", {"v/x.c": "1", "w/x.c": "2", "t": "t"}, "touch -d 2001-01-01 w/x.c; touch -d 2002-01-01 t"),
     # one job at a time
+    "target_that_begins_like_a_remark": Small("no verdict", "all: a \\#\\ b\na: ; touch a\n\\#\\ b: ; touch '# b'\n", says="does not show the recipe of a target that ran: # b"),
     "not_parallel_as_a_prerequisite": Small("race", ROW % ("", "c: .NOTPARALLEL\n")),
     "not_parallel": Small("safe", ROW % ("", ".NOTPARALLEL:\n")),
 })
@@ -129,14 +129,34 @@ class Texts(unittest.TestCase):
         args = found.args if found is not None else ""
         self.assertEqual((['1<"', "2>"], ['/q\\"4', "/r"]), (texts(args), folders(args)))
 
-    def test_names_of_functions(self) -> None:
-        for text in ("$(call $(E)al,x)", "$(call e$E,x)", "${call ${A}${B},x}", "F = $(E)al\n$(call $(F),x)"):
-            self.assertTrue(composes(text, "eval"), text)
-        for text in ("$(call $(F),x)", "$(call $(1)_rule,x)", "F = $(E)al", "$(E)val $(call f,x)", "$(call f,$(E)al)"):
-            self.assertFalse(composes(text, "eval"), text)
+    def test_macros_of_a_data_base(self) -> None:
+        base = read_base(["# makefile (from 'M', line 1)", "a b := 1", "# makefile (from 'M', line 2)", "V := 1", "2 = 3", "# default", "W = $(x)", "# makefile (from 'M', line 3)", "define two", "define in",
+                          "endef", "\tendef", "last", "endef", "# makefile (from 'M', line 9)", "x:y += 4", "# automatic", "# Y := 3"])
+        self.assertEqual({"V": "1", "W": "$(x)", "two": "$(lines)*"}, base.values)
+        self.assertEqual({"a": ["a b := 1"], "V": ["2 = 3"], "two": ["define in", "endef", "\tendef", "last"], "x": ["x:y += 4"], "Y": ["# Y := 3"]}, base.bodies)
+
+    def test_lines_that_are_in_no_pairs(self) -> None:
+        base = read_base(["# environment", "define E", "define in", "endef", "# makefile (from 'M', line 1)", "V := 1", "# variable set hash-table stats:", "# Load=1"])
+        self.assertEqual({"E": "$(lines)*", "V": "1"}, base.values)
+        self.assertEqual({"E": ["define in", "endef"]}, base.bodies)
+
+    def test_lines_that_go_on(self) -> None:
+        base = read_base(["# makefile (from 'M', line 1)", "define two", "foo \\", "endef", "x", "endef", "# default", "V := 1"])
+        self.assertEqual({"two": ["foo \\", "endef", "x"]}, base.bodies)
 
     def test_not_parallel_that_is_no_target(self) -> None:
         head = ["# Make data base", "# Files", ""]
         self.assertTrue(read_base([*head, ".NOTPARALLEL:"]).serial)
         self.assertFalse(read_base([*head, "# Not a target:", ".NOTPARALLEL:"]).serial)
         self.assertTrue(read_base([*head, "# Not a target:", "x:", "", ".NOTPARALLEL:"]).serial)
+
+    def test_macro_that_is_called_define(self) -> None:
+        self.assertEqual({"define": "1"}, read_base(["# makefile (from 'M', line 1)", "define = 1"]).values)
+
+    def test_value_of_several_lines(self) -> None:
+        base = read_base(["# makefile (from 'M', line 1)", "V := 1", "two", "# three", "# default", "W = 2"])
+        self.assertEqual(({"V": "1", "W": "2"}, {"V": ["two", "# three"]}), (base.values, base.bodies))
+
+    def test_recipe_with_an_empty_line(self) -> None:
+        base = read_base(["# Files", "", "a: s", "#  recipe to execute (from 'M', line 2):", "\techo a; \\", "", "\techo b", "", "b:"])
+        self.assertEqual(["echo a; \\", "echo b"], [line for line in base.recipes["a"] if line])

@@ -49,7 +49,6 @@ Makefiles = makefiles(__name__, {
     "ages_that_an_archive_keeps": Small("race", "all: ; $(MAKE) -f a.mk; tar cf t x y b.mk; mkdir i; tar xf t -C i; $(MAKE) -C i -f b.mk\n", {"a.mk": FIRST, "b.mk": AGAIN}),
     "ages_that_an_archive_of_another_recipe_keeps": Small("race", "all: p u\np: ; $(MAKE) -f a.mk; tar cf t x y b.mk\nu: p ; mkdir i; tar xf t -C i; $(MAKE) -C i -f b.mk\n", {"a.mk": FIRST, "b.mk": AGAIN}),
     "ages_that_copies_do_not_keep": Small("safe", "all: ; $(MAKE) -f a.mk; mkdir i; cp y i; cp x b.mk i; $(MAKE) -C i -f b.mk\n", {"a.mk": FIRST, "b.mk": AGAIN}),
-    "names_in_their_order_for_a_script": Small("safe", "all: a b\ns: ; touch s\na: s ; touch d/a\nb: ; touch d/b\n", {"d/k": ""}, says="programs that list a folder"),
     # folders and links
     "age_of_a_folder_for_a_make_behind_another": Small("race", "all: ; $(MAKE) -f a.mk; $(MAKE) -f b.mk\n", {"a.mk": "all: q y\ns: ; touch s\nq: s ; mkdir d; touch q\ny: ; touch y\n", "b.mk": "all: y\ny: d ; echo again >> y\nd: ;\n"}),
     "age_of_an_empty_folder": Small("race", FOLDER % ("mkdir d", NEWER)),

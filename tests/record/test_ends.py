@@ -10,7 +10,6 @@ import threading
 import time
 import unittest
 from concurrent.futures import ThreadPoolExecutor
-from contextlib import suppress
 from pathlib import Path
 from typing import Optional, Sequence
 from unittest import mock
@@ -21,6 +20,7 @@ from record import folder as places
 from record.entry import STOPPING, end_traced, have_ended
 from record.folder import Taken, alone as alone_at, aside, come_back, move
 from record.messages import printable, reason
+from record.orders.processes import below, children_of, shown, words_of
 from record.trace.pipe import Pipe
 from record.watch.lay import Watch
 
@@ -53,15 +53,6 @@ def is_alive(pid: str) -> bool:
         return False
 
 
-def child_of(pid: int) -> int:
-    """The only process that a process has started."""
-    for one in filter(str.isdigit, os.listdir("/proc")):
-        with suppress(OSError):  # it has ended
-            if Path("/proc", one, "stat").read_text().rpartition(")")[2].split()[1] == str(pid):
-                return int(one)
-    raise AssertionError("nothing was started by %d" % pid)
-
-
 class Signals(unittest.TestCase):
     """A signal while a build runs."""
 
@@ -70,7 +61,7 @@ class Signals(unittest.TestCase):
         with support.Project(SLOW) as project:
             process = started(project)
             process.send_signal(signal.SIGSTOP)
-            os.kill(child_of(process.pid), signal.SIGKILL)
+            os.kill(next(pid for pid in children_of(process.pid) if shown(pid, "comm") == "strace\n"), signal.SIGKILL)
             process.send_signal(signal.SIGTERM)
             process.send_signal(signal.SIGCONT)
             status = process.wait(60)
@@ -116,6 +107,21 @@ class Signals(unittest.TestCase):
             with subprocess.Popen(["true"]) as strace:
                 strace.wait()
                 self.assertEqual((True, looks), (have_ended(strace, left), left.call_count))
+
+    def test_builds_beside_it(self) -> None:
+        """They end with it, and nothing is left of them."""
+        for number, to_all in ((signal.SIGTERM, False), (signal.SIGINT, True)):
+            with support.Project(SLOW) as project:
+                process = started(project)
+                until = time.monotonic() + 60
+                while [words_of(pid)[:1] for pid in below(process.pid) if shown(pid, "comm") == "sleep\n"] != [["S"]] * 3 and time.monotonic() < until:
+                    time.sleep(0.05)
+                pids = [pid for pid in below(process.pid) if pid != process.pid]
+                outputs = [os.readlink("/proc/%d/fd/1" % pid) for pid in pids if shown(pid, "comm") == "cat\n"]
+                os.killpg(process.pid, number) if to_all else process.send_signal(number)
+                self.assertEqual(3, process.wait(60))
+                process.communicate(timeout=60)
+                self.assertEqual((2, [], []), (len(outputs), [pid for pid in pids if is_alive(str(pid))], [path for path in outputs if os.path.exists(Path(path).parents[1])]))
 
     def test_terminated(self) -> None:
         self.stopped(signal.SIGTERM)

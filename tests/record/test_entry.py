@@ -75,7 +75,7 @@ class Pythons(unittest.TestCase):
     def test_modules_of_the_user(self) -> None:
         with Project({"Makefile": "all: ; @echo $$PYTHONPATH > all\n", "mine/json.py": "raise SystemExit('mine')\n", "mine/argparse.py": "raise SystemExit('mine')\n"}) as project:
             for name in filter(lambda name: (TOP / name).is_dir(), LINES):
-                words = [sys.executable, str(TOP / name / ("race-" + name)), *(["--race", race_program(), "--", "make"] if name == "record" else ["--help"])]
+                words = [sys.executable, str(TOP / name / ("race-" + name)), *(["--once", "--race", race_program(), "--", "make"] if name == "record" else ["--help"])]
                 ran = subprocess.run(words, cwd=project.folder, env={**os.environ, "PYTHONPATH": "mine"}, capture_output=True, text=True, timeout=60, check=False)
                 self.assertEqual((0, ""), (ran.returncode, ran.stderr))
             self.assertEqual("mine\n", (project.folder / "all").read_text())
@@ -160,7 +160,7 @@ class Locales(unittest.TestCase):
             (project.folder / "Makefile").write_bytes(NAMES)
             found = []
             for locale in ({"LC_ALL": "C.UTF-8"}, *LOCALES):
-                project.sh("rm -f *.o *.h")
+                project.sh("rm -rf *.o *.h .race")
                 found.append(self.ran("record", ["--", "make"], project.folder, locale))
             self.assertEqual([found[0]] * len(found), found)
             self.assertEqual((1, True), (found[0][0], "RACE  \u00e9.h\n".encode() in found[0][1]), found[0])

@@ -35,6 +35,14 @@ class Failed(unittest.TestCase):
         self.assertEqual([END + "; the recipe of b failed first (Makefile:4, make)"], holes)
         self.assertEqual(["if `make -j1` fails without race-record too, repair that first; if not, report it"], hints)
 
+    def test_what_comes_before_the_build(self) -> None:
+        for setup, status in (("./configure", 127), ("make -s b; false", 1), ("exit 0", 0)):
+            with support.Project({"Makefile": "all: ; touch all\nb: ; touch b\n"}) as project:
+                outcome = project.record(options=("--fresh", "--setup", setup))
+            assert outcome.record is not None
+            self.assertEqual((2, ["%s ended with status %d, before the build" % (setup, status)]), (outcome.status, outcome.record["holes"]))
+            self.assertEqual(["the build did not begin: repair what stands behind --setup first"], outcome.record["hints"])
+
     def test_prerequisite_that_was_forgotten(self) -> None:
         lacks = "all: sub/a.o gen.h\nsub/a.o: ; cat gen.h > $@\n"
         self.assertEqual(["sub/a.o looks for gen.h, which Makefile:4 makes, and does not wait for it. Write the rule sub/a.o: gen.h"], self.failed(lacks + "gen.h:\n\techo > $@\n", {"sub/x": ""})[1])

@@ -5,7 +5,7 @@ import unittest
 from typing import List
 
 import support  # noqa: F401
-from record.tools.findwords import find_patterns
+from record.trace.findwords import find_patterns
 from record.trace.lives import Life
 from test_small import Small, makefiles
 

@@ -12,6 +12,7 @@ from unittest import mock
 
 import support
 from record import fresh
+from record.first_tree import FirstTree
 
 GIT = "git init -q . && git add -A && git -c user.name=x -c user.email=x@y commit -qm x"
 DEPFILES = {
@@ -58,6 +59,10 @@ class Left(unittest.TestCase):
         self.assertEqual(0, outcome.status, outcome.text())
         self.assertRegex(outcome.text(), r"\n      for a checkout of [0-9a-f]{7,}\n")
 
+    def test_cache_of_one_recipe(self) -> None:
+        files = {"Makefile": "all: a b\na: ; if test -f c; then cp c a; else cat b > a; fi; cp a c\nb: ; echo > b\nclean: ; rm -f a b\n"}
+        self.warm(files, "echo > c", "c")
+
     def test_name_that_a_list_shows(self) -> None:
         files = {"Makefile": "all: a b\na: ; ls p > a\nb: ; echo > p/b; touch b\nclean: ; rm -f a b\n", "p/k": ""}
         self.warm(files, GIT + "; make -s; make -s clean", "p/b")
@@ -68,6 +73,25 @@ class Left(unittest.TestCase):
         files = {"Makefile": "all: obj/a\nobj/a: ; echo > obj/a\n"}
         self.warm(files, GIT + "; mkdir obj", "obj")
         self.assertEqual(0, self.recorded({"Makefile": "all: obj/a\nobj/a: ; mkdir -p obj; echo > obj/a\n"}, GIT + "; mkdir obj").status)
+
+    def test_folder_that_not_all_wait_for(self) -> None:
+        for prep in ("mkdir -p obj", "-mkdir obj", "test -d obj || mkdir obj"):
+            self.warm({"Makefile": "all: prep a\na: ; cd obj && echo > a\nprep: ; %s\n" % prep}, GIT + "; mkdir obj", "obj")
+
+    def test_folder_that_all_wait_for(self) -> None:
+        for makefile in ("a b: ; mkdir -p obj; echo > obj/$@\n", "a b: prep ; echo > obj/$@\nprep: ; mkdir -p obj\n", "a b: ; echo > obj/$@\nX := $(shell mkdir -p obj)\n",
+                         "a: ; mkdir -p obj; $(MAKE) -f in.mk\nb: ;\n"):
+            outcome = self.recorded({"Makefile": "all: a b\n" + makefile, "in.mk": "c: ; echo > obj/c\n"}, GIT + "; mkdir obj")
+            self.assertEqual(0, outcome.status, outcome.text())
+
+    def test_folder_that_two_make(self) -> None:
+        self.warm({"Makefile": "all: a b\na b: ; -mkdir obj\n"}, "mkdir obj", "obj")
+        self.warm({"Makefile": "all: a b\na: ; mkdir -p -m 700 obj\nb: ; mkdir -p obj\n"}, "mkdir obj", "obj")
+        self.assertEqual(0, self.recorded({"Makefile": "all: a b\na: ; mkdir -p -m 700 obj\nb: a ; mkdir -p obj\n"}, "mkdir obj").status)
+
+    def test_name_that_could_not_be_made(self) -> None:
+        for recipe in ("ln -s src h", "python3 -c \"open('h', 'x')\""):
+            self.warm({"Makefile": "all: a b\na: ; -%s\nb: ; cat h > b\n" % recipe, "src": ""}, "echo > h", "h")
 
     def test_changed_files_are_counted(self) -> None:
         self.assertIn(" with 1 changed file\n", self.recorded(SAFE, GIT + "; echo 2 > src").text())
@@ -126,11 +150,23 @@ class Fresh(unittest.TestCase):
             self.assertEqual(0, outcome.status, outcome.text())
             self.assertIn(", without 2 files that an earlier build left (a, b)%s\n" % end, outcome.text())
 
+    def test_new_file_that_a_recipe_writes(self) -> None:
+        """It is no source, and without it its folder is not there."""
+        files = {"Makefile": "all: d a\na: ; test -d d; : >> d/log; touch a\nd: ; test -d d || mkdir d\nclean: ; rm -f a\n", ".gitignore": "a\n"}
+        outcome = self.fresh(files, GIT + "; make -s; make -s clean")
+        self.assertEqual(1, outcome.status, outcome.text())
+
+    def test_repository_in_the_tree(self) -> None:
+        files = {"Makefile": "all: p a\np: ; test -f sub/h || echo > sub/h\na: ; cat sub/h > a\n", ".gitignore": "a\n", "sub/k": ""}
+        outcome = self.fresh(files, "cd sub; %s; echo > h; cd ..; %s" % (GIT, GIT.replace("-A", "Makefile .gitignore")))
+        self.assertEqual((1, ["sub/h"]), (outcome.status, support.races_of(outcome.text())), outcome.text())
+
     def test_what_an_earlier_build_cannot_do_without(self) -> None:
         """Where the build fails without it, the record of the tree with it stays."""
         outcome = self.fresh({"Makefile": "all: a b\na: p ; cat p > a\nb: ; echo > b\np: ; false\nclean: ; rm -f a b\n", "p": ""}, "make -s")
         self.assertEqual(2, outcome.status)
         self.assertIn("WARM  1 file", outcome.text())
+        self.assertIn(b"the build fails without that", outcome.stderr)
 
     def test_no_rule_cleans(self) -> None:
         outcome = self.fresh({**SAFE, "Makefile": SAFE["Makefile"].replace("clean", "tidy")}, "make -s")
@@ -165,6 +201,14 @@ class Fresh(unittest.TestCase):
     def test_git_in_the_tree(self) -> None:
         outcome = self.fresh({"Makefile": "all: ; git describe --always --dirty > v && ! grep dirty v\n", ".gitignore": "v\n.race\n"}, GIT)
         self.assertEqual(0, outcome.status, outcome.text() + outcome.stderr.decode())
+
+    def test_work_tree_without_git(self) -> None:
+        real = shutil.which
+        with support.Project(SAFE) as project, mock.patch.object(fresh, "tree_of", FirstTree), mock.patch.object(shutil, "which", lambda name: real(name) if name != "git" else None):
+            project.sh("mkdir .git")
+            outcome = project.record(options=["--fresh"])
+        self.assertEqual(3, outcome.status)
+        self.assertIn(b"git is missing", outcome.stderr)
 
     def test_without_mounts(self) -> None:
         with mock.patch.object(fresh, "can_lay", return_value=False):

@@ -161,5 +161,5 @@ Makefiles = makefiles(__name__, {
     "folder_made_twice": Small("safe", PAIR % "mkdir -p out; touch out/y; mkdir -p out"),
     "folder_made_behind_its_use_and_waited_for": Small("safe", PAIR.replace("y: ;", "y: x ;") % "touch out/y; mkdir -p out"),
     # folders that make itself makes for a recipe
-    "folder_that_make_makes_ahead": Small("safe", FIRST % "" + "out/b: ; $(F)\n\techo b > $@\n"),
+    "folder_that_make_makes_ahead": Small("safe", FIRST % "" + "out/b: ; $(F)\n\techo b > $@\n", is_tried=True),
 })

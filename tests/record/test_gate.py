@@ -18,7 +18,8 @@ from record.watch.lay import Watch, makes_of
 class Gates(unittest.TestCase):
     """Builds whose recipes wait."""
 
-    def began(self, files: Dict[str, str], words: Sequence[str], place: Callable[[str], float] = lambda name: 0.0, after: Sequence["tuple[str, str]"] = ()) -> List[List[str]]:
+    def began(self, files: Dict[str, str], words: Sequence[str], place: Callable[[str], float] = lambda name: 0.0, after: Sequence["tuple[str, str]"] = (),
+              is_flipped: bool = False) -> List[List[str]]:
         """The recipes as they began: of each the targets from the outermost make on."""
         top = Path(tempfile.mkdtemp(prefix="race-gate-"))
         self.addCleanup(shutil.rmtree, top)
@@ -28,14 +29,14 @@ class Gates(unittest.TestCase):
             def key(name: str) -> Key:
                 return ((folder, name, 1),)
 
-            gate = Gate(top, Places(place), {key(late): {key(early)} for late, early in after})
+            gate = Gate(top, Places(place), {key(late): {key(early)} for late, early in after}, is_flipped)
             with gate.listen() as listener:
                 watch = Watch(str(top), str(top / "gate"))
                 watch.prepare(makes_of(os.environ["PATH"]))
                 if not watch.covered:
                     self.skipTest("the system gives no mounts")
                 process = subprocess.Popen(words, cwd=folder, preexec_fn=watch.lay, start_new_session=True, stdout=subprocess.PIPE)
-                self.assertTrue(gate.serve(process.pid, listener, lambda: process.poll() is not None, 60))
+                self.assertTrue(gate.serve(process.pid, listener, lambda: process.poll() is not None, lambda: 60))
                 end(process.pid)
                 assert process.stdout is not None
                 self.output = process.stdout.read().decode()
@@ -47,6 +48,12 @@ class Gates(unittest.TestCase):
         """The greatest place first, of those that are ready."""
         found = self.began({"Makefile": "all: a b c\na b c: ; @echo $@\nb: c\n"}, ["make", "-j9"], lambda name: "acb".index(name))
         self.assertEqual(([["c"], ["b"], ["a"]], "c\nb\na\n"), (found, self.output))
+
+    def test_last_that_came(self) -> None:
+        """Where no place says more: what becomes ready later comes later, and of those the last one."""
+        files = {"Makefile": "all: b a d c\na b c d e: ; @echo $@\nd: e\n"}
+        self.assertEqual([["c"], ["e"], ["d"], ["a"], ["b"]], self.began(files, ["make", "-j9"], is_flipped=True))
+        self.assertEqual([["b"], ["a"], ["e"], ["c"], ["d"]], self.began(files, ["make", "-j9"]))
 
     def test_fixes(self) -> None:
         """One waits for another that it does not name."""
@@ -92,7 +99,7 @@ class Gates(unittest.TestCase):
         gate = Gate(top, {})
         with gate.listen() as listener:
             process = subprocess.Popen(["sleep", "60"], start_new_session=True)
-            self.assertFalse(gate.serve(process.pid, listener, lambda: process.poll() is not None, 0.5))
+            self.assertFalse(gate.serve(process.pid, listener, lambda: process.poll() is not None, lambda: 0.5))
             end(process.pid)
             self.assertEqual(-9, process.wait())
 

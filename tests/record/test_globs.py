@@ -62,13 +62,6 @@ Makefiles = makefiles(__name__, {
     "macro_that_the_environment_gives_for_good": Small("safe", "export P = z\n" + INSIDE, {"in.mk": "P ?= k\n%s" % ASKS.replace("> a", "> a; rm -f *.q")}),
     # a loop over the names of macros
     "loop_over_names_of_macros": Small("safe", OTHER_LOOPS % "\nL = A B"),
-    "loop_over_names_of_macros_that_set_another": Small("race", OTHER_LOOPS % "$(set)\nL = A B"),
-    "loop_over_names_in_another_macro": Small("race", OTHER_LOOPS % "\nL = A $(K)\nK = B set"),
-    "loop_over_names_that_are_put_together": Small("race", OTHER_LOOPS % "\nL = $(subst x,e,A sxt)"),
-    "loop_over_names_in_another_loop": Small("race", OTHER_LOOPS.replace("$(if $($(x)),-D$(x))", "$(foreach x,set,$($(x)))") % "\nL = A B"),
-    "loop_over_names_and_a_name_beside_it": Small("race", "x = set\n" + OTHER_LOOPS.replace("echo $(F)", "echo $(foreach x,$(L),$($(x)))$($(x))") % "\nL = A B"),
-    "eval_whose_name_is_put_together": Small("race", LATE % ("E = ev\n", "$(call $(E)al,V = 2)", "echo $(V)")),
-    "eval_whose_name_a_macro_puts_together": Small("race", LATE % ("E = ev\nF = $(E)al\n", "$(call $(F),V = 2)", "echo $(V)")),
     "wildcard_whose_name_is_put_together": Small("race", FINDS % ("W = wild\n", "$(call $(W)card,d/*.x)"), {"d/k": ""}),
     "function_whose_name_is_put_together": Small("safe", FINDS % ("W = g\ng_f = 1\n", "$(call $(W)_f)$(wildcard d/*.q)"), {"d/k": ""}),
     # rules of no goal: make looks for what they need, too

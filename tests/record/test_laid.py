@@ -170,8 +170,10 @@ class Covered(Recorded):
         for text, wanted in ((RACE, 1), (ORDERED, 0)):
             with support.Project({"Makefile": "all: ; +@chmod 777 .; %s -c \"import os; os.setuid(65534); os.execvp('make', ['make', '-f', 'in.mk'])\"\n" % sys.executable, "in.mk": text}) as project:
                 project.folder.parent.chmod(0o755)
-                found = project.record()
+                found = project.record(once=False)
             self.assertEqual(wanted, found.status, found.text())
+            self.assertNotIn("whatever the order", found.text())
+            self.assertNotIn("not built in other orders", found.text())
 
 
 class Preloaded(Recorded):

@@ -66,6 +66,7 @@ HOLES: Dict[str, Case] = {
     "target's own": Case("all: a g\na: V := $(wildcard g)\na: list\n\techo $(V) > a\ng: list\n\tcp list g\n", "the macro V is another one in the recipe of a"),
     "several lines": Case("all: a\nifneq ($(wildcard a),)\ndefine V\necho 1 > a\nendef\nelse\ndefine V\necho 2 > a\nendef\nendif\na: list\n\t$(V)\n",
                           "the macro V is another one in the recipe of a"),
+    "macro in one of several lines": Case("ifneq ($(wildcard a),)\nV += 2\nendif\ndefine W\necho $(V) > a\nendef\na: list\n\t$(W)\n", "the macro V is another one in the recipe of a"),
     "export": Case("export V := $(wildcard a)\na: list\n\techo $$V > a\n", "the macro V is another one in the recipe of a"),
     "recipe": Case("all: a\nifeq ($(wildcard a),)\na: list\n\tcp list a\nelse\na: list\n\tcat list h.h > a\nendif\n", "the recipe of a is another one"),
     "less": Case(".PHONY: all in\nall: $(if $(wildcard in/x),,in)\n\tcat in/x > a\nin:\n\t$(MAKE) -C in\n", "all does not need in any more"),

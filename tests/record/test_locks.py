@@ -58,6 +58,7 @@ LOCKS: Dict[str, Small] = {
     "age_behind_both": Small("race", "all: c\na b: ; flock lock touch $@\ny: ; touch y\nc: a b y ; test lock -nt y && echo yes > c || touch c\n"),
     "file_by_its_number": Small("race", "all: a b\nx: ; touch x\na b: x ; flock lock -c 'test /dev/fd/3 -nt x && echo yes' > $@ || true\n"),
     # makes inside
+    "age_that_an_unknown_program_under_it_asks_for": Small("safe", "all: a b\na b: ; flock lock ./s -Lc %s /dev/fd/3 > $@\n", {"s.c": ""}, setup="cp $(command -v stat) s"),
     "locks_of_two_makes": Small("safe", "all: a b\na b: ; $(MAKE) -f in.mk G=$@\n", {"in.mk": "all: $G.x $G.y\n$G.x $G.y: ; flock lock touch $@\n"}),
 }
 

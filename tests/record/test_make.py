@@ -37,27 +37,18 @@ Makefiles = makefiles(__name__, {
     # who makes a folder first
     "folder_that_a_script_makes_too": Small("race", "all: a b\na b: ; sh mk.sh $@; mkdir d 2> /dev/null || true\n", {"mk.sh": "mkdir d 2> /dev/null && echo first > $1 || echo second > $1\n"}),
     # macros that make exports, and those that their values refer to
-    "macro_that_an_exported_one_names": Small("race", LATE % ("W = $(V)\nexport W\n", SETS, SHOWS)),
-    "macro_that_is_exported_by_a_name_in_another": Small("race", LATE % ("W = $(V)\nN = W\nexport $(N)\n", SETS, SHOWS)),
-    "macro_that_the_words_of_make_set": Small("race", "all: ; $(MAKE) -f in.mk x 'W=$$(V)'\n", {"in.mk": LATE.replace("all:", "x:") % ("", SETS, SHOWS)}),
     # what make does for a recipe when that starts, which a bound on the load lets wait
-    "exported_macro_that_reads_a_file": Small("race", LOAD % ("X = $(if $(filter b,$@),$(shell cat x))\nexport X\n", "echo 1 > x")),
     "program_in_a_folder_of_path": Small("race", PATH % "$(CURDIR)/bin", {"bin/k": "", "y": ""}),
     "program_in_a_relative_folder_of_path": Small("race", "all: ; $(MAKE) -C d\n", {"d/Makefile": (PATH % "../bin").replace(" bin/cp", " ../bin/cp"), "bin/k": "", "d/y": ""}),
     "program_in_a_folder_of_path_elsewhere": Small("safe", LOAD.replace("$$X", "$(shell cat x)") % ("export PATH := /usr/bin:$(PATH)\n", "echo 1 > x")),
     # folders that are made
     "folder_made_or_true_in_another_shell": Small("race", "all: a b\na b: ; sh -c 'mkdir d || true' 2> $@.log; touch $@\n"),
     # macros that make sets by the way
-    "macro_that_a_called_function_shows": Small("race", SET % (OTHER_SETS, "echo '$(call value,X)' > b")),
-    "macro_that_an_exported_one_sets": Small("race", "export V = $(eval N := $(N)x)$(N)\n" + SET % ("echo $$V > a", "echo $$V > b")),
     "macros_that_set_others_in_a_script": Small("safe", "set = $(eval $1 := 1)\n$(call set,X)\n" + SET % ("echo '$(X)' > a", "echo '$(X)' > b"), {"build.sh": "make all\n"}),
     # folders that are made, where something shows who made them
     "folder_made_by_a_line_in_a_make_with_errors": Small("race", KEEPS % ("$(MAKE)", "2> log"), {"in.mk": "all: a b\na b:\n\t@-mkdir d\n\t@touch $@\n"}),
     "folder_made_or_true_in_a_make_for_a_program": Small("safe", KEEPS % ("$(MAKE)", "2>&1 | cat > log"), {"in.mk": TWO % "mkdir d || true"}, says="what a make prints does the same"),
     # macros
-    "eval_whose_words_stand_on_the_next_line": Small("race", OTHER_SHOWS % "$(X)" + "a: s\n\t$(eval\\\n\tX := set)touch a\n"),
-    "eval_with_a_new_line_behind_its_name": Small("race", "define both\n$(eval\nX := set)touch $@\nendef\n" + OTHER_SHOWS % "$(X)" + "a: s ; $(both)\n"),
-    "list_of_all_macros_by_a_name_that_is_put_together": Small("race", "of = VARIABLES\n" + OTHER_SHOWS % "$(filter X,$(.$(of)))" + "a: s ; $(eval X := set)touch a\n"),
     "names_of_macros_that_nobody_sets": Small("safe", "of = PHONY\n" + OTHER_SHOWS % "$(filter X,$(MY_$(of)))" + "a: s ; $(eval X := set)touch a\n"),
     # what is worked out once
     "macro_that_keeps_its_value_by_its_name": Small("safe", HEAD + ONCE.replace("cat f", "echo 1").replace("$(1)_V", "V") + EACH),

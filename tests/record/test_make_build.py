@@ -26,12 +26,9 @@ Makefiles = makefiles(__name__, {
     "target_that_is_removed_before": Small("race", TARGET % "g w t", {"t": "t", "x": "x"}, NEW),
     "target_whose_recipe_runs": Small("race", TARGET % "g t w", {"t": "t", "x": "x"}, OLD + "t"),
     # (older makes do so before all recipes, but their data base shows such a macro by the line of a recipe)
-    "macro_that_a_second_expansion_of_a_rule_sets": Small("no verdict", SETS % "b: $$(set) ; touch b"),
     "macro_that_a_second_expansion_by_way_of_another_sets": Small("safe", SETS % "b: $(also) ; touch b\nalso = | $$(call set)", later="no verdict"),
     "macro_that_a_first_expansion_sets": Small("safe", SETS % "b: $(set) $$(call other)\n\ttouch b"),
-    "macro_that_a_second_expansion_of_a_rule_sets_for_nobody": Small("no verdict", SETS.replace("(X)", "(Y)") % "b: $$(set) ; touch b"),
     "macro_by_a_text_as_it_stands": Small("safe", SETS % "b: $(value two) ; touch b\ntwo = $(set)", later="no verdict"),
-    "macro_by_a_dollar_by_itself": Small("no verdict", SETS % "b: $(subst !,$$,!(set)) ; touch b"),
     "macro_of_a_rule_that_an_eval_reads": Small("safe", SETS % "rule = b: $$$$(set) ; touch b\n$(eval $(rule))", later="no verdict"),
     "macro_of_a_rule_that_calls_make": Small("safe", SETS % "define rule\n$(1): $$$$(set) ; touch $(1)\nendef\n$(foreach one,b,$(eval $(call rule,$(one))))", later="no verdict"),
     "macro_of_a_rule_that_a_line_names": Small("safe", SETS % "rule = b: $$(set) ; touch b\n$(rule)", later="no verdict"),

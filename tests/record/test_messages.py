@@ -51,7 +51,7 @@ class NoVerdict(unittest.TestCase):
 
     def test_holes_of_missing_inputs(self) -> None:
         about = {"holes": HOLES, "premises": [], "judged": 0}
-        for own, ends in (([], "docs/RECORD.md"), (["a hole"], "under holes")):
+        for own, ends in (([], "docs/MISSING.md"), (["a hole"], "under holes")):
             question = Question({**written(own), "missing": about, "warm": {"count": 0}}, [], Path("/r"))
             shown = [line for line in missing_text(question, Colours()) if line != "Assumed:"]
             self.assertIn("  - and %d more: /r/record.json has all of them, under holes" % (3 + len(own)), shown)

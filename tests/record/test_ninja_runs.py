@@ -9,7 +9,7 @@ from record.make.owners import Owners
 from record.ninja.build import NinjaBuilder
 from record.ninja.log import Kept
 from record.ninja.runs import Runs
-from record.tools.listed import Calls
+from record.trace.calls import Calls
 from record.trace.lives import Act, Life
 from record.trace.names import Names
 from record.trace.strace import read_trace

@@ -1,9 +1,17 @@
-"""`--orders`: what builds in other orders show of conflicts that are about no file, and what they clear."""
+"""What builds in other orders show of conflicts that are about no file, and what they clear."""
 
+import os
+import socket
+import tempfile
+import time
 import unittest
+from pathlib import Path
 from typing import Dict, Tuple
+from unittest import mock
 
 import support
+
+from record.orders.exploring import has_memory
 
 LISTS = "all: d/a list\nd/a: ; @echo a > d/a\nlist: ; @ls d > list\n"
 AB = "a: ; @echo a > a\nb: ; @echo b > b\n"
@@ -12,14 +20,19 @@ CASES: Dict[str, Tuple[str, Dict[str, str], int, Tuple[str, ...]]] = {
     "list of a folder": (LISTS, {"d/k": ""}, 1, ("RACE  d/a", "  seen where list runs before d/a:", "    list: line 1 is `k`, and `a` after a serial build", "fix: list: d/a")),
     "list that nobody keeps": ("all: a b\na: ; @echo a > a\nb: ; @ls > /dev/null; echo b > b\n", {}, 0, (
         "1 pair that conflicts is in order; 2 builds in other orders left the same 3 files.", "what it did in these builds (1 of 1 pairs")),
+    "names that a list has shown": ("all: a b\na: ; @echo a > d/a; touch a\nb: ; @ls -s d > /dev/null; echo b > b\n", {"d/k": ""}, 0, ("2 builds in other orders left the same",)),
     "which of two is newer": ("all: c\n" + AB + "c: a b ; @cp -u a b; cat b > c\n", {}, 1, ("  seen where b runs before a:", "    b: line 1 is `a`, and `b` after a serial build")),
     "copy of the same": ("all: c\na b: ; @echo same > $@\nc: a b ; @cp -u a b; cat b > c\n", {}, 0, ("in other orders left the same 4 files",)),
     "user between two makers": ("all: a c b\na b: ; @echo > d/$@; echo > $@\nc: ; @ls d | grep -q . && echo some > c || echo none > c\n", {"d/.k": ""}, 1, (
         "  seen where c runs before a:", "    c: line 1 is `none`, and `some` after a serial build")),
     "one order of three": ("all: c\n" + AB + "d: ; @echo d > d\nc: a b d ; @test b -nt a && test a -nt d && echo yes > c || echo no > c\n", {}, 1, ("  seen where d runs before a:",)),
     "build that fails": ("all: b/x u\nb/x: ; @mkdir -p b; echo x > b/x\nu: ; @cp src b/u && echo u > u\n", {"src": ""}, 1, ("  seen where u runs before b/x:", "    the build fails with status 2", "cp: ")),
-    "jobs alone": ("all: a\na: ; @case \"$$MAKEFLAGS\" in *jobserver*) echo many > a ;; *) echo one > a ;; esac\n", {}, 1, (
+    "jobs alone": ("all: a b\na: ; @case \"$$MAKEFLAGS\" in *jobserver*) echo many > a ;; *) echo one > a ;; esac\nb: ; @echo b > b\n", {}, 1, (
         "RACE  with several jobs, whatever the order of recipes is:", "  a: line 1 is `many`, and `one` after a serial build")),
+    "what differs in two serial builds": ("all: d/a list\nd/a: ; @echo a > d/a\nlist: ; @ls d > list; date +%N >> list\n", {"d/k": ""}, 1, ("RACE  d/a", "note: two serial builds differ in list")),
+    "macro that another recipe sets": ("all: s a b\ns: ; @touch s\na: s ; $(eval X := set)@touch a\nb: ; @echo x$(X) > b\n", {}, 1, (
+        "RACE  with several jobs, whatever the order of recipes is:", "  b: line 1 is `x`, and `xset` after a serial build")),
+    "macro that make expands in one order": ("all: s a b\ns: ; @touch s\na: s ; $(eval X := set)@touch a\nb: s ; @echo x$(X) > b\n", {}, 0, ("in other orders left the same 4 files",)),
     "make in a recipe": ("all: d/a sub\nd/a: ; @echo a > d/a\nsub: ; @$(MAKE) -s -C s\n\t@touch sub\n", {"d/k": "", "s/Makefile": "list: ; @ls ../d > list\n"}, 1, (
         "  seen where sub runs before d/a:", "    s/list: line 1 is `k`, and `a` after a serial build")),
     "time of day": ("all: a b\na b: ; @date +%N > $@\n", {}, 0, ("note: two serial builds differ in a, b, so other orders are not compared there",)),
@@ -34,7 +47,7 @@ class Orders(unittest.TestCase):
     def case(self, name: str) -> None:
         makefile, files, status, wanted = CASES[name]
         with support.Project({"Makefile": makefile, **files}) as project:
-            found = project.record(options=("--orders",))
+            found = project.record(once=False)
         text = found.text()
         for line in wanted:
             self.assertIn(line, text)
@@ -42,15 +55,121 @@ class Orders(unittest.TestCase):
 
     def test_number_of_builds_is_said_before_they_begin(self) -> None:
         with support.Project({"Makefile": LISTS, "d/k": ""}) as project:
-            found = project.record(options=("--orders", "3"))
-        self.assertIn(b"race-record: 3 builds in copies, of about ", found.stderr)
+            found = project.record(options=("--orders", "3"), once=False)
+        self.assertIn(b"race-record: two builds in copies run meanwhile; others may follow\nrace-record: 1 build in copies, of a second or less; one more for each step", found.stderr)
         assert found.record is not None
         self.assertEqual([["001", "d/a", "list"]], [[one["build"], one["first"], one["second"]] for one in found.record["orders"]["shown"]])
+
+    def test_seconds_are_said_where_a_former_record_knows_them(self) -> None:
+        with support.Project({"Makefile": "a: ; @sleep 1; touch a\n"}) as project:
+            project.record(once=False)
+            project.sh("rm a")
+            found = project.record(once=False)
+        self.assertRegex(found.stderr, b"race-record: two builds in copies run meanwhile; the last time it took about [1-9] seconds, and 2 builds in copies\n")
+
+    def beside(self, makefile: str) -> support.Outcome:
+        """A record of recipes that use a folder outside of the project, `D`."""
+        with tempfile.TemporaryDirectory() as room, support.Project({"Makefile": "D = %s\n%s" % (room, makefile)}) as project:
+            return project.record(options=("--orders", "2"), once=False)
+
+    def test_what_the_recorded_build_changes_elsewhere(self) -> None:
+        """The flipped build, beside it, would see the file that is there for a while."""
+        found = self.beside("all: a b w c; @rm $D/x\na: ; @echo > $D/x; echo > a\nb: ; @ls $D > b\nw: b; @sleep 2; echo > w\nc: ; @sleep 1; echo > c\n")
+        self.assertEqual((1, True), (found.status, "seen where b runs before a:" in found.text()), found.text())
+
+    def test_names_of_the_recorded_build_that_nobody_knows(self) -> None:
+        """The flipped build lists one of them, so it is made anew."""
+        found = self.beside("all: a b\na: ; @f=$$(mktemp $D/XXXXXX); sleep 2; rm $$f; echo > a\nb: ; @sleep 1; ls $D > b\n")
+        self.assertEqual((0, True), (found.status, "other orders left the same" in found.text()), found.text())
+
+    def test_as_many_as_may_be(self) -> None:
+        makes, lists = "".join("d/%d: ; @echo > $@; sleep 0.1\n" % one for one in range(3)), "list: ; @ls d > /dev/null; echo > list\n"
+        with support.Project({"Makefile": "all: d/0 d/1 d/2 list\n" + makes + lists, "d/k": ""}) as project:
+            found = project.record(options=("--orders", "3"), once=False)
+        assert found.record is not None
+        self.assertEqual(3, found.record["orders"]["made"])
+
+    def test_where_builds_would_disturb_the_recorded_one(self) -> None:
+        """They are made behind it."""
+        with mock.patch("record.orders.builds.have_own_ports", return_value=False):
+            self.case("list of a folder")
+            with support.Project({"Makefile": LISTS, "d/k": ""}) as project:
+                self.assertNotIn(b"meanwhile", project.record(once=False).stderr)
+
+    def test_time_that_passes(self) -> None:
+        """The second serial build runs beside the recorded one, and may leave the same time."""
+        makefile = "all: a b\na: ; @test $$(date +%%s) -ge %d && echo late > a || echo early > a\nb: ; @sleep 4; echo > b\n" % (time.time() + 3)
+        with support.Project({"Makefile": makefile}) as project:
+            found = project.record(once=False)
+        self.assertEqual((0, True), (found.status, "note: two serial builds differ in a, " in found.text()), found.text())
+
+    def test_what_copies_write_elsewhere(self) -> None:
+        """It is theirs alone."""
+        with tempfile.TemporaryDirectory(dir="/var/tmp") as room, support.Project({"Makefile": "all: ; @echo >> %s/x; touch all\n" % room}) as project:
+            project.record(once=False)
+            self.assertEqual("\n", Path(room, "x").read_text())
+
+    def test_port_that_each_build_opens(self) -> None:
+        with socket.create_server(("127.0.0.1", 0)) as server:
+            port = server.getsockname()[1]  # it is free then
+        recipe = "@python3 -c 'import socket, time; s = socket.socket(); s.bind((\"127.0.0.1\", %d)); time.sleep(1); open(\"$@\", \"w\")'" % port
+        with support.Project({"Makefile": "all: a b\na: ; %s\nb: a; %s\n" % (recipe, recipe)}) as project:
+            found = project.record(once=False)
+        self.assertEqual((0, True), (found.status, "other orders left the same" in found.text()), found.text())
+
+    def test_build_that_needs_a_server_of_this_machine(self) -> None:
+        with socket.create_server(("127.0.0.1", 0)) as server:
+            recipe = "@python3 -c 'import socket; socket.create_connection((\"127.0.0.1\", %d)); open(\"$@\", \"w\")'" % server.getsockname()[1]
+            with support.Project({"Makefile": "all: a b\na b: ; %s\n" % recipe}) as project:
+                found = project.record(once=False)
+        self.assertEqual((0, True), (found.status, "other orders left the same" in found.text()), found.text())
+
+    def test_nothing_but_jobs(self) -> None:
+        """No two recipes are blamed for what differs in the order of the serial build."""
+        with support.Project({"Makefile": CASES["jobs alone"][0]}) as project:
+            found = project.record(once=False)
+        assert found.record is not None
+        self.assertEqual([("", "")], [(one["first"], one["second"]) for one in found.record["orders"]["shown"]])
+
+    def test_room_of_the_tmpfs(self) -> None:
+        free = os.statvfs("/")
+        with mock.patch("os.statvfs", return_value=mock.Mock(f_bavail=1000, f_frsize=4096, f_flag=free.f_flag)):
+            self.assertEqual((True, False), (has_memory(1000 * 2047), has_memory(1000 * 2049)))
+
+    def test_premises(self) -> None:
+        """What the builds try out is taken for granted no more; the rest stands in two lines."""
+        files = {"Makefile": "all: a b\na: ; @python3 -Sc 'open(\"a\", \"w\")'\nb: ; @ln -f in b\nc: ; touch c\n", "in": ""}
+        with support.Project(files) as project:
+            found = project.record(once=False)
+        assert found.record is not None
+        kinds = [one["kind"] for one in found.record["assumptions"]]
+        self.assertEqual((3, True, True, False), (found.text().count("\n  - "), "unasked" in kinds, "hard-links" in kinds, "interpreters" in kinds), found.text())
+        self.assertIn("  - what the trace shows, and nobody can judge, does no harm: ", found.text())
+
+    def test_folder_that_ninja_makes_before_a_recipe_begins(self) -> None:
+        manifest = "rule r\n  command = $c\nbuild d/a: r\n  c = echo > d/a\nbuild b: r\n  c = echo > d/b; touch b\n"
+        with support.Project({"build.ninja": manifest}) as project:
+            self.assertEqual(1, project.record(["ninja"], once=False).status)
+
+    def test_name_that_is_no_utf_8(self) -> None:
+        """Its fix holds in the other builds."""
+        with support.Project() as project:
+            (project.folder / "Makefile").write_bytes(b"all: a b\xff\na: ; @echo > a\nb\xff: ; @cat a > $@\n")
+            found = project.record(once=False)
+        self.assertEqual((1, False), (found.status, "the build fails" in found.text()), found.text())
+
+    def test_system_that_gives_no_mounts(self) -> None:
+        """One build is all, and the record says so."""
+        with mock.patch("record.orders.exploring.is_child_able", return_value=False), support.Project({"Makefile": LISTS, "d/k": ""}) as project:
+            found = project.record(once=False)
+        self.assertEqual(1, found.status, found.text())
+        self.assertIn("note: not built in other orders: the system gives no mounts", found.text())
+        self.assertNotIn("seen where", found.text())
 
     def test_statements_of_ninja(self) -> None:
         manifest = "rule r\n  command = $c\nbuild d/a: r\n  c = echo a > d/a\nbuild list: r\n  c = ls d > list\nbuild all: phony d/a list\ndefault all\n"
         with support.Project({"build.ninja": manifest, "d/k": ""}) as project:
-            found = project.record(["ninja"], ("--orders",))
+            found = project.record(["ninja"], once=False)
         self.assertIn("  seen where list runs before d/a:\n    list: line 1 is `k`, and `a` after a serial build\n", found.text())
         self.assertEqual(1, found.status)
 

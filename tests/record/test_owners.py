@@ -1,11 +1,12 @@
 """Words of makes and lives of processes, brought together; what does not fit is a hole."""
 
 import unittest
+from collections import Counter
 from typing import List, Optional, Tuple
 
-import support  # noqa: F401
+import support
 from record.failed import failures
-from record.make.owners import Owners
+from record.make.owners import Make, Owners
 from record.make.words import Words, read_words
 from record.trace.lives import Life
 from record.watch.files import Start
@@ -128,3 +129,13 @@ Makefiles = makefiles(__name__, {
     # branches that are not read
     "branch_with_a_macro_that_is_taken_away": Small("race", MAKES, {"in.mk": "N = 1\n" + LISTS + "ifdef N\nM = 1\nL := $(wildcard *.x)\nendif\nundefine M\n"}),
 })
+
+
+class Texts(unittest.TestCase):
+    """What makefiles said."""
+
+    def test_makefile_that_is_written_again(self) -> None:
+        with support.Project({"M": "new\n", "copy": "old\n"}) as project:
+            words = Words(7, 0, read=[["M"]], copies={"M": [str(project.folder / "copy")]}, times=Counter({"M": 1}))
+            make = Make(words, Life(7), str(project.folder))
+            self.assertEqual("old\n", make.known_text("M"))

@@ -10,7 +10,7 @@ from record.importing import replay_trace
 from record.make.owners import Make
 from record.make.words import Words
 from record.ninja.log import Kept
-from record.tools.listed import Calls
+from record.trace.calls import Calls
 from record.trace.lives import Life
 from record.trace.names import Names
 from record.trace.sifting import sift
@@ -82,6 +82,12 @@ class Lives(unittest.TestCase):
         (child,) = lives_of(replay, 2)
         self.assertIs(child.parent, lives_of(replay, 1)[0])
         self.assertIn(("W", "a"), events_of(child))
+
+    def test_file_that_another_process_saw_before_its_maker_went_on(self) -> None:
+        for flags in ("O_WRONLY|O_CREAT|O_EXCL", "O_WRONLY|O_CREAT|O_TRUNC"):
+            replay = played("1 clone(child_stack=NULL, flags=SIGCHLD) = 2", f'2 openat(AT_FDCWD<{TOP}>, "a", {flags}, 0666 <unfinished ...>',
+                            '1 stat("a", {st_mode=S_IFREG|0644, st_size=0, ...}) = 0', f"2 <... openat resumed>) = 3<{TOP}/a>")
+            self.assertIn(("C", "a"), events_of(lives_of(replay, 2)[0]))
 
     def test_ages_of_what_is_opened(self) -> None:
         """A program that compares ages asks an open file for its age, without its name."""

@@ -3,8 +3,6 @@
 import unittest
 
 from record.commands.shellages import compares_ages
-from record.tools.listed import is_in_order
-from record.trace.lives import Life
 from test_small import Small, makefiles
 
 READ = "who asks when a file was read last"
@@ -80,7 +78,3 @@ class Zsh(unittest.TestCase):
 
     def test_ages(self) -> None:
         self.assertEqual([True, True, False], [compares_ages(["zsh", "-c", text], "/") for text in ("zstat +mtime a", "zmodload zsh/stat", "echo a")])
-
-    def test_orders(self) -> None:
-        lives = [Life(1, folder="/", argv=["zsh", "-c", text]) for text in ("echo *", "echo *(oN)")]
-        self.assertEqual([True, False], [is_in_order(life, True) for life in lives])

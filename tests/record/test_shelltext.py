@@ -17,7 +17,6 @@ from test_small import Small, makefiles
 
 ORDER = ".PHONY: a b\nall: c\na b: ; touch d/s/$@\nr: a b ; %s; touch r\nc: r ; find e/s > c\n"
 LINKED = "all: a u\na: ; ln x y; touch a\nu: ; %s > u; touch u\n"
-LISTS = "programs that list a folder"
 OTHER_ORDER = "all: c\nd: ; mkdir d\na: | d ; touch d/a a\nb: | d ; touch d/b b\nc: a b ; %s\n"
 SIZE = "all: a b\na: ; touch d/x a\nb: ; %s > b\n"
 LONG = "# ...............................................................\n" * 5000
@@ -152,7 +151,7 @@ class Looks(unittest.TestCase):
 
 Makefiles = makefiles(__name__, {
     # orders of names that are handed on
-    "order_of_a_folder_that_is_copied": Small("safe", ORDER % "cp -r d e", setup="mkdir -p d/s", says="programs that list a folder"),
+    "order_of_a_folder_that_is_copied": Small("race", ORDER % "cp -r d e", setup="mkdir -p d/s", is_tried=True),
     # who makes a folder first
     "folder_that_a_text_makes_twice": Small("race", "all: a b\na b: ; mkdir d 2> /dev/null && echo first > $@ || echo second > $@; mkdir d 2> /dev/null || true\n"),
     "folder_that_is_told": Small("race", "all: a b\na b: ; mkdir -p --verb d > $@\n"),
@@ -162,12 +161,8 @@ Makefiles = makefiles(__name__, {
     "names_that_ls_shows_by_a_long_word": Small("race", LINKED % "ls --format=long x", {"x": "x"}),
     "names_that_a_script_counts": Small("safe", LINKED % "python3 n.py", {"x": "x", "n.py": "import os\nprint(os.lstat('x').st_nlink)\n"}, says="do not count the names of a file"),
     # the order in which a folder shows its names, and its size
-    "order_that_ls_shows": Small("safe", OTHER_ORDER % "ls -1U d > c", says=LISTS),
-    "order_that_ls_shows_by_a_word": Small("safe", OTHER_ORDER % "ls --sort none d > c", says=LISTS),
-    "order_that_ls_does_not_show": Small("safe", OTHER_ORDER % "ls -1 d > c", lacks=LISTS),
-    "order_that_rm_says": Small("safe", OTHER_ORDER % "rm -rv d > c", says=LISTS),
-    "order_that_chmod_says": Small("safe", OTHER_ORDER % "chmod -R --verbose 755 d > c", says=LISTS),
-    "order_that_rm_does_not_say": Small("safe", OTHER_ORDER % "rm -r d; touch c", lacks=LISTS),
+    "order_that_ls_shows": Small("race", OTHER_ORDER % "ls -1U d > c", is_tried=True),
+    "order_that_ls_does_not_show": Small("safe", OTHER_ORDER % "ls -1 d > c", is_tried=True),
     "size_of_a_folder_by_ls": Small("race", SIZE % "ls -sd d", setup="mkdir d"),
     "size_of_a_folder_by_find": Small("race", SIZE % "find d -maxdepth 0 -size +5k", setup="mkdir d"),
     "folder_that_ls_names": Small("safe", SIZE % "ls -d d", setup="mkdir d"),
@@ -179,6 +174,7 @@ Makefiles = makefiles(__name__, {
     "pattern_of_a_script_behind_if": Small("race", "all: a b\na: ; echo a > d/n\nb: ; if . ./s; then echo e/*.x; fi > b\n", {"s": "echo d/*\n", "d/k": "k", "e/1.x": ""}),
     "pattern_beside_an_input": Small("safe", BASH + "all: a b\na: ; echo a > d/n\nb: ; cat < f > b; echo d/*.x >> b\n", {"f": "f", "d/1.x": ""}),
     # ages
+    "ages_of_no_script_behind_an_escaped_bar": Small("safe", OTHER_PAIR + "sh s; touch c\n", {"s": "test -r a && expr X/b : 'X/$$' \\| . 2> /dev/null; test -r b || :\n"}),
     "ages_by_a_script_behind_if": Small("race", OTHER_PAIR + "sh s; touch c\n", {"s": "if . ./t; then :; fi\n", "t": "test a -nt b\n"}),
     # folders that are made
     "folder_made_or_true_for_a_program": Small("race", "all: a b\na b: ; python3 t/m.py; touch $@\n", {"t/m.py": "import subprocess\nsubprocess.run('mkdir d || true', shell=True)\n"}),

@@ -94,6 +94,10 @@ class Skips(unittest.TestCase):
         masks = ["7 rt_sigprocmask(SIG_BLOCK, NULL, ~[KILL STOP], 8) = 0", "7 rt_sigprocmask(SIG_SETMASK, [HUP INT], NULL, 8) = 0"]
         self.assertEqual(1, self.kept([*masks, '7 openat(AT_FDCWD</w>, "a", O_RDONLY) = 3</w/a>'], ["/w"]))
 
+    def test_limits_of_its_own_are_not_read(self) -> None:
+        limits = ["7 prlimit64(%d, RLIMIT_STACK, NULL, {rlim_cur=8192*1024, rlim_max=RLIM64_INFINITY}) = 0" % pid for pid in (0, 6)]
+        self.assertEqual(1, self.kept(limits, ["/w"]))
+
     def test_open_with_other_flags_is_read(self) -> None:
         self.assertEqual(1, self.kept([self.LOOK.replace("O_RDONLY", "O_RDONLY|O_DIRECT"), self.LOOK], ["/w"]))
 

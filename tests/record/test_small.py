@@ -16,8 +16,8 @@ OLD = "touch -d 2001-01-01 "
 
 @dataclass(frozen=True)
 class Small:
-    """A makefile, the verdict on it, the other files, lines of the shell that come before, texts that the output has and lacks, and the verdict
-    from GNU make 4.4 on, where that is another one."""
+    """A makefile, the verdict on it, the other files, lines of the shell that come before, texts that the output has and lacks, the verdict
+    from GNU make 4.4 on, where that is another one, and whether other orders are tried."""
 
     wanted: str
     makefile: str
@@ -27,6 +27,7 @@ class Small:
     below: str = ""
     lacks: str = ""
     later: str = ""
+    is_tried: bool = False  # built in other orders too
 
 
 # A library, a program that needs it, and a macro of several lines that a recipe prints.
@@ -59,40 +60,18 @@ SMALL: Dict[str, Small] = {
     "jobs_of_a_makefile": Small("race", "MAKEFLAGS += -j4\nall: a b\na: ; sleep 0.1; echo a > a\nb: ; cat a > b || true\n"),
     "jobs_of_a_makefile_and_one_job": Small("race", "MAKEFLAGS += -j4\nall: a b\na: ; sleep 0.1; echo a > a\nb: ; cat a > b\n"),
     # macros of make
-    "macro_that_a_recipe_changes": Small("race", "all: s a b\ns: ; touch s\na: s ; $(eval X := set)touch a\nb: ; echo '$(X)' > b\n"),
-    "macro_behind_another_mark_of_recipes": Small("race", ".RECIPEPREFIX = >\nall: s a b\ns:\n> touch s\na: s\n> $(eval X := set)touch a\nb:\n> echo '$(X)' > b\n"),
-    "macro_behind_an_empty_line": Small("race", "all: s a b\ns: ; touch s\na: s\n\techo a; \\\n\n\t$(eval X := set)touch a\nb:\n\techo b \\\n'$(X)' > b\n"),
     "file_behind_another_mark_of_recipes": Small("race", ".RECIPEPREFIX = >\n.PHONY: e\nall: s e u\ns:\n> touch s\ne: s\n> $(file >x,w)\nu:\n> cat x > u || true\n"),
-    "macro_by_way_of_another": Small("race", "set = $(eval X := set)\nshow = echo '$(X)'\nall: s a b\ns: ; touch s\na: s ; $(call set)touch a\nb: ; $(show) > b\n"),
-    "macro_in_the_environment": Small("race", "export X\nall: s a b\ns: ; touch s\na: s ; $(eval X := set)touch a\nb: ; echo $$X > b\n"),
-    "macro_of_leaves": Small("safe", "N := 0\nall: a b\na b: ; $(eval N := $(N)x)echo $(N) > $@\n"),
-    "macro_that_each_recipe_sets": Small("safe", "all: s a b\ns: ; touch s\na: s\na b: ; $(eval X := $@)echo $(X) > $@\n"),
-    "macro_that_is_ordered": Small("safe", "all: s a b\ns: ; touch s\na: s ; $(eval X := set)touch a\nb: a ; echo '$(X)' > b\n"),
-    "macro_by_a_computed_name": Small("race", "W = X\nall: s a b\ns: ; touch s\na: s ; $(eval X := set)touch a\nb: ; echo '$($(W))' > b\n"),
-    "macro_by_a_part_of_its_name": Small("race", "W = X\nall: s a b\ns: ; touch s\na: s ; $(eval V_X := set)touch a\nb: ; echo '$(V_$(W))' > b\n"),
-    "macro_by_a_part_of_another_name": Small("safe", "W = X\nall: s a b\ns: ; touch s\na: s ; $(eval U_X := set)echo '$(U_X)' > a\nb: ; echo '$(V_$(W))' > b\n"),
-    "macro_by_its_origin": Small("race", "all: s a b\ns: ; touch s\na: s ; $(eval X := set)touch a\nb: ; echo '$(origin X)' > b\n"),
-    "macro_in_the_list_of_all": Small("race", "all: s a b\ns: ; touch s\na: s ; $(eval X := set)touch a\nb: ; echo '$(filter X,$(.VARIABLES))' > b\n"),
-    "macro_that_make_reads": Small("race", "all: s a b\ns: ; touch s\na: s ; $(eval .SHELLFLAGS := -xc)touch a\nb: ; echo $$- > b\n"),
-    "macro_that_the_caller_sets": Small("race", "all: ; X=1 $(MAKE) -f in.mk\n", {"in.mk": "all: s a b\ns: ; touch s\na: s ; $(eval X := set)touch a\nb: ; echo $$X > b\n"}),
-    "search_path_that_a_recipe_sets": Small("no verdict", "all: s a b.o\ns: ; touch s\na: s ; $(eval vpath %.c src)touch a\nb.o: b.c ; echo $< > b.o\nb.c: ; touch b.c\n", {"src/b.c": ""}, says="changes in make"),
-    "prerequisites_that_a_recipe_sets": Small("no verdict", ".SECONDEXPANSION:\nall: s a b\ns: ; touch s\na: s ; $(eval X := more)touch a\nb: $$(X) ; echo $^ > b\nmore: ; touch more\n", says="expands prerequisites a second time"),
     # what make keeps of what it saw
     "listing_that_make_keeps": Small("race", "all: a b c\na: ; echo 1 > d/n; touch a\nb: a ; echo '$(wildcard d/*)' > b\nc: ; echo '$(wildcard d/*)' > c\n", {"d/k": "k"}),
     "listing_that_nobody_else_asks_for": Small("safe", "all: a b c\na: ; echo 1 > d/n; touch a\nb: a ; echo '$(wildcard d/*)' > b\nc: ; echo > c\n", {"d/k": "k"}),
     "library_by_its_short_name": Small("race", "all: libx.a p\nlibx.a: ; touch libx.a\np: m -lx ; echo $^ > p\nm: ; touch m\n", says="not as -lNAME"),
     "library_by_a_macro": Small("race", "LIBS = -lx\nall: libx.a p\nlibx.a: ; touch libx.a\np: m $(LIBS) ; echo $^ > p\nm: ; touch m\n"),
-    "library_in_a_text_that_recipes_print": Small("safe", "define TEXT\nLibs: -l$(N)\nendef\nexport TEXT\nN = x\n" + PRINTS),
     "library_in_a_text_that_makes_a_rule": Small("race", "define TEXT\np: -l$(N)\nendef\nexport TEXT\nN = x\n" + PRINTS.replace("m libx.a ;", "m ;") + "$(eval $(TEXT))\n"),
     "library_in_a_text_by_a_name_that_is_put_together": Small("race", "define TEXT\np: -l$(N)\nendef\nexport TEXT\nN = x\nT = TEX\n" + PRINTS.replace("m libx.a ;", "m ;") + "$(eval $($(T)T))\n"),
     "library_that_a_recipe_links": Small("safe", "LIBS = -lx\nall: libx.a p\nlibx.a: ; touch libx.a\np: m libx.a ; echo $(LIBS) > p\nm: ; touch m\n"),
-    "macro_that_keeps_its_value": Small("safe", "V = $(eval V := $$(shell echo 1))$(V)\nall: s a b\ns: ; touch s\na: s\na b: ; echo $(V) > $@\n"),
-    "macro_that_keeps_what_it_read": Small("race", "V = $(eval V := $$(shell cat s))$(V)\nall: s a b\ns: ; echo 1 > s\na: s\na b: ; echo $(V) > $@\n"),
-    "target_of_several_that_runs_first": Small("safe", "all: c a b\na b &: s ; echo $@ | tee a > b\nc: a ; cp a c\ns: ; touch s\n", says="the target that they run for"),
-    "target_of_several_behind_nothing": Small("safe", "all: a b\na b &: ; echo $@ | tee a > b\n", lacks="the target that they run for"),
-    "targets_of_one_recipe_by_their_names": Small("safe", "all: c a b\na b &: s ; echo x | tee a > b\nc: a ; cp a c\ns: ; touch s\n", lacks="the target that they run for"),
-    "macro_that_is_inherited": Small("safe", "all: a b\na: X = 1\na:: s ; touch t\na:: c ; cp c a\nb: c ; cp c b\ns: ; touch s\nc: ; echo '$(X)' > c\n", says="macros they inherit"),
-    "macro_that_is_inherited_at_once": Small("safe", "all: a b\na: X = 1\na: s c ; cp c a\nb: c ; cp c b\ns: ; touch s\nc: ; echo '$(X)' > c\n"),
+    "target_of_several_that_runs_first": Small("safe", "all: c a b\na b &: s ; echo $@ | tee a > b\nc: a ; cp a c\ns: ; touch s\n"),
+    "target_of_several_behind_nothing": Small("safe", "all: a b\na b &: ; echo $@ | tee a > b\n"),
+    "targets_of_one_recipe_by_their_names": Small("safe", "all: c a b\na b &: s ; echo x | tee a > b\nc: a ; cp a c\ns: ; touch s\n"),
     "library_in_a_search_path": Small("safe", "vpath %.a d\nall: d/libx.a p\nd/libx.a: ; echo x > $@\np: -lx ; cat $^ > $@\n", {"d/k": "k"}),
     "library_by_its_short_name_that_was_there": Small("safe", "p: -lx ; cat $^ > $@\n", {"libx.a": "x"}),
     "listing_that_make_keeps_of_a_new_folder": Small("race", "all: a b c\na: ; mkdir d/n; touch a\nb: a ; echo '$(wildcard d/*)' > b\nc: ; echo '$(wildcard d/*)' > c\n", {"d/k": "k"}),
@@ -130,7 +109,7 @@ SMALL: Dict[str, Small] = {
     "folder_that_is_listed_first_and_there": Small("safe", "all: a b c\na: b ; ls p > a; mkdir -p p/q\nb: ; mkdir -p p/q; touch b\nc: ; mkdir -p p/q; touch c\n", {"p/k": ""}),
     "folder_that_is_listed_later": Small("safe", "all: a b\na: ; mkdir -p p/q; ls p > a\nb: ; mkdir -p p/q; touch b\n", {"p/k": ""}),
     "folder_that_is_listed_for_modules_first": Small("safe", "all: a b\na b: ; python3 -S gen.py $@\n", {
-        "gen.py": "import email, os, sys\nos.makedirs('out', exist_ok=True)\nopen('out/' + sys.argv[1], 'w').close()\nopen(sys.argv[1], 'w').close()\n"}),
+        "gen.py": "import email, os, sys\nos.makedirs('out', exist_ok=True)\nopen('out/' + sys.argv[1], 'w').close()\nopen(sys.argv[1], 'w').close()\n"}, is_tried=True),
     "folder_of_two_modes": Small("race", "all: a b\na: ; mkdir -p -m 700 d; touch a\nb: ; mkdir -p d; touch b\n"),
     "folder_of_one_mode": Small("safe", "all: a b\na: ; umask 022; mkdir -p -m 755 d; touch a\nb: ; umask 022; mkdir -p d; touch b\n"),
     # ages that are taken over
@@ -161,7 +140,7 @@ SMALL: Dict[str, Small] = {
     "ages_by_nobody": Small("safe", "all: c\na b: ; touch $@\nc: a b ; cp a b c 2>/dev/null || cat a b > c\n"),
     # listings
     "sorted_listing": Small("safe", ".PHONY: a b\nall: c\na b: ; touch d/$@\nc: a b ; ls d > c; echo d/* >> c\n", setup="mkdir d"),
-    "order_of_a_listing": Small("safe", ".PHONY: a b\nall: c\na b: ; touch d/$@\nc: a b ; find d > c\n", setup="mkdir d", says="programs that list a folder"),
+    "order_of_a_listing": Small("race", ".PHONY: a b\nall: c\na b: ; touch d/$@\nc: a b ; find d > c\n", setup="mkdir d", is_tried=True),
     # archives, intermediate files, patterns
     "members_of_one_archive": Small("race", "all: l.a(x.o) l.a(y.o)\n(%): % ; ar rcD l.a $<\n%.o: %.c ; cp $< $@\n", {"x.c": "x", "y.c": "y"}),
     "archive_beside_another_target": Small("safe", "all: l.a(x.o) u\nl.a(x.o): x.o ; ar rcD l.a x.o\nu: ; touch u\n", {"x.o": "x"}),
@@ -247,7 +226,6 @@ SMALL: Dict[str, Small] = {
     "wildcard_that_a_target_exports": Small("race", "all: a b\na: ; touch d/c.h a\nb: export V = $(wildcard d/*.h)\nb: ; echo $$V > b\n", {"d/k.c": "k"}),
     "wildcard_of_a_second_expansion": Small("race", ".SECONDEXPANSION:\nall: a b.o\na: ; touch d/c.h a\n%.o: %.c $$(if $$(wildcard d/*.h),x,y) ; echo $^ > $@\n", {"d/k.c": "k", "b.c": "c", "x": "", "y": ""}),
     "pattern_that_a_recipe_includes": Small("race", "all: b a\nc: ; touch c\na: ; echo V = 1 > d/c.mk; touch a\nb: c ; $(eval -include d/*.mk) echo $V > b\n", {"d/k.c": "k"}),
-    "macro_that_a_target_exports": Small("race", "X = 1\nall: b a\na: ; $(eval X = 2) touch a\nc: ; touch c\nb: export V = $X\nb: c ; echo $$V > b\n"),
     "script_that_compares_ages": Small("race", "all: c\na: ; touch x\nb: ; touch y\nc: a b ; ./newer > c\n", {
         "newer": "#!" + sys.executable + "\nimport os\nprint(os.stat('x').st_mtime > os.stat('y').st_mtime)\n"}, "chmod +x newer"),
     "folder_as_prerequisite_cold": Small("safe", "all: d/a d/b\nd/a d/b: d ; echo $@ > $@\nd: ; mkdir d\n"),
@@ -325,7 +303,7 @@ def test_of(name: str, small: Small) -> Callable[[unittest.TestCase], None]:
     def test(self: unittest.TestCase) -> None:
         with support.Project({"Makefile": small.makefile, **small.files}, small.below or None) as project:
             project.sh(small.setup)
-            outcome = project.record(COMMANDS.get(name, ["make"]), ["--warm"])
+            outcome = project.record(COMMANDS.get(name, ["make"]), ["--warm"], once=not small.is_tried)
         is_other = small.later != "" and support.make_version() >= LATER
         self.assertEqual(STATUSES[small.later if is_other else small.wanted], outcome.status, outcome.text()[-1500:] + outcome.stderr.decode()[-800:])
         self.assertIn("" if is_other else small.says, outcome.text())

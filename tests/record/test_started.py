@@ -2,7 +2,6 @@
 
 from test_small import Small, makefiles
 
-SEES = "who lists the processes that run"
 PAIR = "all: c\na: ; touch a\nb: ; touch b\nc: a b ; %s\n"
 # A recipe that runs something in a folder, and another one that makes a name there.
 HERE = "all: a b\na: ; cd d && %s > ../a\nb: ; touch d/x b\n"
@@ -14,10 +13,9 @@ SIDE = "all: c\nx: ; echo 1 > x\ny: ; echo 2 > y\nc: x y ; { %s; } > c || true\n
 UNKNOWN = "programs that nobody knows look at two files"
 IS_THERE = "RACE  d  (that the folder"
 Makefiles = makefiles(__name__, {
+    "text_without_a_first_line_that_bash_reads": Small("race", "SHELL = /bin/bash\n" "all: a b\na: ; touch h/x a\nb: ; ./u > b; ls h/*.h >> b\n", {"u": "echo h/*\n", "h/k.h": ""}, "chmod +x u"),
     # programs that the kernel reads by itself
     "loader_that_a_recipe_makes": Small("race", "all: use ld.so\nld.so: ; cp /bin/cat ld.so\nuse: ; ./prog > use || true\n", {"p.c": "int main(void) { return 0; }\n"}, "cc -Wl,--dynamic-linker=./ld.so -o prog p.c"),
-    # processes of other recipes
-    "limits_of_another_process": Small("safe", "all: a b\na: ; renice 0 -p $$PPID > /dev/null; touch a\nb: ; touch b\n", says=SEES),
     # what goes past files
     "times_of_reading": Small("safe", "all: ; find f -anewer g > all\n", {"f": "f", "g": "g"}, says="when a file was read last"),
     # ages of files that somebody else has opened

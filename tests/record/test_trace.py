@@ -42,7 +42,9 @@ Makefiles = makefiles(__name__, {
     # processes of other recipes
     "signal_for_another_recipe": Small("safe", "all: b\na: ; sleep 9 > /dev/null 2>&1 & echo $$! > a\nb: a ; kill `cat a`; touch b\n", says=SEES),
     "signal_for_its_own_process": Small("safe", "all: ; sleep 9 & kill $$!; touch all\n", lacks=SEES),
-    "limits_of_its_own_process": Small("safe", "all: a b\na: ; prlimit --core=0 touch a\nb: ; touch b\n", lacks=SEES),
+    "limits_of_another_process": Small("safe", "all: a b\na: ; perl -e 'setpriority 0, $$ARGV[0], 1' $$PPID; touch a\nb: ; nice > b\n", says=SEES),
+    "limits_of_a_group": Small("safe", "all: a b\na: ; perl -e 'setpriority 1, 0, 1'; touch a\nb: ; nice > b\n", says=SEES),
+    "limits_of_its_own_process": Small("safe", "all: a b\na: ; nice prlimit --core=0 touch a\nb: ; touch b\n", lacks=SEES),
     # by way of /proc, and by numbers
     "folder_of_another_process": Small("race", "all: a b\na: ; echo 1 > f; touch a\nb: ; if test -e /proc/$$PPID/cwd/f; then echo yes; fi > b\n"),
     # folders in the middle of a pattern of make

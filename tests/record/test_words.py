@@ -1,10 +1,7 @@
 """What a make said: the lines that the library kept, and what is wrong with them."""
 
 import os
-import re
-import shutil
 import unittest
-from pathlib import Path
 from typing import List
 
 import support  # noqa: F401
@@ -19,8 +16,6 @@ from test_small import Small, makefiles
 LISTS = "printf 'all: ; echo $$(wildcard d/%s.c) >> u\\n' > t.mk; $(MAKE) -f t.mk"
 KEEPS = "all: ; %s -s -f in.mk %s\n"
 TWO = "all: a b\na b: ; @%s; touch $@\n"
-FILLED = "all: c\nd: ; mkdir d\na: | d ; touch d/a a\nb: | d ; touch d/b b\nc: a b ; %s\n"
-LISTED = "programs that list a folder"
 
 HEAD = ["ARG all", "ENV MAKEFLAGS=", "SAYS 4.3", "Reading makefiles...", "Updating goal targets....", "Considering target file 'a'."]
 BASE = ["# Make data base, printed on Monday", "# Files", "a:", "", "# files hash-table stats:", "# Finished Make data base on Monday"]
@@ -156,38 +151,6 @@ class Language(unittest.TestCase):
             project.sh("mkdir loc; localedef -i de_DE -f ISO-8859-1 loc/de_DE.ISO-8859-1 2> /dev/null || true")
             env = dict(os.environ, RACE=support.race_program(), LC_ALL="de_DE.ISO-8859-1", LOCPATH=str(project.folder / "loc"))
             self.assertEqual(2, project.run(["--", "make"], env).status)
-
-
-class Older(unittest.TestCase):
-    """A make that says that it is older than it is."""
-
-    def status(self, makefile: str, version: str, says: bool, **files: str) -> None:
-        with support.Project({"Makefile": makefile, **{name.replace("_", "."): text for name, text in files.items()}}) as project:
-            program = Path(os.path.realpath(shutil.which("make") or "")).read_bytes()
-            own = re.search(rb"\0(4\.\d)(?:\.\d)?\0", program)
-            if own is None:
-                self.skipTest("this make does not say its version in a few bytes")
-            older = project.folder.parent / "make"
-            older.write_bytes(program[:own.start(1)] + version.encode() + program[own.end(1):])
-            older.chmod(0o755)
-            outcome = project.run(["--race", support.race_program(), "--", "make"], {**os.environ, "PATH": "%s:%s" % (older.parent, os.environ["PATH"])})
-        self.assertEqual(0, outcome.status, outcome.text() + outcome.stderr.decode())
-        self.assertEqual(says, LISTED in " ".join(outcome.text().split()))
-
-    def test_wildcard_of_a_recipe(self) -> None:
-        for version, says in (("4.2", True), ("4.3", False)):
-            self.status(FILLED % "echo $(wildcard d/*) > c", version, says)
-
-    def test_wildcard_of_names_that_were_made_in_order(self) -> None:
-        self.status(FILLED.replace("b: |", "b: a |") % "echo $(wildcard d/*) > c", "4.2", False)
-
-    def test_wildcard_of_a_make_inside(self) -> None:
-        for version, says in (("4.2", True), ("4.3", False)):
-            self.status(FILLED % "$(MAKE) -f in.mk; touch c", version, says, in_mk="X := $(wildcard d/*)\nall: ; @echo $X\n")
-
-    def test_list_that_make_keeps(self) -> None:
-        for version, says in (("4.2", True), ("4.3", False)):
-            self.status(FILLED.replace("all: c", "all: c e") % "echo $(wildcard d/*) > c" + "e: a b c ; echo $(wildcard d/*) > e\n", version, says)
 
 
 class Lines(unittest.TestCase):

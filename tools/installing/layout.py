@@ -99,6 +99,12 @@ def page_items(top: Path) -> Iterator[Item]:
     yield from (Item(f"{DOCS}/{it.relative_to(top)}", it) for folder in PAGE_FOLDERS for it in files_below(top / folder))
 
 
+def unproved_behind(program: Path) -> Path | None:
+    """The program that another installation has without a proof, where this is its script, which runs nowhere else."""
+    behind = program.resolve().parents[1] / UNPROVED
+    return behind if program.read_bytes()[:2] == b"#!" and behind.is_file() else None
+
+
 def items(top: Path, program: Path, is_proved: bool, watch: Path | None) -> list[Item]:
     """All files of an installation. `watch`: the library that make has while a build is recorded, where it could be built."""
     library = [Item(WATCH, watch)] if watch is not None else []
