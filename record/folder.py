@@ -16,7 +16,7 @@ from record.entry import in_one_step
 from record.first_tree import FirstTree
 from record.messages import reason
 from record.places import Places
-from record.build.assumptions import TRIED_OUT
+from record.build.assumptions import TRIED_OUT, UNTRIED
 from record.build.text import OWN_NAME, labels_of, lines_of, relative, shown
 
 if TYPE_CHECKING:
@@ -93,9 +93,9 @@ class Record:
         self.assumptions = [one for one in self.assumptions if one["kind"] not in kinds]
 
     def try_out(self, orders: Dict[str, Any]) -> None:
-        """Takes in what builds in other orders came to: what they try out is not taken for granted any more."""
+        """Takes in what builds in other orders came to: what they try out is not taken for granted any more, and looks are not where all of them were tried."""
         self.orders = orders
-        self.assumptions = [one for one in self.assumptions if one["kind"] not in TRIED_OUT]  # guard: what-orders-try-out
+        self.assumptions = [one for one in self.assumptions if one["kind"] not in TRIED_OUT or orders["untried"] and one["kind"] in UNTRIED]  # guard: what-orders-try-out
 
     def text(self) -> str:
         """As it is written."""
@@ -155,7 +155,8 @@ def write_build(folder: Path, build: "Build", within: Optional[Dict[str, str]], 
         "recipes": sum(1 for t in build.tasks if t.kind == "recipe"), "paths": sum(len(t.reads) + len(t.writes) for t in build.tasks),
     }
     text = {"tool": build.tool, "make": record.tools.get("make", ""), "folder": shown(root), "project": shown(record.folder), "top": shown(top_of(record.folder)), "words": shown(build.words), "round": build.stage, "within": within,
-            "span": [build.make.life.born, build.make.life.died], "counts": counts, "labels": about, "meanings": meanings, "askers": askers}
+            "span": [build.make.life.born, build.make.life.died], "counts": counts, "labels": about, "meanings": meanings, "askers": askers,
+            "looks": [[labels[at] if at >= 0 else "", *(sorted(labels[one] for one in side) for side in sides)] for at, *sides in build.looks]}
     (folder / "build.json").write_text(json.dumps(text, indent=1, ensure_ascii=False) + "\n", encoding="utf-8")
 
 
@@ -164,7 +165,7 @@ def soft_leaves(build: "Build") -> Dict[int, List[str]]:
     found: Dict[int, Set[str]] = {}
     for task in build.tasks:
         found.setdefault(id(task.node), set()).update(task.leaves)
-    asking = {*build.askers.values()}
+    asking = {*build.askers.values(), *(at for at, _, _ in build.looks)}
     soft = (at for at, task in enumerate(build.tasks) if task.listed or at in asking or any(map(OWN_NAME.search, task.reads | task.writes)))
     return {at: sorted(found[id(build.tasks[at].node)]) for at in soft}
 

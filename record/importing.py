@@ -123,8 +123,8 @@ def note_holes(said: Path, replay: Calls, owners: Owners, names: Names, record: 
 
 def add_seen(replay: Calls, assumed: Assumptions) -> None:
     """What is taken for granted of what the trace shows, whoever did it."""
-    for kind, found in (("sockets", replay.sockets), ("processes", replay.watchers), ("read-times", replay.askers), ("locks", replay.locks),  # guard: sockets
-                        ("hard-links", replay.hard_links), ("ages", replay.rewritten())):  # guard: hard-links
+    for kind, found in (("sockets", replay.sockets), ("processes", replay.watchers), ("locks", replay.locks),  # guard: sockets
+                        ("hard-links", replay.hard_links)):  # guard: hard-links
         for example in found:
             assumed.add(kind, example)
     for name in replay.outside:

@@ -20,7 +20,7 @@ SHOWN = re.compile(r"\\x([0-9a-fA-F]{2})|\\\\")
 
 @dataclass(frozen=True)
 class Race:
-    """Two tasks that nothing orders, and the path on which they meet."""
+    """Two tasks that nothing orders, and the path on which they meet, or in which it shows that they do: there both of them do no more than to run."""
 
     path: str
     first: str

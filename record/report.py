@@ -75,8 +75,8 @@ def verb(about: Dict[str, Any], label: str, does: str, path: str) -> str:
     found = about["labels"].get(label, {})
     if OWN_NAME.search(path):
         return "settles it" if does == "writes" else "sees it"
-    if does == "writes":
-        return "writes it"
+    if does != "reads":
+        return "writes it" if does == "writes" else does
     if lists(about, label, path):
         return "lists its folder"  # guard: lists-of-folders-are-said
     return "make looks at it" if found.get("kind", "") in ("decision", "look", "first") else "reads it"

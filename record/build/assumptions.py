@@ -4,8 +4,8 @@ from dataclasses import dataclass
 from typing import Dict, List
 
 TEXTS = {
-    "serial": "make decides goals in this order, without --shuffle, and recipes do the same on the same looks: they do not go by macros that another one sets ($(eval ..)), how long things take, the space that is free, MAKEFLAGS, the number of processors, a terminal, standard input, descriptors of a job server, or files that were opened for them before make began",
-    "ninja": "commands of ninja do the same on the same looks: they do not go by how long things take, the space that is free, the number of jobs, the number of processors, a terminal, standard input, or files that were opened for them before ninja began; and nobody looks at the order of what ninja prints",
+    "serial": "make decides goals in this order, without --shuffle, and recipes do the same on the same looks: they do not go by macros that another one sets ($(eval ..)), how long things take, the space that is free, when a file was read last, the time of the folder that a shell runs in, MAKEFLAGS, the number of processors, a terminal, standard input, descriptors of a job server, or files that were opened for them before make began",
+    "ninja": "commands of ninja do the same on the same looks: they do not go by how long things take, the space that is free, when a file was read last, the time of the folder that a shell runs in, the number of jobs, the number of processors, a terminal, standard input, or files that were opened for them before ninja began; and nobody looks at the order of what ninja prints",
     "ties": "build statements with one command ran in the order that the log of ninja shows",
     "up-to-date": "builds start from this tree: targets that were up to date stay so",
     "configured": "builds start when ./configure has run: what it makes is there and up to date",
@@ -15,7 +15,6 @@ TEXTS = {
     "folders": "programs that look at a folder (stat) while another recipe makes or removes names in it use no more than that it is there: not its time, its size or the number of its links",
     "sockets": "servers that processes talk to keep no files of the build; ports that they open are free; memory is shared by processes of one recipe alone",
     "processes": "who lists the processes that run (ps, pgrep), signals or looks at one of another recipe, sets its limits (prlimit, renice, taskset), or waits for changes of files (inotify, leases), does the same whatever else runs",
-    "read-times": "who asks when a file was read last (test -N, find -anewer, st_atime) does the same whoever has read it",
     "locks": "who asks for a lock of a file, and does not wait for it, does the same where another one has it; recipes that take two locks take them in one order",
     "clock": "recipes that put the time into the name of a file have each another time there",
     "queries": "what a make that only asks (-n, -q, -t) runs by `+` or $(MAKE) does the same in any order",
@@ -34,8 +33,8 @@ TEXTS = {
     "tried": "what CMake's try_compile builds, in a folder that is gone when the build ends, comes to the same in any order",
     "tops": "two makes or ninjas that ran at once, and that no make or ninja started, do not meet",
     "beside": "files that a process which no recipe started changed while make ran are touched by no recipe",
-    "ages": "programs that nobody knows look at two files, and do not compare which is newer",
-    "afterwards": "interpreters, programs that nobody knows, and makes that only ask (-n, -q), which look at two files when the build that made them has ended, do not compare which is newer",
+    "ages": "who looks at two files does not go by which of them is newer",
+    "afterwards": "who looks at two files when the build that made them has ended does not go by which of them is newer",
     "interpreters": "Perl, Python and other interpreters compare ages only of files that they looked at by name, and ask of a folder by its whole path no more than that it is there",
     # What the answer on missing inputs takes for granted.
     "later": "you edit sources, add and remove none, and what you edit gets a new time; in a clean tree recipes then read and write the files that they do now; makefiles, commands and the environment stay; each build ends well",
@@ -58,7 +57,7 @@ TEXTS = {
 }
 
 
-UNTRIED = ("luck", "folders")  # what nobody has tried out: with --strict it bars the yes
+UNTRIED = ("luck", "folders", "ages", "afterwards")  # what nobody has tried out: with --strict it bars the yes
 # What builds in other orders try out, and the two serial builds among them.
 TRIED_OUT = ("serial", "ninja", "unwritten", "folders", "queries", "ring", "search", "output", "jobs-said", "makers",
              "tried", "ages", "afterwards", "interpreters")

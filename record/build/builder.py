@@ -168,11 +168,13 @@ class Builder:
                 folder, program = path.split("\0")[:2]
                 self.note_asked(at, folder, program, created)
             elif kind == AGE_SEEN:
-                self.timed.setdefault(path, set()).add(at)
+                self.timed.setdefault(path, set())
 
     def note_asked(self, at: int, folder: str, program: str, created: Dict[str, Dict[str, Set[int]]]) -> None:
         """A task asks for the time, the size or the links of a folder in which another one makes or removes names."""
-        if any(self.build.unordered(at, other) for who in created.get(folder, {}).values() for other in who):  # guard: folders-that-nobody-changes
+        others = {other for who in created.get(folder, {}).values() for other in who if self.build.unordered(at, other)}
+        if others:  # guard: folders-that-nobody-changes
+            self.build.looks.append((at, {at}, others))
             self.assumed.add("folders", "%s of %s in %s" % (program, folder, self.build.tasks[at].label))
 
     def is_known(self, path: str) -> bool:

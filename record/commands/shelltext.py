@@ -1,10 +1,10 @@
-"""What the words of a process say: folders made for oneself, patterns of names, ages that are compared."""
+"""What the words of a process say: folders made for oneself, patterns of names, programs that are well known."""
 
 import getopt
 import os
 import re
 from functools import lru_cache
-from typing import Iterable, List, Optional, Set, Tuple
+from typing import Iterable, List, Set, Tuple
 
 from record import machine
 from record.commands.golang import output_folder
@@ -16,13 +16,12 @@ KEPT, LARGE = 4096, 1 << 22  # how many files are remembered; how much of a scri
 SHELLS = ("sh", "dash", "bash", "ksh", "zsh", "ash")
 NINJA = re.compile(r"(?:ninja|ninja-build|samu|samurai)(?:[-.\d]*)$")  # `ninja-1.11`
 INTERPRETERS = re.compile(r"(python|perl|ruby|node|lua|tclsh|php)[\d.]*$")  # `python3.11`
-# Programs that look at files by name, and not to compare their ages, where AGE_WORDS (shellages.py) finds no word for that.
+# Programs that go by no times of what they look at, whatever their words are.
 AGELESS = frozenset((
-    "make gmake ninja rm cp mv ln ls cat test [ mkdir rmdir touch chmod chown install ginstall env dirname basename readlink realpath pwd head tail"
-    " sort uniq wc cmp diff grep egrep fgrep sed awk gawk mawk nawk find xargs tar gzip gunzip xz bzip2 tee tr cut paste od du df stat date sha256sum md5sum"
+    "rm ln cat mkdir rmdir touch chmod chown install ginstall env dirname basename readlink realpath pwd head tail"
+    " sort uniq wc cmp grep egrep fgrep sed xargs gzip gunzip xz bzip2 tee tr cut paste od df sha256sum md5sum"
     " mktemp flock which cc gcc c++ g++ cpp clang clang++ cc1 cc1plus collect2 lto1 as ld ld.bfd ld.gold gold lld ar ranlib nm strip objcopy objdump").split())
 VERSIONED = re.compile(r"(?:[\w.]+-linux-gnu-)?([a-z+\[.][a-z0-9+.]*?)(?:-[\d.]+)?$")  # one with a machine or a version: `x86_64-linux-gnu-gcc-12` is `gcc`
-TOOLS = re.compile(r"/usr/(?:local/)?bin/(?:makeinfo|texi2any|pod2man|pod2text|help2man)$")  # scripts of the system that compare no ages
 PROGRESS = ("cmake_progress_start", "cmake_progress_report", "cmake_echo_color")  # what `cmake -E` does to count what is built
 COMPRESSORS = ("gzip", "pigz", "bzip2", "xz", "lzma", "lzip", "zstd", "compress")  # they refuse a file that has two names; `tar` that unpacks counts none
 UNPACKS = re.compile(r"\S+(?: -C \S+| --\w[\w-]*=\S*)* (?:-?[vzjJapmko]*x[a-zA-Z]*|--extract|--get)(?: |$)")  # guard: tar-that-packs
@@ -34,21 +33,11 @@ PASSING = ("env", "nice", "ionice", "setsid", "timeout", "flock", "time", "stdbu
 NAMES_NEXT = re.compile(r"[-+]\w*[oO]\w*|--rcfile|--init-file")  # options of a shell whose value is the next word: `-euo pipefail`
 FORCES, SAYS = re.compile(r"-[a-zA-Z]*f[a-zA-Z]*|--force"), re.compile(r"-[a-zA-Z]*[viI][a-zA-Z]*|--(?:verbose|interactive.*)")  # of rm: `-rf`, `-v`
 SHOWS = re.compile(r"-(?:print|ls|fprint|fls|exec|ok)")  # what find does beside `-delete`
-FORMAT_OF_STAT = re.compile(r"\s(-\w*c|--f|--p)")  # `stat -c`, `--format`, `--printf`: it shows no more than that asks for
-SIZE_OF_STAT = re.compile(r"%[-+ 0#'\d.]*[sbB]")  # a format that asks for a size: `%s`, `%010b`
-SHOWS_SIZES = {"ls": re.compile(r"\s(-\w*[sS]|--si|--so\w*[= ]s)"), "find": re.compile(r"\s-size\s")}  # `ls -s`, `--size`, `--sort=size`  # guard: how-large-ls-shows
 
 # Words of a shell's text.
 OPTIONS = re.compile(r"\b(shopt|compgen|GLOBIGNORE)\b|\s[-+]O\s")  # of bash, by which patterns say something else, or nothing  # guard: names-that-bash-completes
 # A text of another file, or one that is put together: `. ./x`, `then source x`, `a=1 eval "$x"`.
 TAKES_IN = re.compile(r"(^|[;&|({\n`!]\s*|\b(then|do|else|elif|if|while|until|time|command|builtin)\s+|\b\w+=\S*\s+)(\.|source|eval)\s")
-DOT = re.compile(r"(^|(?<!\\)[;&|\n])(?:[ \t]|\\\n)*\.[ \t]+(?![-=!<>&|;\])])")  # the same at the begin of a command, where no test of bash goes on: `[[ x && . -nt y ]]`  # guard: dots-on-next-line
-# The name of a script that a script takes in: `./x` in `if . ./x; then`, see `sourced`.
-SOURCED = re.compile(r"""
-    (?: (?:^|(?<!\\)[;&|{(!]|=`|\w=\S*[ \t])[ \t]*                         # where a command begins, and behind `a=1 `  # guard: bars-behind-backslash
-      | \b(?:then|do|else|elif|if|while|until|time|command|builtin)[ \t]+ )  # guard: scripts-behind-if
-    (?:\.|source)[ \t]+([^\s;&|)#]+)
-    """, re.MULTILINE | re.VERBOSE)
 # Macros in the environment that give bash other options, and functions there: then the words of a shell do not say what it does.
 SHELL_MACROS = {"BASHOPTS", "SHELLOPTS"}
 SETS_OPTIONS = re.compile(r"\b(BASHOPTS|SHELLOPTS|BASH_FUNC_)|\bexport\s+-\w*f|\b(declare|typeset)\s+-(?=\w*x)\w*f")
@@ -279,9 +268,9 @@ def makes_it(form: "re.Match[str]") -> bool:
 
 
 def is_ageless(argv: List[str]) -> bool:
-    """Whether a program is known to compare no ages but by the words that say so."""
+    """Whether a program is known to go by no times."""
     match = VERSIONED.match(base_name(argv))
-    return match is not None and match.group(1) in AGELESS or base_name(argv) in SHELLS
+    return match is not None and match.group(1) in AGELESS
 
 
 def shows_progress(argv: List[str]) -> bool:
@@ -292,25 +281,6 @@ def shows_progress(argv: List[str]) -> bool:
 def is_interpreter(argv: List[str]) -> bool:
     """Whether a program of unknown words runs."""
     return bool(INTERPRETERS.match(base_name(argv)))
-
-
-def names_here(argv: List[str]) -> bool:
-    """Whether the words name the folder that a process is in; shells look at it anyway. A dot where a command of a shell begins takes in a script."""
-    text, words = shell_text(argv), " ".join(argv)
-    return bool(re.search(r"\s(\./?|\$PWD)(\s|$)", words.replace(text, DOT.sub(r"\1", text)) if text else words))  # guard: dots-that-take-in-script
-
-
-def asks_size(argv: List[str]) -> bool:
-    """Whether a program shows how large a folder is: some file systems count its names."""
-    name, text = base_name(argv), "".join(" " + word for word in argv[1:]) + " "
-    if name == "stat":
-        return not FORMAT_OF_STAT.search(text) or bool(SIZE_OF_STAT.search(text))
-    return name in SHOWS_SIZES and bool(SHOWS_SIZES[name].search(text))
-
-
-def sourced(text: str) -> List[str]:
-    """The names of scripts that the text of a script takes in, as it spells them, without quotes around them."""
-    return [name.strip("'\"") for name in SOURCED.findall(text)]
 
 
 @lru_cache(KEPT)
@@ -375,11 +345,6 @@ class Traits:
         self.makes_folders = maker_at(argv) >= 0 or output_folder(argv) != ""
         self.looks_at_links = looks_at_links(argv)
         self.is_interpreter = is_interpreter(argv)
-        self.is_tool = self.is_interpreter and TOOLS.match("".join(argv[1:2])) is not None  # guard: system-alone
         self.is_ageless = is_ageless(argv)
-        self.asks_size = asks_size(argv)
-        self.asks_input = base_name(argv) == "stat" and "-" in argv[1:]  # guard: standard-input
         self.is_shell = base_name(argv) in SHELLS
         self.shows_progress = shows_progress(argv)
-        self.is_open: Optional[bool] = None  # whether a shell runs what does not stand in its text, or another program may show ages, as far as that was asked
-        self.ages: Optional[bool] = None  # whether it compares ages, as far as that was asked

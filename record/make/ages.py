@@ -3,15 +3,15 @@
 import os
 import re
 from functools import lru_cache
-from itertools import chain, combinations
+from itertools import chain
 from typing import Dict, Iterator, List, Set, Tuple
 
 from record.build.builder import Builder
 from record.build.work import Work
-from record.commands import shellages, shelltext
+from record.commands import shelltext
 from record.make.owners import Make, makes_of
 from record.make.targets import RoundBuilder
-from record.trace.events import AGE_SEEN, AGE_TAKEN, AGE_UNKNOWN, BY_LIST, READ, SEEN, WRITTEN
+from record.trace.events import AGE_SEEN, AGE_TAKEN, BY_LIST, READ, SEEN, WRITTEN
 from record.trace.lives import Life
 from record.trace.names import Names
 
@@ -34,7 +34,7 @@ def add_ages(builder: RoundBuilder) -> None:
             compare(builder, at, names[0], path, node.name)
         for who, work in chain.from_iterable(works_of(builder, one) for one in (at, *build.tasks[at].parts)):
             inner_ages(builder, who, work)  # guard: inner-makes
-            ages_by_words(builder, who, work)  # guard: words-of-program
+            looked_at_ages(builder, who, work)  # guard: looks-of-programs
             ages_in_archives(builder, who, work)  # guard: ages-by-ar
 
 
@@ -49,8 +49,7 @@ def note_sources(builder: Builder) -> None:
     """Which names take over the age of which others: a file that is moved or linked, and one whose time a program sets, as `cp -p`
     and `touch -r` do, from what it looked at. An archive keeps the ages of what was put in, and may go through a pipe to who unpacks or keeps it."""
     for works in [*(works_of(builder, at) for at in range(len(builder.build.tasks))), *([(-1, work)] for _, work in builder.askers.works)]:
-        showing = (life for _, work in works for life in work.lives if any(map(shellages.shows_ages, life.ran)))  # guard: that-another-program-looks
-        shown = {path for life in showing for kind, path in life.events if kind == AGE_SEEN}  # a time may come from such a program, as a word
+        shown = {path for _, work in works for life in work.lives for kind, path in life.events if kind == AGE_SEEN}  # a time may come as a word  # guard: that-another-program-looks
         shown |= {path for _, work in works for path in packed(work)}  # guard: ages-through-pipe
         for life in (life for _, work in works for life in work.lives):
             names = {path for kind, path in life.events if kind in (READ, SEEN, BY_LIST)} | (life.handed() | shown if any(kind == AGE_TAKEN for kind, _ in life.events) else set())  # guard: standard-input-taken
@@ -154,26 +153,6 @@ def age_paths(names: Names, make: Make, name: str) -> List[str]:
     return [names.find(make.folder, name, follow).path for follow in ((True, False) if asks_links(make.words.flags, make.words.args) else (True,))]  # guard: their-own-age
 
 
-def settled_by(builder: Builder, at: int, work: Work, kind: str) -> Iterator[Tuple[int, int, str, str]]:
-    """Pairs of tasks that nothing orders and that settle the ages of two names which a recipe has looked at, with these names."""
-    writers, build = builder.build.writers, builder.build
-    wrote: Dict[int, List[str]] = {}
-    seen = {path for one, path in work.events if one == kind} | (compared_in_archives(work) if kind == AGE_SEEN else set())
-    for path in sorted({p for p in seen if (p in writers or p in builder.timers or p in builder.births or p in builder.sources)}):
-        for writer in writers_of(builder, path):
-            wrote.setdefault(writer, []).append(path)
-    for low, high in combinations(sorted(wrote), 2):
-        first, second = wrote[low][0], next((p for p in wrote[high] if p != wrote[low][0]), wrote[low][-1])
-        if first != second and at not in (low, high) and build.unordered(low, high):  # guard: two-names
-            yield low, high, first, second
-
-
-def compared_in_archives(work: Work) -> Set[str]:
-    """What else a packer compares where it takes in or puts out newer files alone (`tar -u`, `tar --keep-newer-files`): the ages in the archive that it
-    changes, and of what another packer of the recipe hands on."""
-    return packed(work) if any(shellages.shows_ages(argv) for life in work.lives if packs(life) for argv in life.ran) else set()  # guard: newer-files-through-pipe
-
-
 def ages_in_archives(builder: Builder, at: int, work: Work) -> None:
     """`ar` with `u` compares a file with the member of its name that another recipe has put into the archive. A folder is none."""
     tasks = builder.build.tasks
@@ -187,11 +166,21 @@ def ages_in_archives(builder: Builder, at: int, work: Work) -> None:
                     compare(builder, at, archive, path)
 
 
-def ages_by_words(builder: Builder, at: int, work: Work, assumed: str = "ages", words: str = "") -> None:
-    """Programs that compare ages: those of all names that they looked at, by who writes them. Of others nobody knows, which is what is `assumed`.
-    `words`: who they are where that is no task."""
-    for low, high, first, second in settled_by(builder, at, work, AGE_SEEN):
-        settle(builder, at, first, second, low, high)
-    unknown = next(settled_by(builder, at, work, AGE_UNKNOWN), None)
-    if unknown is not None:
-        builder.assumed.add(assumed, "%s looks at %s and %s" % (words or builder.build.tasks[at].node.name, unknown[2], unknown[3]))  # guard: programs-that-may-compare-ages
+def looked_at_ages(builder: Builder, at: int, work: Work, assumed: str = "ages", words: str = "") -> None:
+    """Who looks at two files may go by which of them is newer: other orders of those that settle it are to be tried. `at`: the task that looks, -1 for who is
+    none, of whom nothing else is known than `words` and what is `assumed`."""
+    build = builder.build
+    settled: Dict[int, Set[str]] = {}
+    for path in {path for kind, path in work.events if kind == AGE_SEEN and is_settled(builder, path)}:
+        for one in writers_of(builder, path) - {at}:
+            settled.setdefault(one, set()).add(path)
+    who = {one for one in settled if any(build.unordered(one, other) and len(settled[one] | paths) > 1 for other, paths in settled.items())}  # guard: two-names
+    if who:
+        build.looks.append((at, who, who))
+        names = sorted(set().union(*(settled[one] for one in who)))
+        builder.assumed.add(assumed, "%s looks at %s and %s" % (words or build.tasks[at].node.name, *names[:2]))  # guard: who-looks-at-two-files
+
+
+def is_settled(builder: Builder, path: str) -> bool:
+    """Whether the build settles the age of a name."""
+    return path in builder.build.writers or path in builder.timers or path in builder.births or path in builder.sources

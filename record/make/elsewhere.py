@@ -11,14 +11,14 @@ from typing import Dict, Iterator, List, NamedTuple, Sequence, Set, Tuple
 
 from record.build.builder import Askers, Builder
 from record.build.work import Tool, Work
-from record.make.ages import age_paths, ages_by_words, compare, packs, takes_over, works_of
+from record.make.ages import age_paths, compare, looked_at_ages, packs, takes_over, works_of
 from record.make.database import Base
 from record.make.owners import Owners
-from record.trace.events import AGE_SEEN, AGE_TAKEN, AGE_UNKNOWN
+from record.trace.events import AGE_SEEN, AGE_TAKEN
 from record.trace.lives import Life
 from record.trace.names import Names
 
-AGES = AGE_SEEN + AGE_UNKNOWN + AGE_TAKEN
+AGES = AGE_SEEN + AGE_TAKEN
 NEVER = 1 << 60
 
 
@@ -109,26 +109,13 @@ def part_of(life: Life) -> Life:
 
 
 def work_of(lives: List[Life]) -> Tuple[str, Work]:
-    """What some processes that belong together asked of ages, with words for one of those of which nobody knows whether they compare them."""
-    work, unknown = Work(lives=lives), []
+    """What some processes that belong together saw of ages, with words for the first of them."""
+    work = Work(lives=lives)
     for life in lives:
         for (kind, path), place in life.events.items():
-            asked = AGE_UNKNOWN if kind == AGE_SEEN and is_vague(life) else kind  # guard: shells
-            if asked in AGES:
-                work.add(asked, path, place)
-            if asked == AGE_UNKNOWN:
-                unknown.append(life)
-    return words_of((unknown or lives)[0]), work
-
-
-def is_vague(life: Life) -> bool:
-    """Whether it looks at much and seldom compares ages: interpreters, and makes that only ask."""
-    return life.is_query or life.traits().is_interpreter
-
-
-def words_of(life: Life) -> str:
-    """What a process is called in a report."""
-    return " ".join(life.argv)[:60]
+            if kind in AGES:
+                work.add(kind, path, place)
+    return " ".join(lives[0].argv)[:60], work
 
 
 def find_askers(builder: Builder, created: Dict[str, Dict[str, Set[int]]]) -> None:
@@ -136,7 +123,7 @@ def find_askers(builder: Builder, created: Dict[str, Dict[str, Set[int]]]) -> No
     if builder.elsewhere is None:
         return
     builder.askers = builder.elsewhere.beside(builder)
-    asked = [path for pair in builder.askers.pairs for path in pair] + [path for _, work in builder.askers.works for kind, path in work.events if kind in (AGE_SEEN, AGE_UNKNOWN)]
+    asked = [path for pair in builder.askers.pairs for path in pair] + [path for _, work in builder.askers.works for kind, path in work.events if kind == AGE_SEEN]
     for path in asked:
         if path in created or path in builder.made:
             builder.timed.setdefault(path, set())  # guard: folders
@@ -147,4 +134,4 @@ def add_elsewhere(builder: Builder) -> None:
     for first, second in builder.askers.pairs:
         compare(builder, -1, first, second)
     for words, work in builder.askers.works:
-        ages_by_words(builder, -1, work, "afterwards", words)
+        looked_at_ages(builder, -1, work, "afterwards", words)

@@ -9,7 +9,7 @@ from typing import Dict, Set
 
 from record.build.builder import Builder
 from record.make.folders import each
-from record.trace.events import AGE_UNKNOWN, CHANGES, CREATED, HELD, LOCKED, MODE_GIVEN
+from record.trace.events import AGE_SEEN, CHANGES, CREATED, HELD, LOCKED, MODE_GIVEN
 
 
 
@@ -46,7 +46,7 @@ def gather(builder: Builder) -> Dict[str, Lock]:
                 lock.modes.add(more)
             elif lock is not None and kind == LOCKED:
                 lock.makers.add(at)
-            elif lock is not None and kind not in CREATED + HELD + AGE_UNKNOWN:  # guard: what-is-under-the-lock
+            elif lock is not None and kind not in CREATED + HELD + AGE_SEEN:  # guard: what-is-under-the-lock
                 lock.askers.add(at)
                 lock.is_changed = lock.is_changed or kind in CHANGES
     return table

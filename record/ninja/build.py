@@ -7,7 +7,7 @@ from record.build.assumptions import Assumptions
 from record.build.builder import Builder
 from record.build.tasks import Build, Node, Task, befores, drop_lonely, order_tasks, renumber
 from record.build.work import Work
-from record.make.ages import ages_by_words, ages_in_archives, inner_ages, note_sources
+from record.make.ages import ages_in_archives, inner_ages, looked_at_ages, note_sources
 from record.make.elsewhere import add_elsewhere, find_askers
 from record.make.folders import add_folders, apart, parents
 from record.make.inner import add_inner
@@ -15,6 +15,7 @@ from record.make.locks import pass_locks
 from record.ninja.fix import owner_of
 from record.ninja.manifest import Edge
 from record.ninja.runs import NEVER, Job, Ninja, Stage
+from record.trace.events import FOLDER_ASKED
 from record.trace.lists import fits
 from record.trace.names import Names, join
 
@@ -246,7 +247,7 @@ class NinjaBuilder(Builder):
         for at, task in enumerate(self.build.tasks):
             for work in task.judged:
                 inner_ages(self, at, work)
-                ages_by_words(self, at, work)
+                looked_at_ages(self, at, work)
                 ages_in_archives(self, at, work)
         add_elsewhere(self)
         pass_locks(self)  # guard: ninja
@@ -262,9 +263,11 @@ class NinjaBuilder(Builder):
         for name, makers in (LOG, ran), (DEPS, {at for at in ran if self.build.edges[at].value("deps")}):  # guard: its-log-of-headers-among-names
             path = join(folder, name)
             is_new = self.ninja.life.events.get(("C", path), -1) > self.stage.opened  # guard: ninjas-own-log
-            if is_new and folder in self.timed:  # guard: its-log-and-age-of-folder
+            if is_new and folder in self.timed:
                 self.timers.setdefault(folder, set()).update(makers)
             for at in sorted(ran):
+                for asked in (text.split("\0") for work in tasks[at].works for kind, text in work.events if kind == FOLDER_ASKED and is_new):
+                    self.note_asked(at, asked[0], asked[1], {folder: {name: makers}})  # guard: its-log-and-time-of-folder
                 if any(kind in "RSNl" and found == path for work in tasks[at].works for kind, found in work.events):
                     apart(self, path + "/@output", "which commands stand in the log of ninja", at, ran - {at})
                 elif is_new and self.lists(at, path) and not any(self.build.is_before(maker, at) for maker in makers):  # guard: its-log-among-names

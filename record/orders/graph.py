@@ -127,9 +127,20 @@ class Graph:
             found[number, label] = {asked[path] for path in row["writes"] if path in asked}
         return found
 
+    def looked(self, after: Mapping[Key, set[Key]]) -> list[int]:
+        """For each recipe the earlier ones whose order with it somebody may have seen, who looked at ages or at a folder. `after`: which waits for which besides."""
+        found = [0] * len(self.tasks)
+        for number, build in self.builds.items():
+            for _, *sides in build["looks"]:
+                one, other = (self.bits(self.recipe_of(number, label) for label in side) for side in sides)
+                for at in numbers(one | other):
+                    waits = self.bits(self.keys[key] for key in after.get(self.tasks[at].key or (), ()) if key in self.keys)
+                    found[at] |= self.free[at] & ~waits & ((other if one >> at & 1 else 0) | (one if other >> at & 1 else 0))
+        return found
+
     def pairs(self) -> int:
         """How many pairs of recipes nothing orders."""
-        return sum(bin(one).count("1") for one in self.free)
+        return size(self.free)
 
     def turned(self, began: Sequence[Key]) -> list[int]:
         """For each task those that came before it in the serial build, and behind it in another one, of which this is the log."""
@@ -239,6 +250,11 @@ def numbers(bits: int) -> Iterator[int]:
         low = bits & -bits
         yield low.bit_length() - 1
         bits ^= low
+
+
+def size(sets: Sequence[int]) -> int:
+    """How many members some sets have together."""
+    return sum(bin(one).count("1") for one in sets)
 
 
 def placed(order: Sequence[Optional[Key]]) -> dict[Key, float]:

@@ -21,7 +21,7 @@ def tried(orders: Orders, number: str, folder: str, verdict: Verdict) -> Verdict
     races = [race for race in verdict.races if (race.first, race.second) not in cleared]
     known = {(race.first, race.second) for race in races}
     more = [one for one in orders["shown"] if one["build"] == number and (one["first"], one["second"]) not in known]
-    races += [Race(relative(folder, one["path"]) or one["second"], one["first"], "writes", one["second"], "reads") for one in more]
+    races += [Race(relative(folder, one["path"]) or one["second"], one["first"], "runs", one["second"], "runs") for one in more]
     shown = {(one["first"], one["second"]) for one in orders["shown"]}
     races.sort(key=lambda race: (race.first, race.second) not in shown)
     edges = ["%s: %s" % (race.second, race.first) for race in races]

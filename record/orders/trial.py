@@ -11,7 +11,7 @@ from typing import Any, Optional
 
 from record.orders.builds import FLIPPED, MANY, SERIAL, Built, CannotTry, Plan, Room, Running, side_by_side
 from record.orders.gate import Key
-from record.orders.graph import Graph, Pair, placed
+from record.orders.graph import Graph, Pair, numbers, placed, size
 from record.orders.trees import difference, differing, passing, remove
 
 AT_ONCE = 4  # builds that run side by side
@@ -57,6 +57,9 @@ class Trial:
 
     def __post_init__(self) -> None:
         self.pairs = [*self.soft]  # those that no other order has tried yet
+        self.looked = self.graph.looked(self.after)  # the same of recipes whose order somebody may have seen: for each the earlier ones  # guard: looks-are-tried
+        some = self.untried()
+        self.single = some if len(some) <= FEW else []  # those that are turned round alone
         self.turned = [0] * len(self.graph.tasks)
         self.unstable: list[set[str]] = [set() for _ in self.serial]  # names in which serial builds differ
         self.passing: list[list[re.Pattern[str]]] = [[] for _ in self.serial]
@@ -64,13 +67,17 @@ class Trial:
     def expected(self) -> int:
         """How many builds it will take if nothing differs, and each runs as its order says."""
         orders = [self.graph.flipped()]
-        left, orders = self.unturned(orders, self.pairs), orders + self.each_alone()
+        left, orders = self.unturned(orders, self.untried()), orders + self.each_alone()
         while left and len(orders) < self.most:
             orders.append(self.graph.covering(left))
             left, known = self.unturned(orders, left), len(left)
             if len(left) == known:
                 break
         return 1 + len(orders)
+
+    def untried(self) -> list[Pair]:
+        """All pairs that no other order has tried yet."""
+        return list(dict.fromkeys(self.pairs + [(first, second) for second, some in enumerate(self.looked) for first in numbers(some)]))
 
     def unturned(self, orders: Sequence[dict[Key, float]], pairs: list[Pair]) -> list[Pair]:
         """The pairs that some orders do not turn round, where each build runs as its order says."""
@@ -79,8 +86,8 @@ class Trial:
         return pairs
 
     def each_alone(self) -> list[dict[Key, float]]:
-        """What a look finds may depend on several: orders that turn round each soft conflict alone, and where there are many, one in which all users come first."""
-        return [self.graph.alone(pair) for pair in self.soft] if len(self.soft) <= FEW else list(filter(None, [self.graph.users_first()]))
+        """What a look finds may depend on several: orders that turn round each pair alone, and where there are many, one in which all users come first."""
+        return [self.graph.alone(pair) for pair in self.single] if self.single or not self.soft else list(filter(None, [self.graph.users_first()]))
 
     def make(self, *plans: Plan) -> list[tuple[Built, Optional[Ended]]]:
         """Some builds that count, side by side, and how they ended where that is otherwise than the serial one."""
@@ -131,13 +138,13 @@ class Trial:
         self.room.forget(again.plan)
 
     def is_unseen(self, pair: Pair) -> bool:
-        """Whether what two tasks, or who asks for what they settle, leave is not compared, as two serial builds differ in it."""
+        """Whether what two tasks, or who asks for what they settle, leave is not compared."""
+        return any(self.is_loose(number, {first, second} | self.graph.askers[number, first] & self.graph.askers[number, second]) for number, first, second in self.soft[pair])
+
+    def is_loose(self, number: str, labels: set[str]) -> bool:
+        """Whether two serial builds differ in what some tasks of a build leave, or perhaps in what somebody leaves who is no task."""
         loose = {os.path.join(self.room.tops[number], name) for number, found in enumerate(self.unstable) for name in found}
-        for number, first, second in self.soft[pair] if loose else ():
-            askers = self.graph.askers[number, first] & self.graph.askers[number, second]
-            if "" in askers or any(not loose.isdisjoint(self.graph.left_by(number, label)) for label in (first, second, *askers)):
-                return True
-        return False
+        return bool(loose) and ("" in labels or any(not loose.isdisjoint(self.graph.left_by(number, label)) for label in labels))
 
     def names(self, built: Built) -> list[tuple[int, str]]:
         """What a build left otherwise: the tree, and the name in it."""
@@ -160,6 +167,7 @@ class Trial:
         self.others += 1
         for at, earlier in enumerate(self.graph.turned(built.began)):
             self.turned[at] |= earlier
+            self.looked[at] &= ~earlier
         left = self.graph.left(self.pairs, built.began)
         self.cleared += [pair for pair in self.pairs if pair not in left]
         self.pairs = left
@@ -167,19 +175,23 @@ class Trial:
     def run(self, running: Running) -> None:
         """All builds: the flipped one, those in which one conflict alone is turned, and those that cover what is left, the first with two jobs."""
         plans = self.begin(running)
-        covers = [] if plans or not self.pairs else [self.cover(2)]  # beside the others, where the flipped one has shown what is left
+        covers = [] if plans or not self.count() else [self.cover(2)]  # beside the others, where the flipped one has shown what is left
         self.try_all(plans + covers + [Plan("alone%d" % number, places, after=self.after) for number, places in enumerate(self.each_alone())])
-        left = len(self.pairs) + 1
-        while 0 < len(self.pairs) < left or self.pairs and len(covers) < 2:
-            left = len(self.pairs)
+        left = self.count() + 1
+        while 0 < self.count() < left or self.pairs and len(covers) < 2:
+            left = self.count()
             covers.append(self.cover(MANY if covers else 2))
             self.try_all(covers[-1:])
             if not self.goes_on:
                 break
 
+    def count(self) -> int:
+        """How many pairs no other order has tried yet."""
+        return len(self.pairs) + size(self.looked)
+
     def cover(self, jobs: int) -> Plan:
         """A build that turns round what no other has."""
-        return Plan("cover", self.graph.covering(self.pairs), jobs, self.after)
+        return Plan("cover", self.graph.covering(self.untried()), jobs, self.after)
 
     def try_all(self, plans: Sequence[Plan]) -> None:
         """Makes builds, some at once."""
@@ -208,6 +220,7 @@ class Trial:
             self.after.setdefault(found.second, set()).add(found.first)
             both = {self.graph.keys.get(found.first), self.graph.keys.get(found.second)}
             self.pairs = [one for one in self.pairs if {*one} != both]
+            self.looked = [one & other for one, other in zip(self.looked, self.graph.looked(self.after))]
             self.cleared = [one for one in self.cleared if {*one} != both]
             (built, ended), = self.make(Plan("again", built.plan.places, built.plan.jobs, self.after))
         self.note(built)
@@ -258,7 +271,8 @@ class Trial:
 
     def result(self) -> dict[str, Any]:
         """What a record keeps of it."""
-        return {"builds": self.others, "made": self.builds, "pairs": self.graph.pairs(), "turned": sum(bin(one).count("1") for one in self.turned),
+        return {"builds": self.others, "made": self.builds, "pairs": self.graph.pairs(), "turned": size(self.turned),
+                "untried": any(self.looked) or any(self.is_loose(number, {asker}) for number, build in self.graph.builds.items() for asker, *_ in build["looks"]),
                 "files": sum(text.startswith("file") for held in self.serial for text in held.values()),
                 "unstable": sorted(os.path.join(self.room.tops[number], name) for number, found in enumerate(self.unstable) for name in found),
                 "cleared": [one for pair in self.cleared for one in self.soft[pair]], "left": [one for pair in self.pairs for one in self.soft[pair]], "shown": list(map(self.shown_labels, self.shown))}

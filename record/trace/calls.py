@@ -8,13 +8,13 @@ import os
 import re
 from typing import Callable, Dict, Iterable, List, Tuple
 
-from record.commands import shellages, shelltext
+from record.commands import shelltext
 from record.commands.system import SETTINGS, TEMPORARY
 from record.trace.arguments import TEXT_END, Opening, opening, spelled
 from record.trace.classes import COPIES, DOUBLES, LIMITS, NO_FILES, PAIRS, SHARING, SIGNALLED, SIGNALS, SLEEPS, WAITS, WRITES
 from record.trace.descriptors import CHANGING, OF_KERNEL, READING, requests
 from record.trace.events import (
-    ABSENT, AGE_SEEN, AGE_TAKEN, AGE_UNKNOWN, CREATED, ENTERED, FOLDER_ASKED, FOLDER_KEPT, FOLDER_REMOVED, HELD, LINKS_CHANGED, LINKS_SEEN, LISTED, MADE,
+    ABSENT, AGE_SEEN, AGE_TAKEN, CREATED, ENTERED, FOLDER_ASKED, FOLDER_KEPT, FOLDER_REMOVED, HELD, LINKS_CHANGED, LINKS_SEEN, LISTED, MADE,
     MADE_BEFORE, MADE_QUIETLY, MAKE_LISTED, MODE_CHANGED, MODE_GIVEN, READ, REFUSED, REMOVED, SEEN, TIME_CHANGED,
 )
 from record.trace.findwords import find_patterns
@@ -98,7 +98,7 @@ class Calls(Started):
         return found.base, found.path
 
     def on_look(self, life: Life, call: Call, ok: bool) -> None:
-        """A look at a name: at what stands there, or at the link itself. It counts for ages too where the program may compare them."""
+        """A look at a name: at what stands there, or at the link itself. All but a few calls show its age too."""
         base, path, folder, is_open, at_link = spelled(call.args)
         if folder:
             life.folder = folder
@@ -111,46 +111,33 @@ class Calls(Started):
         plain = path if call.name == "stat" or (call.name == "newfstatat" and follow and not path.startswith("/")) else ""
         link = call.name.startswith("readlink") and ok
         found = self.look(life, path, ok or call.error == "EINVAL", follow, READ if link else SEEN, base, plain)
-        self.note_search(life, path, ok)
-        is_begin = path == "." and life.looks == 0 and (life.last_look == found.path or self.is_place(life, life.last_look))  # as shells do when they start  # guard: looks-of-shell
-        life.looks, life.last_look = life.looks + (path == "."), found.path if path.startswith("/") else ""
-        traits = life.traits()
-        if traits.looks_at_links:
+        if life.traits().looks_at_links:
             self.put(life, LINKS_SEEN, found.path)
-        if traits.is_tool and not life.is_query:  # guard: compare-no-ages
-            return
-        if life.is_query or traits.is_interpreter and not (traits.makes_folders and shelltext.makes(life.argv, found.path)) or self.ages(life):  # guard: queries
-            is_folder = found.inode is not None and found.inode.kind == "d"
-            is_of_text = path == "." and not is_begin and traits.is_shell and shellages.is_unread(life.argv, life.folder)
-            if not is_folder or is_of_text or not self.is_own(life, path, found) or shelltext.names_here(life.argv):
-                life.sought = found.path if path == "." and (AGE_SEEN, found.path) not in life.events else ""  # guard: ages-of-folder-before
-                self.put(life, AGE_SEEN, found.path)
-        elif traits.asks_size and found.inode is not None and found.inode.kind == "d":  # guard: how-large
-            self.put(life, AGE_SEEN, found.path)
-        elif "access" not in call.name and "readlink" not in call.name and (found.path not in TEMPORARY or self.is_inside(found.path)):  # guard: folders-for-what
-            self.note_unknown(life, found.path, found.inode is not None and found.inode.kind == "d")
+        is_folder = found.inode is not None and found.inode.kind == "d"
+        if "access" not in call.name and "readlink" not in call.name and not (is_folder and self.is_own(life, path, found)):  # guard: folders-for-what
+            self.note_times(life, found.path, is_folder)
 
-    def note_unknown(self, life: Life, path: str, is_folder: bool, how: str = "") -> None:
-        """A program that nobody knows may compare the age of what it looks at; of a folder it may also show the size, or the number of links. `how`: a
-        zero byte where it looks by a descriptor."""
-        if self.is_unknown(life) and not how:
-            self.put(life, AGE_UNKNOWN, path)
-        if self.is_unknown(life) and is_folder and self.is_inside(path):
-            self.put(life, FOLDER_ASKED, "%s\0%s%s" % (path, shelltext.base_name(life.argv), how))  # guard: folders-for-whom-nobody-knows
+    def note_times(self, life: Life, path: str, is_folder: bool, how: str = "") -> None:
+        """Who looks at a file may go by its age; of a folder it also sees the size, and the number of links. `how`: a zero byte where it looks by a descriptor."""
+        if not self.goes_by_times(life) or path in TEMPORARY and not self.is_inside(path):
+            return
+        if is_folder and self.is_inside(path):
+            self.put(life, FOLDER_ASKED, "%s\0%s%s" % (path, shelltext.base_name(life.argv), how))  # guard: folders-that-are-asked
+        if not how:
+            self.put(life, AGE_SEEN, path)
 
     def on_fstat(self, life: Life, call: Call, ok: bool) -> None:
         """A look at what is open. Who lists a folder asks for its size on the way."""
-        if ok and "_mode=S_IFDIR" in call.args and not life.is_ninja:
-            self.note_unknown(life, "".join(folders(call.args)[:1]), True, "\0")
+        if ok and "_mode=S_IFDIR" in call.args:
+            self.note_times(life, "".join(folders(call.args)[:1]), True, "\0")
 
     @staticmethod
     def is_own(life: Life, path: str, found: Found) -> bool:
-        """Whether a process looks at the folder that it is in, or at one above, as shells do by themselves; interpreters also at those
-        in which they look for modules. A shell does so before it opens a script: what comes later may be of that."""
-        if life.compares_here:  # guard: ages-of-folder-of-script
-            return False
-        above = life.traits().is_interpreter or (life.folder.rstrip("/") + "/").startswith(found.path.rstrip("/") + "/")
-        return path == "." or path.startswith("/") and above  # guard: folders-by-whole-names
+        """Whether a shell or an interpreter looks at the folder that it is in, or at one above, as they do by themselves; interpreters also at those in which
+        they look for modules, by their whole paths."""
+        traits = life.traits()
+        above = traits.is_interpreter or (life.folder.rstrip("/") + "/").startswith(found.path.rstrip("/") + "/")
+        return (traits.is_shell or traits.is_interpreter) and (path == "." or path.startswith("/") and above)  # guard: folders-by-whole-names
 
     def on_chdir(self, life: Life, call: Call, ok: bool) -> None:
         """A process looks at a folder and enters it, with its threads."""
@@ -158,6 +145,9 @@ class Calls(Started):
         if not path:  # none that the process can read  # guard: folder-without-name
             return
         found = self.look(life, path, ok, True)
+        for key in ((AGE_SEEN, found.path), (FOLDER_ASKED, "%s\0%s" % (found.path, shelltext.base_name(life.argv)))) if ok else ():
+            if next(reversed(life.events), None) == key:  # `cd` looks before it enters  # guard: folders-that-are-entered
+                del life.events[key]
         if ok:
             life.enter(found.path)
             self.put(life, ENTERED, found.path)
@@ -272,9 +262,8 @@ class Calls(Started):
             self.is_open_shell = self.is_open_shell or shelltext.sets_options_in(found.path)  # guard: options-in-environment
         elif traits.is_shell:
             life.taken += (found.path,) if shelltext.takes_in(life.argv, found.path) else ()  # guard: what-they-read-first
-            life.compares_here = life.compares_here or shellages.tests_newer(found.path, tuple(life.argv), life.folder)
-        elif not traits.is_interpreter and (self.ages(life) or self.is_unknown(life)):  # guard: what-unknown-program-opens
-            self.put(life, AGE_SEEN if self.ages(life) else AGE_UNKNOWN, found.path)  # guard: what-is-opened
+        elif not traits.is_interpreter and self.goes_by_times(life):
+            self.put(life, AGE_SEEN, found.path)  # guard: what-is-opened
 
     def on_list(self, life: Life, call: Call, ok: bool) -> None:
         """A folder is listed: the event says for which names. Make remembers what it lists."""

@@ -12,8 +12,7 @@ ABSENT = "N"  # nothing was there; or a name could not be made, since its folder
 WAY_ABSENT = "P"  # a folder on the way was absent
 ENTERED = "U"  # a folder was entered
 LINKS_SEEN = "h"  # who looked may count its names
-AGE_SEEN = "A"  # a process looked that compares ages
-AGE_UNKNOWN = "a"  # a process looked of which nobody knows whether it compares ages
+AGE_SEEN = "A"  # who looked sees its age, and may go by it
 FOLDER_ASKED = "g"  # who looked sees a folder's time, its size and the number of its links: FOLDER\0PROGRAM; with one more zero byte by a descriptor
 MAKER_SEEN = "K"  # a script looked at a folder that it makes for itself
 

@@ -62,10 +62,6 @@ class Life:
     mask: int = 0  # the bits that names are made without
     handle: Tuple[int, str] = (-1, "")  # the descriptor that it got last, and what stands behind it, where that only stands for a name
     taken: Tuple[str, ...] = ()  # files that a shell read which its text does not name as its input
-    looks = 0  # how often it has looked at the folder that it is in, since it ran a program
-    last_look = ""  # what it looked at last, since then, by its whole path
-    sought = ""  # the folder that it has just looked at by `.`, where no earlier look of it was a question for its age
-    compares_here = False  # it runs a shell that has opened a script which asks which of two files is newer
     opened: Set[str] = field(default_factory=set)  # files that it opened while it ran a shell: who it starts may have them open too
     known: Optional[Traits] = None
     begun: int = 0  # where the program began that runs now

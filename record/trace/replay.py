@@ -5,10 +5,10 @@ import re
 from typing import Dict, List, Set, Tuple
 
 from record import machine
-from record.commands import shellages, shelltext
+from record.commands import shelltext
 from record.commands.system import OF_SYSTEM
 from record.trace.events import (
-    ABSENT, AGE_SEEN, AGE_UNKNOWN, BY_LIST, CHANGES, CREATED, ENTERED, FOLDER_REMOVED, MADE, MADE_QUIETLY, MAKER_SEEN, MAKE_OPENED, READ, REFUSED, REMOVED, SEEN, TREE_CHANGES, WAY_ABSENT, WRITTEN,
+    ABSENT, AGE_SEEN, BY_LIST, CHANGES, CREATED, ENTERED, FOLDER_REMOVED, MADE, MADE_QUIETLY, MAKER_SEEN, MAKE_OPENED, READ, REFUSED, REMOVED, SEEN, TREE_CHANGES, WAY_ABSENT, WRITTEN,
 )
 from record.trace.courses import Course
 from record.trace.lives import Act, Life
@@ -33,7 +33,6 @@ class Replay:
         self.said = ""  # the one in which each make has a file for what it says
         self.silent: Set[str] = set()  # names of the files of makes that only answer
         self.covered: Set[str] = set()  # the makes over which copies lie that have the library
-        self.first_place = (machine.variable("PATH") or os.defpath).split(":")[0]  # where a shell begins to look for a program
         self.unheard: Dict[int, str] = {}  # by id of a life: the words of a make that has not opened its file
         self.below_tops = tuple(top.rstrip("/") + "/" for top in tops)
         self.first_folder = folder
@@ -52,13 +51,10 @@ class Replay:
         self.fresh: Set[str] = set()  # names that were surely absent when they were made
         self.makers: List[str] = []
         self.progress: List[str] = []  # folders in which CMake counts what is built
-        self.aged: Dict[str, bool] = {}
         self.firsts: Dict[str, List[str]] = {}  # by program: the words of its first line, where it is a script
         self.makes_by_path: Dict[str, bool] = {}  # by program: whether it is the make that the recorder knows
-        self.scripts: Dict[str, int] = {}  # those whose text compares no ages, and when they were first asked
         self.watchers: List[str] = []  # who lists the processes that run, or waits for changes of files
         self.changes: List[Tuple[int, str, str]] = []  # names that come and go, in order
-        self.askers: List[str] = []  # who asks when a file was read last
         self.is_open_shell = bool(shelltext.SHELL_MACROS & {*machine.variables()})  # shells may have other options than their words say
 
     # ---------------------------------------------------------------- processes
@@ -79,26 +75,6 @@ class Replay:
             self.all.append(life)
         return life
 
-    def ages(self, life: Life) -> bool:
-        """Whether the process may compare ages."""
-        traits = life.traits()
-        if traits.is_shell and (self.is_open_shell or any(shellages.script_compares(path, life.folder) for path in life.taken)):  # guard: ages-by-what-they-read-first
-            return True
-        if traits.ages is None:
-            key = "\0".join([life.folder, *life.argv])  # guard: scripts-of-one-name
-            if key not in self.aged:
-                self.aged[key] = shellages.compares_ages(life.argv, life.folder)
-            script = shelltext.script_of(life.argv)
-            if not self.aged[key] and script:
-                self.scripts.setdefault(self.names.find(life.folder, script, True).path, self.place)
-            above = life.parent
-            traits.ages = self.aged[key] and (above is None or not shellages.asks_where_it_leads(life.argv, above.argv, above.folder))  # guard: where-their-links-lead
-        return traits.ages
-
-    def rewritten(self) -> List[str]:
-        """Scripts that were changed when they had run: what is read of them now is not what ran."""
-        return [path for life in self.all for path, place in life.changed.items() if place > self.scripts.get(path, 1 << 60)]
-
     def strays(self) -> List[str]:
         """Processes that did something, and of which nobody knows who started them: in a name space of its own a process has another number
         than in the trace. A thread may end with its process before the call that started it is finished."""
@@ -111,7 +87,7 @@ class Replay:
         if not child.is_heir:  # else it may have changed these since  # guard: what-process-changed-before-its-start-is-finished
             child.folder, child.mask = parent.folder, parent.mask
             child.course.files = {**parent.course.files}  # guard: descriptors-of-who-started-it
-            child.cut, child.taken, child.compares_here, child.looks = parent.cut, parent.taken, parent.compares_here, parent.looks  # guard: ages-of-folder-in-part-of-script
+            child.cut, child.taken = parent.cut, parent.taken
         child.argv = child.argv or parent.argv
 
     def play(self, event: Event) -> None:
@@ -183,7 +159,7 @@ class Replay:
         if path.startswith(KERNEL) and DEVICES.match(path) and not self.is_inside(path):  # guard: devices-are-no-files
             if is_hidden(kind, path):  # guard: numbers-hole
                 self.holes.append("a file is known by the number of its descriptor alone: %s of %s" % (path, " ".join(life.argv)[:100]))
-            for name in life.handed() if kind in (AGE_SEEN, AGE_UNKNOWN) and NUMBER.match(path) else ():  # guard: files-that-are-open
+            for name in life.handed() if kind == AGE_SEEN and NUMBER.match(path) else ():  # guard: files-that-are-open
                 self.put(life, kind, name)
             return
         if path.startswith(self.own):

@@ -5,11 +5,10 @@ import re
 from typing import List
 
 from record import machine
-from record.commands import shellages, shelltext
-from record.commands.computed import runs_unseen
+from record.commands import shelltext
 from record.commands.copies import is_other_make
 from record.trace.descriptors import Opened
-from record.trace.events import AGE_SEEN, AGE_UNKNOWN, READ
+from record.trace.events import AGE_SEEN, READ
 from record.trace.lives import Life
 from record.trace.loader import interpreter_words
 from record.trace.names import Found
@@ -18,11 +17,6 @@ from record.trace.strace import Call, first_text, folders, is_cut, texts
 CHECKS = re.compile(r"\b(?:AT_EXECVE_CHECK|0x10000(?: /\* AT_\?\?\? \*/)?)$")  # flags of execveat by which nothing is run
 OF_MAKE = re.compile(r"(\d+)\.(\d+)\.make$")  # the file for what a make says
 SCRIPTS = 5  # how many scripts may be the interpreter of one another; the kernel allows no more
-
-
-def is_bash(argv: List[str]) -> bool:
-    """Whether a process runs bash, perhaps by the name `sh`."""
-    return shelltext.base_name(argv) == "bash" or shelltext.base_name(argv) == "sh" and os.path.basename(machine.realpath("/bin/sh")) == "bash"
 
 
 class Started(Opened):
@@ -45,8 +39,6 @@ class Started(Opened):
         self.begin_program(life, (words[1:] or words)[0])
         self.note_rights(life, found.path)
         self.is_open_shell = self.is_open_shell or shelltext.sets_options(life.argv, life.folder)
-        if shellages.asks_reads(life.argv, life.folder):  # guard: said
-            self.askers.append(" ".join(life.argv)[:100])
         is_real = self.is_real_make(found.path)
         life.is_make = is_real or life.is_make and life.number >= 0
         if is_real or is_other_make(found.path, self.real):
@@ -58,8 +50,7 @@ class Started(Opened):
     def take_words(self, life: Life, call: Call, words: List[str], found: Found) -> None:
         """A life has other words from here on, those of a script as its interpreter gets them. `words`: the program, and the words that it is handed."""
         argv = words[1:]
-        life.taken, life.compares_here, life.looks = (), False, 0  # guard: ages-of-folder-that-script-has-just-begun
-        life.last_look = ""  # guard: looks-of-program-before
+        life.taken = ()
         argv = shelltext.with_interpreter(argv, found.path, self.first_words(found.path))  # guard: scripts-are-of-their-interpreter
         life.program = found.path
         life.is_ninja = argv == words[1:] and bool(shelltext.NINJA.match(os.path.basename(found.path)))
@@ -95,21 +86,8 @@ class Started(Opened):
     def note_handed(self, life: Life) -> None:
         """A program may ask how old a file is that a shell has opened for it, and no call names that."""
         traits = life.traits()
-        is_asked = traits.asks_input or not traits.is_interpreter and not traits.is_shell and self.is_unknown(life)
-        for path in life.handed() if is_asked else ():
-            self.put(life, AGE_SEEN if traits.asks_input or self.ages(life) else AGE_UNKNOWN, path)
-
-    def note_search(self, life: Life, path: str, ok: bool) -> None:
-        """bash looks at `.` before it searches for a program, and then in the first folder of `PATH`: that was no question for an age. It looks
-        there without a search for what it has found before: so what is there does not count."""
-        if life.sought and not ok and os.path.dirname(path) == self.first_place and is_bash(life.argv):  # guard: searches-of-another-shell
-            life.events.pop((AGE_SEEN, life.sought), None)  # guard: programs-that-bash-searches
-        life.sought = ""
-
-    @staticmethod
-    def is_place(life: Life, path: str) -> bool:
-        """Whether a path may be what `PWD` says: the folder of who started a process, which that has left without a word to it, as `make -C` does."""
-        return bool(path) and (path == machine.variable("PWD") or any(path == up.folder for up in life.up()))
+        for path in life.handed() if not traits.is_interpreter and not traits.is_shell and self.goes_by_times(life) else ():
+            self.put(life, AGE_SEEN, path)
 
     def first_words(self, path: str) -> List[str]:
         """The words of a script's first line, read once: the build has ended."""
@@ -136,9 +114,6 @@ class Started(Opened):
                 self.unheard.setdefault(id(life), " ".join(life.argv)[:200])
             self.put_look(life, found, found.inode is not None, READ)
 
-    def is_unknown(self, life: Life) -> bool:
-        """Whether nobody knows if a program compares the ages of what it looks at, or of what it has opened."""
-        traits = life.traits()
-        if traits.is_open is None:
-            traits.is_open = (runs_unseen if traits.is_shell else shellages.may_show_ages)(life.argv, life.folder)  # guard: programs-that-may-show-ages
-        return not life.is_make and (not traits.is_ageless or bool(traits.is_open) or self.is_inside(life.program))
+    def goes_by_times(self, life: Life) -> bool:
+        """Whether a program may go by the times of what it looks at. Makes and ninjas say which ages they compare, other than a make that only asks."""
+        return life.is_query or not (life.is_make or life.is_ninja or life.traits().is_ageless and not self.is_inside(life.program))  # guard: queries

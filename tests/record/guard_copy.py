@@ -25,6 +25,7 @@ from patched import Loaded, Patch, apply
 HERE = Path(__file__).resolve().parent
 TOP = HERE.parent.parent
 SECONDS = 900
+TRIES = 3
 COMPILED: Dict[bytes, CodeType] = {}
 IMPORT = re.compile(r"(?m)^ *(?:from ([\w.]+) import ([\w, ]*)|import ([\w., ]+))")
 
@@ -201,15 +202,18 @@ def tests_of(names: List[str], stale: Set[str], patches: List[Patch], kept: Opti
 
 
 def fault_of(guard: Guard, copy: Copy) -> str:
-    """What is wrong where a guard is off, or nothing where its test sees it."""
+    """What is wrong where a guard is off, or nothing where its test sees it. What shows only where two processes meet may take several tries."""
     with copy.without(guard) as fault:
-        if fault:
-            return fault
-        output = copy.test([guard.test], [guard.module])
+        outputs = (copy.test([guard.test], [guard.module]) for _ in range(0 if fault else TRIES))
+        return fault or next((fault_in(guard, copy, output) for output in outputs if re.search(r"(?m)^FAILED", output)), "no failure of %s" % guard.test)
+
+
+def fault_in(guard: Guard, copy: Copy, output: str) -> str:
+    """What is wrong with how a test fails where a guard is off, or nothing."""
     if copy.stops(output):
         return "the %s stops in place of a wrong answer:\n%s" % ("recorder" if type(copy) is Copy else "companion", output[-1500:])
     if not re.search(r"(?m)^FAILED \(failures=\d+\)$", output):
-        return "no failure of %s" % guard.test
+        return "%s ends with an error:\n%s" % (guard.test, output[-1500:])
     if guard.gives not in output:
         return "%s fails, and not with '%s':\n%s" % (guard.test, guard.gives, output[-1500:])
     return ""

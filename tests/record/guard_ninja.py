@@ -6,6 +6,7 @@ from guard import FALSE_RACE, LOST_HOLE, LOST_RACE, UNSAID, WITHHELD, YES, Guard
 
 GUARDS: List[Guard] = [
     *guards("ninja/build.py",
+        ("its-log-and-time-of-folder", "pass", "ninja.Ninja.log_and_the_time_of_its_folder", UNSAID),
         ("header-that-log-knows-is-no-input", "after = [{place[m.number] for m in manifest.makers_of(edge) + [manifest.makers[p] for p in __import__('subprocess').run(['ninja', '-C', self.ninja.folder, '-t', 'deps', edge.label], capture_output=True, text=True).stdout.split() if p in manifest.makers] if m.number in place} for edge in kept]",
          "ninja.Ninja.warm_by_log_of_headers", LOST_RACE),
         ("header-that-log-knows-is-no-input", "after = [{place[m.number] for m in manifest.makers_of(edge) + [k for k in kept if k.value('pool') == edge.value('pool') != '' and k.number < edge.number] if m.number in place} for edge in kept]",
@@ -29,7 +30,6 @@ GUARDS: List[Guard] = [
         ("ninja", "pass", "locks.Others.ninja", FALSE_RACE),
         ("its-log-of-headers-among-names", "for name, makers in (LOG, ran), (DEPS, set()):", "ninja.Ninja.log_of_headers_that_is_listed", YES),
         ("ninjas-own-log", "is_new = True", "ninja.Ninja.log_that_was_there", FALSE_RACE),
-        ("its-log-and-age-of-folder", "if False:", "ninja.Ninja.log_and_the_age_of_its_folder", YES),
         ("its-log-among-names", "elif False and not any(self.build.is_before(maker, at) for maker in makers):", "ninja.Ninja.log_that_is_listed", YES),
         ("its-log-among-names", "elif is_new and self.lists(at, path):", "ninja.Ninja.log_that_is_listed_behind_another", FALSE_RACE),
         ("log-that-does-not-fit", "return any(folder == os.path.dirname(path) for folder, pattern in found)", "ninja.Ninja.log_that_a_pattern_does_not_fit", FALSE_RACE),

@@ -18,6 +18,7 @@ GUARDS: List[Guard] = [
         ("what-tool-does-itself", "if (one.first, one.second) not in known and first != second:", "orders.Orders.folder_that_ninja_makes_before_a_recipe_begins", YES),
     ),
     *guards("orders/trial.py",
+        ("looks-are-tried", "self.looked = [0] * len(self.graph.tasks)", "orders.Orders.case_one_order_of_three"),
         ("builds-that-need-other-machines", "raise CannotTry(again.message())", "orders.Orders.build_that_needs_a_server_of_this_machine"),
         ("no-more-than-there-may-be", "some = left[:AT_ONCE]", "orders.Orders.as_many_as_may_be"),
         ("order-of-the-serial-build", "least = 0", "orders.Orders.nothing_but_jobs"),

@@ -10,7 +10,7 @@ import support
 from record.trace.sifting import Skip
 from test_courses import RUN
 from test_replay import TOP, events_of, lives_of, played
-from test_small import Small, makefiles
+from test_small import LOOKS, Small, makefiles
 
 SOCKET = "import socket\nsocket.socket(socket.AF_UNIX).connect_ex('\\0race-test')\n"
 ABSENT = "all: u a\nu: ; %s 2> /dev/null || echo no > u; touch u\na: ; mkdir d; touch a\n"
@@ -67,8 +67,9 @@ Makefiles = makefiles(__name__, {
     "pattern_of_what_a_shell_reads_first": Small("race", BASH + "export BASH_ENV = s\nall: a b\na: ; echo a > d/n\nb: ; show > b; echo e/*.x >> b\n", {"s": FUNCTION, "d/k": "k", "e/1.x": ""}),
     "pattern_of_options_in_the_environment": Small("race", BASH + "export BASHOPTS = extglob\nall: a b\na: ; echo a > d/n\nb: ; echo d/@(n|m) e/*.x > b\n", {"d/k": "k", "e/1.x": ""}),
     # ages
-    "size_of_a_folder": Small("race", "all: a b\na: ; echo 1 > d/n; touch a\nb: ; stat -c %s d > b\n", {"d/k": "k"}, below="/dev/shm"),
+    "size_of_a_folder": Small("safe", "all: a b\na: ; echo 1 > d/n; touch a\nb: ; stat -c %s d > b\n", {"d/k": "k"}, below="/dev/shm", says="programs that look at a folder"),
     # what programs ask of a folder
+    "folder_that_a_shell_enters": Small("safe", HERE % "cat s", {"d/s": ""}, lacks="programs that look at a folder"),
     "folder_that_an_unknown_program_asks_for": Small("safe", ASKED % "./l d > b", {"d/k": "", "l.c": LINKS}, "cc -o l l.c", says="such as l of d in b)"),
     "open_folder_that_an_unknown_program_asks_for": Small("safe", ASKED % "./l d > b", {"d/k": "", "l.c": LINKS.replace("stat(a[1]", "fstat(open(a[1], 0)")}, "cc -o l l.c", says="such as l of d in b)"),
     "folder_that_a_known_program_asks_for": Small("safe", ASKED % "cc -Id -c k.c -o b", {"d/k": "", "k.c": ""}, lacks=FOLDERS),
@@ -88,19 +89,8 @@ Makefiles = makefiles(__name__, {
     # names below another root
     "name_below_another_root": Small("no verdict", "all: b a\na: ; echo 1 > d/x; touch a\nb: ; ./o || touch b\n", {"d/k": "k", "o.c": IN_ROOT}, "cc -o o o.c", says="RESOLVE_IN_ROOT"),
     # ages of the folder that a script is in
-    "age_of_a_folder_in_a_script": Small("race", HERE % "sh ../t", IN_FOLDER, says="(the time of the folder"),
-    "age_of_a_folder_in_a_script_that_is_taken_in": Small("race", HERE % ". ../t", IN_FOLDER, says="RACE  d  (the time of the folder"),
-    "age_of_a_folder_by_the_whole_path": Small("race", HERE % "sh ../t", {**IN_FOLDER, "t": "[ $PWD -nt s ] && echo newer; true\n"}, says="(the time of the folder"),
-    "age_of_a_folder_in_a_text_from_a_file": Small("race", HERE % "sh < ../t", IN_FOLDER, says="(the time of the folder"),
-    "age_of_a_folder_for_a_shell_without_one": Small("race", HERE % "env -u PWD sh < ../t", IN_FOLDER, says="(the time of the folder"),
-    "age_of_a_folder_for_a_shell_that_looks_at_another_first": Small("race", HERE % "env -u PWD sh < ../t", {**IN_FOLDER, "t": "test -f $PWD/s && [ . -nt s ] && echo newer; true\n"},
-                                                                     says="(the time of the folder"),
-    "age_of_a_folder_between_searches": Small("race", HERE % "bash ../t", {"t": GETS + "cat s; [ . -nt s ] && echo newer; date -u -d @0\n", "d/s": ""}, says="(the time of the folder"),
-    "age_of_a_folder_before_a_search": Small("race", HERE % "bash ../t", {"t": GETS + "[ s -ot . ] && date -u -d @0; true\n", "d/s": ""}, says="(the time of the folder"),
-    "age_of_a_folder_before_a_program_that_is_known": Small("race", HERE % "bash -o posix ../t", {"t": GETS + "make -v > /dev/null; [ s -ot . ]; make -v\n", "d/s": ""}, says="(the time of the folder"),
+    "age_of_a_folder_in_a_script": Small("race", HERE % "sh ../t", IN_FOLDER, is_tried=True),
     "text_that_eval_gets_in_a_make_inside": Small("safe", "all: a b\na: ; $(MAKE) -C d -f ../m\nb: ; touch d/x b\n", {"m": ".PHONY: all\nall: ; x=\"$$(cat ../t)\"; eval \"$$x\"\n", "t": "echo 1 > ../a\n", "d/s": ""}),
-    "age_of_a_folder_in_a_text_that_eval_gets_in_a_make_inside": Small("race", "all: a b\na: ; $(MAKE) -C d -f ../m\nb: ; touch d/x b\n",
-                                                                       {"m": ".PHONY: all\nall: ; x=\"$$(cat ../t)\"; eval \"$$x\"\n", "t": "[ . -nt s ] && echo 1 > ../a; true\n", "d/s": ""}, says="(the time of the folder"),
     "other_text_from_a_pipe": Small("safe", HERE % "cat ../t | sh", {"t": "[ s -nt t ] && echo newer; true\n", "d/s": "", "d/t": ""}),
     "script_that_bash_takes_in": Small("safe", "SHELL = /bin/bash\nall: a b\na: ; y=2; . ./v; echo $$x > a\nb: ; touch b\n", {"v": "x=1\n"}),
     # the same of a script
@@ -191,13 +181,10 @@ class Descriptors(unittest.TestCase):
         replay = played(made, '1 link("x", "y") = 0', '1 rename("x", "y") = 0', "1 vfork() = 2", made.replace("1", "2", 1))
         self.assertIn(("W", "y"), events_of(lives_of(replay, 2)[0]))
 
-    def test_what_an_unknown_program_opens(self) -> None:
-        self.assertIn(("a", "f"), self.events(f'1 openat(AT_FDCWD<{TOP}>, "f", O_RDONLY) = 4<{TOP}/f>'))
-
     def test_what_an_unknown_program_looks_at(self) -> None:
         for path, wanted in (("/var/x", True), ("/tmp", False)):
             replay = played('1 execve("/opt/tool", ["tool", "x"], 0x1 /* 1 var */) = 0', '1 stat("%s", {st_mode=S_IFDIR|0777, st_size=4096, ...}) = 0' % path)
-            self.assertEqual(wanted, ("a", path) in lives_of(replay, 1)[0].events, path)
+            self.assertEqual(wanted, ("A", path) in lives_of(replay, 1)[0].events, path)
 
     def test_folder_of_modules(self) -> None:
         opened = '1 openat(AT_FDCWD<%s>, "gcm.cache/m.gcm~", O_RDWR|O_CREAT|O_TRUNC|O_CLOEXEC, 0666) = ' % TOP

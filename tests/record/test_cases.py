@@ -26,7 +26,7 @@ def test_of(folder: Path) -> Callable[[unittest.TestCase], None]:
             project.copy(folder / "tree")
             project.sh((folder / "setup").read_text())
             options = (folder / "options").read_text().split() if (folder / "options").exists() else []
-            outcome = project.record(words_of(folder), options)
+            outcome = project.record(words_of(folder), options, once=not (folder / "tried").exists())
         about = (folder / "about").read_text()
         wanted = (folder / "want").read_text().strip()
         self.assertEqual(STATUSES[wanted], outcome.status, "%s%s%s" % (about, outcome.text()[-1500:], outcome.stderr.decode()[-800:]))

@@ -4,7 +4,6 @@ import os
 import tempfile
 import unittest
 
-from record.commands.shellages import asks_reads
 from record.commands.texts import is_plain, text_of
 from test_small import Small, makefiles
 
@@ -36,8 +35,3 @@ class Texts(unittest.TestCase):
             for path in (room + "/pipe", room, room + "/no", "/dev/stdin", "/dev/fd/0", "/proc/self/status", "/x/../dev/stdin"):
                 self.assertFalse(is_plain(path), path)
             self.assertRaises(OSError, text_of, room + "/no")
-
-    def test_words_about_read_times(self) -> None:
-        for argv, wanted in ((["perl", "-e", "print -A $f"], True), (["python3", "-c", "x.st_atime"], True), (["python3", "-c", "x.st_mtime"], False),
-                             (["sh", "-c", "cc -o ls ls.o -lutil"], False), (["sh", "-c", "cc -o ls ls.o; ls -lu"], True)):
-            self.assertEqual(wanted, asks_reads(argv, "/"), argv)

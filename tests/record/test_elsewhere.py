@@ -2,8 +2,9 @@
 links that recipes make."""
 
 import support  # noqa: F401
-from test_small import COMMANDS, Small, makefiles
+from test_small import COMMANDS, LOOKS, Small, makefiles
 
+AFTERWARDS = "who looks at two files when the build that made them has ended"
 # Two recipes that nothing orders make x and y; with one job x is newer.
 SIDE = "all: y x\ns: ; touch s\ny: s ; touch y\nx:%s ; touch x\n"
 FIRST, ORDERED = SIDE % "", SIDE % " y"
@@ -36,13 +37,13 @@ Makefiles = makefiles(__name__, {
     "ages_for_the_make_above_that_makes_it_anyway": Small("safe", "all: x\nx: y q ; echo again >> x\ny: q\nq: ; $(MAKE) -f a.mk; touch q\n", {"a.mk": FIRST}),
     "ages_for_a_make_that_begins_again": Small("race", RESTART % ""),
     "ages_for_a_make_that_begins_again_in_order": Small("safe", RESTART % " y"),
-    "ages_for_a_query": Small("safe", "", {"a.mk": FIRST, "b.mk": AGAIN}, says="interpreters, programs that nobody knows"),
+    "ages_for_a_query": Small("safe", "", {"a.mk": FIRST, "b.mk": AGAIN}, says=AFTERWARDS),
     # programs elsewhere
-    "ages_for_a_script": Small("race", "", {"a.mk": FIRST}),
-    "ages_for_a_script_that_asked_before": Small("race", "", {"a.mk": FIRST, "x.c": ""}),
-    "ages_for_a_script_of_python": Small("safe", "", {"a.mk": FIRST, "x": "", "y": "", "w.py": PYTHON}, "touch -d 2001-01-01 x y", "interpreters, programs that nobody knows"),
+    "ages_for_a_script": Small("safe", "", {"a.mk": FIRST}, says=AFTERWARDS),
+    "ages_for_a_script_that_asked_before": Small("safe", "", {"a.mk": FIRST, "x.c": ""}, says=AFTERWARDS),
+    "ages_for_a_script_of_python": Small("safe", "", {"a.mk": FIRST, "x": "", "y": "", "w.py": PYTHON}, "touch -d 2001-01-01 x y", AFTERWARDS),
     "ages_for_a_script_before": Small("safe", "", {"a.mk": FORCED, "x": "", "y": ""}),
-    "ages_for_the_recipe_that_calls_make": Small("race", "all: ; $(MAKE) -f a.mk; %s\n" % ASKS, {"a.mk": FIRST}),
+    "ages_for_the_recipe_that_calls_make": Small("safe", "all: ; $(MAKE) -f a.mk; %s\n" % ASKS, {"a.mk": FIRST}, says=AFTERWARDS),
     "ages_for_the_recipe_that_calls_make_in_order": Small("safe", "all: ; $(MAKE) -f a.mk; %s\n" % ASKS, {"a.mk": ORDERED}),
     "ages_of_two_recipes_that_ask_apart": Small("safe", "all: q r\nq: ; $(MAKE) -f a.mk; find y -newer k > q\nr: q ; find x -newer k > r\n", {"a.mk": FIRST, "k": ""}),
     "ages_that_copies_keep": Small("race", "all: ; $(MAKE) -f a.mk; mkdir i; cp -p x y b.mk i; $(MAKE) -C i -f b.mk\n", {"a.mk": FIRST, "b.mk": AGAIN}),
@@ -51,8 +52,8 @@ Makefiles = makefiles(__name__, {
     "ages_that_copies_do_not_keep": Small("safe", "all: ; $(MAKE) -f a.mk; mkdir i; cp y i; cp x b.mk i; $(MAKE) -C i -f b.mk\n", {"a.mk": FIRST, "b.mk": AGAIN}),
     # folders and links
     "age_of_a_folder_for_a_make_behind_another": Small("race", "all: ; $(MAKE) -f a.mk; $(MAKE) -f b.mk\n", {"a.mk": "all: q y\ns: ; touch s\nq: s ; mkdir d; touch q\ny: ; touch y\n", "b.mk": "all: y\ny: d ; echo again >> y\nd: ;\n"}),
-    "age_of_an_empty_folder": Small("race", FOLDER % ("mkdir d", NEWER)),
-    "age_of_an_empty_folder_by_p": Small("race", FOLDER % ("mkdir -p d", NEWER)),
+    "age_of_an_empty_folder": Small("safe", FOLDER % ("mkdir d", NEWER), says=LOOKS),
+    "age_of_an_empty_folder_by_p": Small("safe", FOLDER % ("mkdir -p d", NEWER), says=LOOKS),
     "age_of_an_empty_folder_for_a_make_inside": Small("race", FOLDER % ("mkdir d", "$(MAKE) -s -f b.mk"), {"b.mk": "all: y\ny: d ; @echo again >> y\nd: ;\n"}),
     "age_of_an_empty_folder_of_no_rule_for_a_make_inside": Small("race", FOLDER.replace("d: s ;", "q: s ;").replace("all: d", "all: q").replace("c: d", "c: q") % ("mkdir d; touch q", "$(MAKE) -s -f b.mk"), {"b.mk": "all: y\ny: d ; @echo again >> y\nd: ;\n"}),
     "age_of_an_empty_folder_in_order": Small("safe", FOLDER.replace("y: ;", "y: d ;") % ("mkdir d", NEWER)),

@@ -123,23 +123,23 @@ class Ages(unittest.TestCase):
     def test_two_names_that_a_third_compares(self) -> None:
         rules = {"a": [], "b": [], "c": ["a", "b"]}
         done: Dict[str, Events] = {"a": [("C", "x"), ("W", "x")], "b": [("C", "y"), ("W", "y")], "c": [("A", "x"), ("A", "y")]}
-        self.assertEqual({"x/@age": ("a", "b")}, meetings(build_of(rules, done)))
-        self.assertEqual({}, meetings(build_of({"a": [], "b": ["a"], "c": ["a", "b"]}, done)))
-        self.assertEqual({}, meetings(build_of(rules, {**done, "c": [("A", "x")]})))
+        self.assertEqual([(2, {0, 1}, {0, 1})], build_of(rules, done).looks)
+        self.assertEqual([], build_of({"a": [], "b": ["a"], "c": ["a", "b"]}, done).looks)
+        self.assertEqual([], build_of(rules, {**done, "c": [("A", "x")]}).looks)
 
     def test_many_names_by_few_writers(self) -> None:
         names = ["n%d" % n for n in range(900)]
         rules = {"a": [], "b": [], "c": ["a", "b"]}
         build = build_of(rules, {"a": [("W", n) for n in names[:450]], "b": [("W", n) for n in names[450:]], "c": [("A", n) for n in names]})
-        self.assertEqual([("a", "b")], list(meetings(build).values()))
+        self.assertEqual([(2, {0, 1}, {0, 1})], build.looks)
 
     def test_age_of_a_folder_by_what_is_in_it(self) -> None:
         rules = {"a": [], "b": [], "c": ["a", "b"]}
         done: Dict[str, Events] = {"a": [("C", "d/x")], "b": [("W", "y")], "c": [("A", "d"), ("A", "y")]}
-        self.assertEqual({"d/@age": ("a", "b")}, meetings(build_of(rules, done, {"d": "d", "y": "f"})))
+        self.assertEqual([(2, {0, 1}, {0, 1})], build_of(rules, done, {"d": "d", "y": "f"}).looks)
 
     def test_time_of_a_folder(self) -> None:
-        self.assertEqual({"d/@time": ("a", "b")}, meetings(build_of(AB, {"a": [("C", "d/x")], "b": [("A", "d")]}, {"d": "d"})))
+        self.assertEqual([(1, {1}, {0})], build_of(AB, {"a": [("C", "d/x")], "b": [("g", "d\0tool")]}, {"d": "d"}).looks)
 
 
 Makefiles = makefiles(__name__, {

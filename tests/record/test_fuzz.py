@@ -39,11 +39,11 @@ class Judges(unittest.TestCase):
 
     def test_yes_that_prints_what_is_broken(self) -> None:
         """A file that an assumption is about may differ where this assumption is printed, and no other file."""
-        broken = Project(1, [Block(["a", "b"], RACE.blocks[0].text + RACE.blocks[1].text, {}, {"b": "read-times"})])
+        broken = Project(1, [Block(["a", "b"], RACE.blocks[0].text + RACE.blocks[1].text, {}, {"b": "locks"})])
         says = "printf 'SAFE\\nsafe, if:\\n  - %s (1, such\\n    as x)\\n'\n"
-        self.assertEqual("assumption broken", self.result(broken, says % TEXTS["read-times"]).kind)
+        self.assertEqual("assumption broken", self.result(broken, says % TEXTS["locks"]).kind)
         self.assertEqual("wrong yes", self.result(broken, says % TEXTS["output"]).kind)
-        self.assertEqual("wrong yes", self.result(RACE, says % TEXTS["read-times"]).kind)
+        self.assertEqual("wrong yes", self.result(RACE, says % TEXTS["locks"]).kind)
 
     def test_race_that_is_seen(self) -> None:
         self.assertEqual("race seen", self.result(RACE, "exit 1\n").kind)

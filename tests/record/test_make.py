@@ -26,6 +26,9 @@ EACH = THIRD_SHOWS + LOOP  # recipes of a template that show V
 HEAD = "all: s a b\ns: ; touch s\n"
 ONCE = "define O\n$(1)_V = $$(eval $(1)_V := $$(shell cat f))$$($(1)_V)\nendef\n$(eval $(call O,x))\n"
 Makefiles = makefiles(__name__, {
+    # a make that has nowhere to print
+    "make_with_its_output_closed": Small("safe", "all: sub\nsub: ; $(MAKE) -f in.mk >&-\n", {"in.mk": "a: ; @touch a\n"}),
+    "make_with_its_errors_closed": Small("safe", "all: sub\nsub: ; $(MAKE) -f in.mk 2>&-\n", {"in.mk": "a: ; @touch a\n"}),
     # what make looks for when it first considers a target, though what that needs is made later
     "search_by_a_name_without_a_stem": Small("race", "all: gen sub/z.t\n%.t: %.b sub/flag ; cp $^ $@\n%.t: %.b ; cp $< $@\ngen: ; rm sub/flag; touch gen\n", {"sub/z.b": "b", "sub/flag": "f"}),
     "search_for_a_member": Small("race", "all: g l.a(sub/x.o)\n(%): % ; ar rcD $@ $<\n%.o: %.a ; cp $< $@\n%.o: %.b ; cp $< $@\ng: ; rm sub/x.a; touch g\n", {"sub/x.a": "a", "sub/x.b": "b"}),

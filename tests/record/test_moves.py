@@ -93,10 +93,6 @@ class Recorded(unittest.TestCase):
         self.assertEqual(["x"], support.races_of(self.both(files).text()))
         self.assertEqual(["x"], support.races_of(self.both({"Makefile": files["Makefile"].replace("@", "")}).text()))
 
-    def test_ages_behind_a_long_command(self) -> None:
-        text = "all: c\na: ; @touch a\nb: ; @touch b\nc: a b ; @: %s; test a -nt b; touch c\n" % ("w" * 130000)
-        self.assertEqual(1, self.both({"Makefile": text}).status)
-
     def test_folders_below_what_a_name_can_say(self) -> None:
         files = {"Makefile": "all: a b\na: ; @python3 t/d.py make; touch a\nb: a ; @python3 t/d.py number; touch b\n", "t/d.py": DEEP}
         with support.Project(files) as project:

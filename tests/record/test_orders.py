@@ -35,6 +35,7 @@ CASES: Dict[str, Tuple[str, Dict[str, str], int, Tuple[str, ...]]] = {
     "macro that make expands in one order": ("all: s a b\ns: ; @touch s\na: s ; $(eval X := set)@touch a\nb: s ; @echo x$(X) > b\n", {}, 0, ("in other orders left the same 4 files",)),
     "make in a recipe": ("all: d/a sub\nd/a: ; @echo a > d/a\nsub: ; @$(MAKE) -s -C s\n\t@touch sub\n", {"d/k": "", "s/Makefile": "list: ; @ls ../d > list\n"}, 1, (
         "  seen where sub runs before d/a:", "    s/list: line 1 is `k`, and `a` after a serial build")),
+    "look whose answer is not compared": ("all: c\n" + AB + "c: a b ; @test a -nt b && echo newer > c; date +%N >> c\n", {}, 0, ("ages (1, such as", "other orders are not compared there")),
     "time of day": ("all: a b\na b: ; @date +%N > $@\n", {}, 0, ("note: two serial builds differ in a, b, so other orders are not compared there",)),
     "hard conflict that another order shows": ("all: d/a x c\nd/a: ; @echo a > d/a\nx: ; @echo x > x\nc: ; @ls d | grep -q a || cat x > /dev/null 2>&1; echo c > c\n", {"d/k": ""}, 1, (
         "RACE  x", "  c  Makefile:4  reads it, and nothing orders the two")),

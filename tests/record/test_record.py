@@ -25,7 +25,6 @@ Makefiles = makefiles(__name__, {
     # what is there when a build begins, and not when the recording does
     "target_that_an_earlier_make_has_made": Small("race", "t: p ; touch t\n", {"p": "p", "2.mk": KEPT}),
     # ages
-    "ages_by_a_script_that_is_changed_then": Small("safe", PAIR + "echo 'test a -nt b' > s; sh s; echo : > s; touch c\n", says="programs that nobody knows look"),
     # lists of folders, which are said to be that
     "list_of_a_folder": Small("race", "all: s a\na: ; touch a\ns: ; ls > s\n", says="  s  Makefile:3  lists its folder\n"),
     "list_of_a_folder_by_a_make_inside": Small("race", "all: s a\na: ; touch a\ns: ; $(MAKE) -f in.mk\n", {"in.mk": "s: ; ls > s\n"}, says="  s  Makefile:3  lists its folder\n"),
@@ -35,7 +34,7 @@ Makefiles = makefiles(__name__, {
     "names_with_the_time": Small("safe", "all: a b\n" + TIMED, says="recipes that put the time into the name"),
     "names_with_the_time_in_order": Small("safe", "all: a b\nb: a\n" + TIMED, lacks="recipes that put the time into the name"),
     # ages
-    "ages_of_several_files": Small("race", "all: c\nx y z: ; touch $@\nc: x y z ; ls -t x y z > c\n", says="  and 2 more by ages that c may compare\n"),
+    "ages_of_several_files": Small("race", "all: c\nx y z: ; touch $@\nc: x y z ; $(MAKE) -f in.mk\n", {"in.mk": "c: x y z ; touch c\nx: y z ; touch $@\ny: z ; touch $@\n"}, says="  and 2 more by ages that c may compare\n"),
     # a run in which nothing was to be done
     "nothing_to_do": Small("no verdict", "all: a\na: ; touch a\n", setup=UP_TO_DATE, says=IDLE),
     # a path that the kernel does not take

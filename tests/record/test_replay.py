@@ -16,7 +16,7 @@ from record.trace.names import Names
 from record.trace.sifting import sift
 from record.trace.snapshots import Past
 from record.trace.strace import read_trace
-from test_small import Small, makefiles
+from test_small import LOOKS, Small, makefiles
 
 ABSENT = "all: u a\nu: ; %s 2> /dev/null || echo no > u; touch u\na: ; mkdir d; touch a\n"
 LINKED = "files that got or lost a second name"
@@ -90,10 +90,10 @@ class Lives(unittest.TestCase):
             self.assertIn(("C", "a"), events_of(lives_of(replay, 2)[0]))
 
     def test_ages_of_what_is_opened(self) -> None:
-        """A program that compares ages asks an open file for its age, without its name."""
+        """A program that may go by ages asks an open file for its age, without its name."""
         opens = f'1 openat(AT_FDCWD<{TOP}>, "a.tar", O_RDONLY) = 3<{TOP}/a.tar>'
-        for words, wanted in (('"tar", "--keep-newer-files", "-xf", "a.tar"', True), ('"tar", "-xf", "a.tar"', False)):
-            replay = played(f'1 execve("/bin/tar", [{words}], 0x1 /* 1 var */) = 0', opens)
+        for name, wanted in (("tar", True), ("cat", False), ("python3", False)):
+            replay = played(f'1 execve("/bin/{name}", ["{name}", "a.tar"], 0x1 /* 1 var */) = 0', opens)
             self.assertEqual(wanted, ("A", "a.tar") in events_of(lives_of(replay, 1)[-1]))
 
     def test_script_above_a_child_that_is_seen_first(self) -> None:
@@ -257,11 +257,9 @@ Makefiles = makefiles(__name__, {
     "file_by_its_number": Small("no verdict", "all: a b\na: ; exec 3< f; chmod +x /dev/fd/3; touch a\nb: ; test -x f; touch b\n", {"f": "f"}, says="number of its descriptor"),
     "output_by_its_number": Small("safe", "all: ; @echo a > /dev/stdout; echo b | cat > /dev/fd/1; touch all\n"),
     # ages
-    "ages_by_what_a_shell_reads_first": Small("race", BASH + "export BASH_ENV = s\n" + PAIR + "newer a b; touch c\n", {"s": FUNCTION}),
     # ages of files that somebody else has opened
-    "age_of_a_file_that_is_open": Small("race", OTHER_PAIR % "exec 3< a; if test /dev/fd/3 -nt b; then echo newer; fi > c"),
+    "age_of_a_file_that_is_open": Small("safe", OTHER_PAIR % "exec 3< a; if test /dev/fd/3 -nt b; then echo newer; fi > c", says=LOOKS),
     # ages of the folder that a script is in
-    "age_of_a_folder_in_a_part_of_a_script": Small("race", HERE % "sh ../u", {**IN_FOLDER, "u": "x=$([ . -nt s ] && echo newer); echo $x\n"}, says="(the time of the folder"),
     "folder_that_a_path_leaves_again": Small("race", WAY % "d/../f", {"f": ""}, says=IS_THERE),
     "folder_that_a_path_leaves_from_below": Small("race", WAY % ".//x/./.././d/../f", {"f": "", "x/y": ""}, says=IS_THERE),
     "folder_that_a_whole_path_leaves_again": Small("race", WAY % "/usr/lib/../..$(CURDIR)/d/../f", {"f": ""}, says=IS_THERE),

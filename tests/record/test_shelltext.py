@@ -7,13 +7,11 @@ from typing import List
 
 import support
 from record.clock import clock
-from record.commands import shellages, shelltext
-from record.commands.computed import tests_unseen
-from record.commands.shellages import may_show_ages
-from record.commands.shelltext import glob_words, names_here, takes_in
+from record.commands import shelltext
+from record.commands.shelltext import glob_words, takes_in
 from record.commands.system import OF_SYSTEM
 from test_output import Output
-from test_small import Small, makefiles
+from test_small import LOOKS, Small, makefiles
 
 ORDER = ".PHONY: a b\nall: c\na b: ; touch d/s/$@\nr: a b ; %s; touch r\nc: r ; find e/s > c\n"
 LINKED = "all: a u\na: ; ln x y; touch a\nu: ; %s > u; touch u\n"
@@ -120,9 +118,6 @@ class Folders(unittest.TestCase):
             self.assertEqual(wanted, shelltext.makes(words, folder), words)
             self.assertTrue(shelltext.Traits(words).makes_folders or not wanted, words)
 
-    def test_folder_of_the_process(self) -> None:
-        self.assertEqual([True, True, False], [shelltext.names_here(w) for w in (["find", "."], ["ls", "./", "x"], ["ls", "d"])])
-
 
 class Looks(unittest.TestCase):
     """Programs that see more than contents."""
@@ -133,20 +128,6 @@ class Looks(unittest.TestCase):
             self.assertEqual(wanted, shelltext.looks_at_links(words.split()), words)
         for argv, wanted in ((["python3", "-c", "os.stat('x')"], True), (["perl", "-e", "lstat 'x'"], True), (["python3", "-c", "print()"], False)):
             self.assertEqual(wanted, shelltext.looks_at_links(argv), argv)
-
-    def test_scripts_are_searched(self) -> None:
-        with support.Project({"old": "test a -nt b\n", "plain": "cat a\n"}) as project:
-            found = [shellages.compares_ages(["sh", name], str(project.folder)) for name in ("old", "plain", "none")]
-        self.assertEqual([True, False, True], found)
-
-    def test_texts_that_run_other_texts(self) -> None:
-        self.assertEqual([True, True, False], [shellages.compares_ages(sh(t), "/") for t in (". ./x", "eval x", "cat x.y")])
-
-    def test_scripts_that_a_script_takes_in(self) -> None:
-        for text in (". ./x", "if . ./x; then", "then\tsource ./x", "x=1 . ./x", "(. ./x)", "command . ./x", "true && . ./x", "y=`. ./x`", "{ . ./x\n}", "time\n. ./x"):
-            self.assertEqual(["./x"], shelltext.sourced(text.replace("./x`", "./x `")), text)
-        for text in ('echo "the what command. */"', "# it runs `date`. It prints", "# see foo(1). It prints", "echo . ./x", "cd . x", "./x . y", "a.b c", "ls ../. x"):
-            self.assertEqual([], shelltext.sourced(text), text)
 
 
 Makefiles = makefiles(__name__, {
@@ -163,24 +144,20 @@ Makefiles = makefiles(__name__, {
     # the order in which a folder shows its names, and its size
     "order_that_ls_shows": Small("race", OTHER_ORDER % "ls -1U d > c", is_tried=True),
     "order_that_ls_does_not_show": Small("safe", OTHER_ORDER % "ls -1 d > c", is_tried=True),
-    "size_of_a_folder_by_ls": Small("race", SIZE % "ls -sd d", setup="mkdir d"),
-    "size_of_a_folder_by_find": Small("race", SIZE % "find d -maxdepth 0 -size +5k", setup="mkdir d"),
-    "folder_that_ls_names": Small("safe", SIZE % "ls -d d", setup="mkdir d"),
+    "size_of_a_folder_by_ls": Small("safe", SIZE % "ls -sd d", setup="mkdir d", says="programs that look at a folder"),
+    "size_of_a_folder_by_find": Small("safe", SIZE % "find d -maxdepth 0 -size +5k", setup="mkdir d", says="programs that look at a folder"),
     # a script of which the recorder read the beginning alone
-    "ages_at_the_end_of_a_long_script": Small("race", PAIR % "sh s; touch c", {"s": LONG + "test a -nt b || true\n"}),
     # listings
     "pattern_of_a_quoted_word": Small("race", "all: a b\na: ; echo a > d/xayy\nb: ; echo d/x?\"yy\" > b\n", {"d/xbyy": "k"}),
     "pattern_behind_an_equals_sign": Small("race", "all: a b\na: ; echo a > d/x=1\nb: ; echo d/x=? > b\n", {"d/x=2": "k"}),
     "pattern_of_a_script_behind_if": Small("race", "all: a b\na: ; echo a > d/n\nb: ; if . ./s; then echo e/*.x; fi > b\n", {"s": "echo d/*\n", "d/k": "k", "e/1.x": ""}),
     "pattern_beside_an_input": Small("safe", BASH + "all: a b\na: ; echo a > d/n\nb: ; cat < f > b; echo d/*.x >> b\n", {"f": "f", "d/1.x": ""}),
     # ages
-    "ages_of_no_script_behind_an_escaped_bar": Small("safe", OTHER_PAIR + "sh s; touch c\n", {"s": "test -r a && expr X/b : 'X/$$' \\| . 2> /dev/null; test -r b || :\n"}),
-    "ages_by_a_script_behind_if": Small("race", OTHER_PAIR + "sh s; touch c\n", {"s": "if . ./t; then :; fi\n", "t": "test a -nt b\n"}),
     # folders that are made
     "folder_made_or_true_for_a_program": Small("race", "all: a b\na b: ; python3 t/m.py; touch $@\n", {"t/m.py": "import subprocess\nsubprocess.run('mkdir d || true', shell=True)\n"}),
     "folder_made_or_true_behind_env": Small("safe", "all: a b\na b: ; env X=1 sh -c 'mkdir d || true'; touch $@\n"),
     # ages of files that somebody else has opened
-    "age_of_standard_input": Small("race", PAIR % "stat -c %Y - < a > c; stat -c %Y b >> c"),
+    "age_of_standard_input": Small("safe", PAIR % "stat -c %Y - < a > c; stat -c %Y b >> c", says=LOOKS),
     # folders that are made, where something shows who made them
     "folder_tested_or_made_in_a_make_with_errors": Small("safe", KEEPS % ("$(MAKE)", "> log 2>&1"), {"in.mk": TWO % "test -d d || mkdir -p d"}),
     # patterns
@@ -259,17 +236,6 @@ class Programs(unittest.TestCase):
         self.assertEqual(["*"], self.patterns("echo d/@(n|m) e/*.x", "ksh"))
         self.assertEqual(["*"], self.patterns("! . ./s; echo e/*.x"))
 
-    def test_who_shows_ages(self) -> None:
-        shows = ("stat a", "stat -t a", "stat -c %Y a", "stat --printf=%.9Y a", "ls -g a", "ls --full-time", "date --reference=a", "date -ur a", "tar -cN ./a b",
-                 "tar --after-date=./a b", "tar uf a b", "tar --keep-newer-files -xf a", "find a -ls ", "zsh -c echo*(om)", "cp --up a b", "mv -fu a b")
-        hides = ("stat -c %s a", "stat -f -c %T a", "ls -1A a", "ls --file-type a", "date -R", "tar --null -cf a b", "tar xf a", "find a -name b", "zsh -c f;(a)", "cp -f a b")
-        self.assertEqual([True] * len(shows), [shellages.shows_ages(text.split()) for text in shows])
-        self.assertEqual([False] * len(hides), [shellages.shows_ages(text.split()) for text in hides])
-
-    def test_operators_that_are_spelled_in_another_way(self) -> None:
-        texts = ("[ a \\-nt b ]", '[ a -n"t" b ]', "[ a \"-\"ot b ]", "[ ! a $o b ]")
-        self.assertEqual([True] * len(texts), [shellages.compares_ages(["sh", "-c", text], "/") for text in texts])
-
     def test_who_sets_options(self) -> None:
         with support.Project({"s": "export -f show\n", "t": "export x\n", "library": "\x7fELF export -f show\n"}) as project:
             words = (["bash", "-c", "declare -fx show"], ["bash", "s"], ["bash", "t"], ["bash", "-c", "declare -f show"], ["bash", "library"])
@@ -283,30 +249,8 @@ class Readings(unittest.TestCase):
         for text, wanted in (("echo [a'b']*", True), ("echo [a\\ b]*", True), ("echo ['ab']*", True), ("echo [a\\;b]*", True), ("echo [ab]'c'*", False), ("echo [ab]*", False), ("[ -e 'a'*.c ]", False)):
             self.assertEqual(wanted, "*" in glob_words(text), text)
 
-    def test_dots_that_name_the_folder(self) -> None:
-        for wanted, text in ((False, ". ./x"), (False, "a; . ./x"), (False, "a && . ./x"), (False, "a ;\\\n . ./x"), (True, "a \\\n . x"), (True, "[ . -nt x ]"), (True, "[[ a && . -nt x ]]"), (True, "test ! . -nt x"), (True, "ls \\; . x"), (True, ". ./x; ls .")):
-            self.assertEqual(wanted, names_here(["bash", "-c", text]), text)
-        self.assertTrue(names_here(["find", "a", ";", ".", "x"]))
-
     def test_names_that_have_the_time(self) -> None:
         found = clock(1795793502)
         for name, wanted in (("t.1795793502", "t.@"), ("1795793502123.c", "@.c"), ("20261127-153142", "@"), ("d/2026-11-27T15:31:42x", "d/@x"), ("20261126.153142", "@"), ("20261128153142", "@"),
                              ("t.1795793502123456", ""), ("t.1700000000", ""), ("20261127", ""), ("a-20250101-153142", ""), ("t.21795793502", "")):
             self.assertEqual(wanted or name, found.sub("@", name), name)
-
-    def test_tests_of_which_a_word_is_computed(self) -> None:
-        for text in ("test x -n$t y", '[ x -n"$o" y ]', "[ $o y ]", "[ $o ]", "test `cat how`", "test x `cat how` y", "test \\( x $o y \\)", "test -f x -a x $o y", 'test "$a" = "" -a x "$o" y',
-                     'test "$@"', '[ "${a[@]}" ]', "test $a''nt y", "test ! $o", "a || [ x ${o}t y ]"):
-            self.assertTrue(tests_unseen(text), text)
-
-    def test_tests_of_which_the_operator_stands_there(self) -> None:
-        for text in ("[ -f $f ]", '[ "$x" = y ]', "[ $x = y ]", "[ $# -gt 1 ]", "[ ! -d $d ]", 'test -z "$x" -a -n "$y"', '[ "$x" ]', "[ $(id -u) -eq 0 ]", "test -f x && echo $y z", "test x = '$y'",
-                     'if [ "$a" != "$b" ]; then echo $x $y; fi', "[ x$a = xyes ]", 'test "x$(cat f)" = "x"', "a.test $x", "[ \"$a\" ] && b $c", "ls [a] $x"):
-            self.assertFalse(tests_unseen(text), text)
-
-    def test_programs_that_may_show_ages(self) -> None:
-        with support.Project({"loads": "@load \"filefuncs\"\n", "plain": "{ print }\n"}) as project:
-            for words, wanted in (("gawk -lfilefuncs x", True), ("awk -l filefuncs x", True), ("gawk --load=time x", True), ("awk -f loads x", True), ("awk -f plain x", False), ("awk @load x", True),
-                                  ("awk -v a=b x", False), ("diff -u a b", True), ("diff -rc a b", True), ("diff --unified=1 a b", True), ("diff a b", False), ("diff -r a b", False),
-                                  ("diff -u -L a -L b a b", False), ("diff -u --label=a a b", False), ("cmp -u a b", False)):
-                self.assertEqual(wanted, may_show_ages(words.split(), str(project.folder)), words)

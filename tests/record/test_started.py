@@ -1,6 +1,6 @@
 """Tests of record/trace/started.py."""
 
-from test_small import Small, makefiles
+from test_small import LOOKS, Small, makefiles
 
 PAIR = "all: c\na: ; touch a\nb: ; touch b\nc: a b ; %s\n"
 # A recipe that runs something in a folder, and another one that makes a name there.
@@ -10,24 +10,19 @@ IN_FOLDER = {"t": "if [ . -nt s ]; then echo newer; fi\n", "d/s": ""}
 GETS = 'eval "$(echo x=1)"\n'
 # Two recipes that nothing orders make x and y, and a third one looks at both.
 SIDE = "all: c\nx: ; echo 1 > x\ny: ; echo 2 > y\nc: x y ; { %s; } > c || true\n"
-UNKNOWN = "programs that nobody knows look at two files"
 IS_THERE = "RACE  d  (that the folder"
 Makefiles = makefiles(__name__, {
     "text_without_a_first_line_that_bash_reads": Small("race", "SHELL = /bin/bash\n" "all: a b\na: ; touch h/x a\nb: ; ./u > b; ls h/*.h >> b\n", {"u": "echo h/*\n", "h/k.h": ""}, "chmod +x u"),
     # programs that the kernel reads by itself
     "loader_that_a_recipe_makes": Small("race", "all: use ld.so\nld.so: ; cp /bin/cat ld.so\nuse: ; ./prog > use || true\n", {"p.c": "int main(void) { return 0; }\n"}, "cc -Wl,--dynamic-linker=./ld.so -o prog p.c"),
     # what goes past files
-    "times_of_reading": Small("safe", "all: ; find f -anewer g > all\n", {"f": "f", "g": "g"}, says="when a file was read last"),
     # ages of files that somebody else has opened
-    "age_of_what_an_unknown_program_has_open": Small("safe", PAIR % "./p b < a > c", {}, "cp /bin/cat p", says="programs that nobody knows look at two files"),
+    "age_of_what_an_unknown_program_has_open": Small("safe", PAIR % "./p b < a > c", {}, "cp /bin/cat p", says=LOOKS),
     # ages of the folder that a script is in
-    "age_of_a_folder_for_a_shell_behind_a_look_at_it": Small("race", HERE % 'test -d "$$PWD" && unset PWD && exec sh < ../t', IN_FOLDER, says="(the time of the folder"),
     "programs_that_bash_searches_for": Small("safe", HERE % "bash ../t", {"t": GETS + "x=$(cat s); date -u -d @0; cat s\n", "d/s": ""}),
     "programs_that_bash_searches_for_in_a_script_with_ages": Small("safe", HERE % "bash ../t", {"t": "[ s -nt t ] && echo newer; x=$(cat s); date -u -d @0\n", "d/s": "", "d/t": ""}),
-    "age_of_a_folder_before_a_search_of_dash": Small("race", HERE % "dash ../t", {"t": GETS + "[ s -ot . ]; cat s\n", "d/s": ""}, says="(the time of the folder"),
     "ages_of_other_files_in_a_script": Small("safe", "all: a b\na: ; sh t > a\nb: ; touch b\n", {"t": "[ d/s -nt t ] && echo newer; true\n", "d/s": ""}),
     # ages
-    "times_in_front_of_what_differs": Small("safe", SIDE % "diff -u x y | head -2 | sort -k3", says=UNKNOWN),
     "folder_that_the_way_to_an_interpreter_leaves_again": Small("race", "all: a b\na: ; mkdir d; touch a\nb: ; ./tool > b || echo none > b\n", {"tool": "#!d/../sh\necho x\n"},
                                                                 "chmod +x tool; cp /bin/sh sh", says=IS_THERE),
 })
