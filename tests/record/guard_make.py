@@ -27,7 +27,7 @@ GUARDS: List[Guard] = [
         ("who-asks-for-ages", "pass", "ages.Makefiles.ages_for_which_a_recipe_asks", "may ask for it"),
         ("their-own-age", "return [names.find(make.folder, name, follow).path for follow in ((True,))]", "elsewhere.Makefiles.age_of_a_link_for_a_make_inside", YES),
         ("their-own-age", "return [names.find(make.folder, name, follow).path for follow in ((True, False))]", "elsewhere.Makefiles.age_behind_a_link_for_a_make_inside", FALSE_RACE),
-        ("two-names", "if at not in (low, high) and build.unordered(low, high):", "small.Makefiles.age_of_a_folder_and_a_source", FALSE_RACE),
+        ("two-names", "who = {one for one in settled if any(build.unordered(one, other) for other in settled)}", "folders.Ages.two_names_that_a_third_compares"),
         ("folders-beside-members", "if True:", "ages.Makefiles.ages_by_ar_in_a_folder", FALSE_RACE),
         ("ar-of-new-members", "for path in sorted({path for kind, path in life.events if kind in (READ, SEEN) and path != archive}):", "ages.Makefiles.ages_by_ar_of_new_members", FALSE_RACE),
     ),

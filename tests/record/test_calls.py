@@ -186,6 +186,10 @@ class Descriptors(unittest.TestCase):
             replay = played('1 execve("/opt/tool", ["tool", "x"], 0x1 /* 1 var */) = 0', '1 stat("%s", {st_mode=S_IFDIR|0777, st_size=4096, ...}) = 0' % path)
             self.assertEqual(wanted, ("A", path) in lives_of(replay, 1)[0].events, path)
 
+    def test_looks_that_show_no_age(self) -> None:
+        for call in ('access("/var/x", R_OK) = 0', 'readlink("/var/x", "y", 8) = 1'):
+            self.assertNotIn(("A", "/var/x"), lives_of(played('1 execve("/opt/tool", ["tool", "x"], 0x1 /* 1 var */) = 0', "1 " + call), 1)[0].events)
+
     def test_folder_of_modules(self) -> None:
         opened = '1 openat(AT_FDCWD<%s>, "gcm.cache/m.gcm~", O_RDWR|O_CREAT|O_TRUNC|O_CLOEXEC, 0666) = ' % TOP
         lines = [opened + "-1 ENOENT (No such file or directory)", '1 mkdir("gcm.cache", 0777) = 0', opened + "3<%s/gcm.cache/m.gcm~>" % TOP]

@@ -126,6 +126,7 @@ class Ages(unittest.TestCase):
         self.assertEqual([(2, {0, 1}, {0, 1})], build_of(rules, done).looks)
         self.assertEqual([], build_of({"a": [], "b": ["a"], "c": ["a", "b"]}, done).looks)
         self.assertEqual([], build_of(rules, {**done, "c": [("A", "x")]}).looks)
+        self.assertEqual([], build_of(rules, {**done, "b": [("W", "x")], "c": [("A", "x")]}).looks)
 
     def test_many_names_by_few_writers(self) -> None:
         names = ["n%d" % n for n in range(900)]
