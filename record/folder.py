@@ -141,6 +141,7 @@ def write_build(folder: Path, build: "Build", within: Optional[Dict[str, str]], 
         about[label] = {"target": shown(task.node.name), "kind": task.kind, **place, **({"lists": lists} if lists else {}),
                         **({"leaves": [relative(root, path) for path in leaves[at]]} if at in leaves else {}),
                         **({"own": [relative(root, path) for path in sorted(task.own)]} if at in leaves and task.own else {}),
+                        **({"folders": {how: sorted(relative(root, path) for path in paths) for how, paths in task.folders.items()}} if task.folders else {}),
                         **({"order_only": True} if is_loose else {}), **({"place": [shown(edited[0]), edited[1]]} if edited else {})}
     edges = 0
     with open(folder / "tasks", "w", encoding="utf-8", errors="backslashreplace") as file:

@@ -45,6 +45,7 @@ class Task:
     listed: Set[str] = field(default_factory=set)  # what it reads by a list of the folder alone
     leaves: Set[str] = field(default_factory=set)  # what it writes, and no other task touches
     own: Set[str] = field(default_factory=set)  # what ninja itself changes for it, before its command begins
+    folders: Dict[str, Set[str]] = field(default_factory=dict)  # those that it makes where they are not there, by how that shows (make/folders.py)
     part: Optional[Part] = None  # of a recipe, that is judged as this task: of one that is divided the one with which it ends
     parts: List[int] = field(default_factory=list)  # of a recipe that is divided: the tasks of its other parts, in order
 

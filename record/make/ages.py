@@ -50,7 +50,6 @@ def note_sources(builder: Builder) -> None:
     and `touch -r` do, from what it looked at. An archive keeps the ages of what was put in, and may go through a pipe to who unpacks or keeps it."""
     for works in [*(works_of(builder, at) for at in range(len(builder.build.tasks))), *([(-1, work)] for _, work in builder.askers.works)]:
         shown = {path for _, work in works for life in work.lives for kind, path in life.events if kind == AGE_SEEN}  # a time may come as a word  # guard: that-another-program-looks
-        shown |= {path for _, work in works for path in packed(work)}  # guard: ages-through-pipe
         for life in (life for _, work in works for life in work.lives):
             names = {path for kind, path in life.events if kind in (READ, SEEN, BY_LIST)} | (life.handed() | shown if any(kind == AGE_TAKEN for kind, _ in life.events) else set())  # guard: standard-input-taken
             looked = made_here(builder, names)
@@ -178,7 +177,7 @@ def looked_at_ages(builder: Builder, at: int, work: Work, assumed: str = "ages",
     if who:
         build.looks.append((at, who, who))
         names = sorted(set().union(*(settled[one] for one in who)))
-        builder.assumed.add(assumed, "%s looks at %s and %s" % (words or build.tasks[at].node.name, *names[:2]))  # guard: who-looks-at-two-files
+        builder.assumed.add(assumed, "%s looks at %s" % (words or build.tasks[at].node.name, " and ".join(names[:2])))  # guard: who-looks-at-two-files
 
 
 def is_settled(builder: Builder, path: str) -> bool:

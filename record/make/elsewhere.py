@@ -11,7 +11,7 @@ from typing import Dict, Iterator, List, NamedTuple, Sequence, Set, Tuple
 
 from record.build.builder import Askers, Builder
 from record.build.work import Tool, Work
-from record.make.ages import age_paths, compare, looked_at_ages, packs, takes_over, works_of
+from record.make.ages import age_paths, compare, looked_at_ages, takes_over, works_of
 from record.make.database import Base
 from record.make.owners import Owners
 from record.trace.events import AGE_SEEN, AGE_TAKEN
@@ -39,7 +39,7 @@ class Elsewhere:
         self.ninjas: Sequence[Tool] = ()
         self.groups: Dict[int, List[Life]] = {}
         for life in owners.lives:
-            if any(kind in AGES for kind, _ in life.events) or packs(life):  # guard: archives
+            if any(kind in AGES for kind, _ in life.events):
                 self.groups.setdefault(id(part_of(life)), []).append(life)  # guard: programs-that-belong-together
 
     @cached_property

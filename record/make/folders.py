@@ -35,6 +35,7 @@ class Folder:
     """What tasks did to one folder that some of them made or removed."""
 
     strict: Set[int] = field(default_factory=set)
+    refused: Set[int] = field(default_factory=set)  # of these: those that found it there
     quiet: Set[int] = field(default_factory=set)
     gone: Set[int] = field(default_factory=set)
     tried: Set[int] = field(default_factory=set)
@@ -134,6 +135,7 @@ def note(folder: Folder, at: int, kind: str, place: int) -> None:
     """One event on the folder's own name."""
     if kind in STRICT:
         folder.strict.add(at)
+        folder.refused.update({at} if kind == MADE_BEFORE else ())
     elif kind == MADE_QUIETLY:
         folder.quiet.add(at)
     elif kind in (FOLDER_REMOVED, REMOVED):
@@ -186,6 +188,7 @@ def add_folder(builder: Builder, path: str, folder: Folder) -> None:
     makers = folder.strict | folder.quiet
     if was_there(builder, path) and not folder.gone:  # guard: there-before-build
         makers = set()
+    note_makers(builder, path, folder, makers)
     part_modes(builder, path, folder, makers)
     for at in folder.strict & makers:  # guard: strict-makers-meet
         mark(builder, path + "/@make", "who makes the folder %s first" % path, makers - {at}, {at})
@@ -204,6 +207,15 @@ def add_folder(builder: Builder, path: str, folder: Folder) -> None:
                 for kind, name, _ in events:
                     if kind in (CREATED, REMOVED, LOCKED) and os.path.dirname(name.rstrip("/")) == path:
                         mark(builder, name.rstrip("/"), "", {at}, {who})
+
+
+def note_makers(builder: Builder, path: str, folder: Folder, makers: Set[int]) -> None:
+    """Who makes a folder that nobody removes: `made` it by a call that fails where it is there, or `shared` it by one that does not show who made it; and who
+    `found` it there by such a call."""
+    strict = folder.strict & makers if not folder.gone else set()  # guard: folders-that-are-removed-again
+    for how, who in (("made", strict & folder.created), ("shared", folder.quiet if strict else ()), ("found", strict & folder.refused)):
+        for at in who:
+            builder.build.tasks[at].folders.setdefault(how, set()).add(path)
 
 
 def was_there(builder: Builder, path: str) -> bool:

@@ -37,6 +37,8 @@ MANY = 100  # jobs: so many recipes wait at the gate at once
 ENDING = 2.0  # seconds that the output of a build has to come, when that has ended
 WITH_PARENT, TAKES_LEFT = 1, 36  # for prctl: which signal comes when the parent ends; who outlives its parent becomes a child of this process
 SET_FLAGS, IS_UP = 0x8914, 1  # of a device of the network
+# What goes before a command so that each call that makes a folder takes two seconds: the gate lets the next recipe begin meanwhile.
+SLOWLY = ("strace", "-f", "-qq", "-o", os.devnull, "--seccomp-bpf", "-e", "signal=none", "-e", "trace=?mkdir,?mkdirat", "-e", "inject=?mkdir,?mkdirat:delay_enter=2000000")
 OWN_NET, OWN_KEYS = 0x40000000, 0x8000000  # for unshare: ports; memory and queues that have keys
 SHOWN_LINES = re.compile(r"(?i)\b(error|fatal|cannot|no such|not found|failed|no rule)\b|\*\*\*")
 SHOWN = 3  # so many of them
@@ -49,7 +51,7 @@ class CannotTry(Exception):
 @dataclass
 class Plan:
     """A build to be made: which recipe begins of those that wait, with how many jobs, and whether it is recorded. `is_flipped`: where `places` does not say,
-    the last that came to wait, and not the first."""
+    the last that came to wait, and not the first; `is_slow`: to make a folder takes a while."""
 
     name: str
     places: Mapping[Key, float]
@@ -57,6 +59,7 @@ class Plan:
     after: Mapping[Key, set[Key]] = field(default_factory=dict)
     is_recorded: bool = False
     is_flipped: bool = False
+    is_slow: bool = False
 
 
 SERIAL, FLIPPED = "serial", "flipped"
@@ -226,7 +229,7 @@ class Room:
         env = dict(os.environ)
         forget_coerced(env)
         words, env = with_many(self.words, env, plan.jobs)
-        return subprocess.run([*self.setup, *words], env=watch.environment(env), preexec_fn=watch.lay, check=False).returncode
+        return subprocess.run([*self.setup, *(SLOWLY if plan.is_slow else ()), *words], env=watch.environment(env), preexec_fn=watch.lay, check=False).returncode
 
 
 @contextmanager

@@ -2,7 +2,6 @@
 
 from __future__ import annotations
 
-import json
 import os
 import sys
 import tempfile
@@ -11,10 +10,11 @@ from contextlib import contextmanager
 from pathlib import Path
 from typing import Any
 
-from record.folder import Record, replace, runs_programs
+from record.folder import Record, runs_programs
 from record.orders.builds import BESIDE, CannotTry, Room, Running, is_child_able
 from record.orders.graph import Graph
-from record.orders.softness import conflicts, is_soft
+from record.orders.joined import contested, join
+from record.orders.softness import conflicts
 from record.orders.trees import held_by, remove
 from record.orders.trial import Trial
 from record.watch.lay import leave
@@ -88,22 +88,10 @@ def explore(room: Room, record: Record, out: Path, race: str, most: int, running
         print("race-record: %d build%s in copies, of %s%s; one more for each step where something differs" % (count, many, clock(record.seconds), each), file=sys.stderr, flush=True)
     trial.run(running)
     if (room.top / "record").exists():  # else that build was stopped, as all of it waited
-        join(graph, Graph(room.top / "record"))
+        other = Graph(room.top / "record")
+        trial.overlap(contested(graph, other))  # guard: folders-that-two-make
+        join(graph, other)
     trial.soft, _ = conflicts(Graph(out), race, room.top)
     trial.cleared = [pair for pair in trial.cleared if pair in trial.soft]
     trial.pairs = [pair for pair in trial.pairs if pair in trial.soft]
     return trial.result()
-
-
-def join(graph: Graph, other: Graph) -> None:
-    """Adds to the tasks of a record what their recipes read and wrote in a build in another order. What stands for no file is tried out, and not added."""
-    for known, number in graph.known.items():
-        rows = {row["task"]: row for row in other.rows.get(other.known.get(known, ""), ())}
-        for row in graph.rows[number]:
-            also = rows.get(row["task"], {"reads": (), "writes": ()})
-            lists = other.builds[other.known[known]]["labels"].get(row["task"], {}).get("lists", ()) if rows else ()
-            writes = {*row["writes"], *(path for path in also["writes"] if not is_soft(path))}
-            reads = {*row["reads"], *(path for path in also["reads"] if not is_soft(path) and path not in lists)} - writes
-            row["reads"], row["writes"] = sorted(reads), sorted(writes)
-        text = "".join(json.dumps(row, ensure_ascii=False, separators=(",", ":")) + "\n" for row in graph.rows[number])
-        replace(graph.record / "builds" / number / "tasks", text)

@@ -138,6 +138,10 @@ class Graph:
                     found[at] |= self.free[at] & ~waits & ((other if one >> at & 1 else 0) | (one if other >> at & 1 else 0))
         return found
 
+    def is_free(self, one: int, other: int) -> bool:
+        """Whether two tasks are recipes that nothing orders."""
+        return bool(self.free[max(one, other)] >> min(one, other) & 1)
+
     def pairs(self) -> int:
         """How many pairs of recipes nothing orders."""
         return size(self.free)
@@ -227,6 +231,12 @@ class Graph:
         need = self.tasks[second].before
         between = range(first + 1, second)
         order = [*range(first), *(at for at in between if need >> at & 1), second, first, *(at for at in between if not need >> at & 1), *range(second + 1, len(self.tasks))]
+        return placed([self.tasks[at].key for at in order])
+
+    def adjacent(self, first: int, second: int) -> dict[Key, float]:
+        """An order in which two tasks come one right behind the other, as early as they can."""
+        need = self.tasks[first].before | self.tasks[second].before
+        order = [*numbers(need), first, second, *(at for at in range(len(self.tasks)) if not need >> at & 1 and at not in (first, second))]
         return placed([self.tasks[at].key for at in order])
 
     def is_ordered(self, one: int, other: int) -> bool:

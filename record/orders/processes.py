@@ -86,10 +86,10 @@ def shown(pid: int, name: str) -> str:
 
 
 def pulse(root: int) -> list[tuple[int, str]] | None:
-    """How long each process of a build has run so far; nothing where one runs, or lets a time pass."""
+    """How long each process of a build has run so far; nothing where one runs, or lets a time pass. One that is held by who traces it does neither."""
     found = []
     for pid in below(root):
-        if words_of(pid)[0] not in "SZX" or any(one in shown(pid, "wchan") for one in SLEEPS):
+        if words_of(pid)[0] not in "SZXt" or any(one in shown(pid, "wchan") for one in SLEEPS):  # guard: who-is-held-by-a-tracer
             return None
         found.append((pid, shown(pid, "schedstat")))
     return sorted(found)

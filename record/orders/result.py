@@ -30,11 +30,11 @@ def tried(orders: Orders, number: str, folder: str, verdict: Verdict) -> Verdict
 
 
 def seen(orders: Orders, first: str, second: str) -> list[str]:
-    """What differed where the second of two recipes ran before the first."""
+    """What differed where the second of two recipes ran before the first, or beside it."""
     found = next((one for one in (orders or {}).get("shown", ()) if (one["first"], one["second"]) == (first, second)), None)
     if found is None:
         return []
-    return ["  seen where %s runs before %s:" % (second, first), *("    " + line for line in found["text"])]
+    return ["  seen where %s runs %s %s:" % (second, "beside" if found["beside"] else "before", first), *("    " + line for line in found["text"])]
 
 
 def whatever(orders: Orders) -> list[str]:

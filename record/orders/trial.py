@@ -30,11 +30,13 @@ class Ended:
 
 @dataclass
 class Shown:
-    """Two recipes, in the order of the serial build, and what differs where they run in the other one. No recipes where it takes no more than several jobs."""
+    """Two recipes, in the order of the serial build, and what differs where they run in the other one, or side by side. No recipes where it takes no more than
+    several jobs."""
 
     first: Optional[Key]
     second: Optional[Key]
     ended: Ended
+    is_beside: bool = False
 
 
 @dataclass
@@ -225,6 +227,22 @@ class Trial:
             (built, ended), = self.make(Plan("again", built.plan.places, built.plan.jobs, self.after))
         self.note(built)
 
+    def overlap(self, pairs: Sequence[Pair]) -> None:
+        """Tries out recipes that make a folder where it is not there, the second of each pair beside the first: it looks while that makes the folder. What
+        is not tried, or differs, is not cleared."""
+        left = {(min(pair), max(pair)) for pair in pairs}
+        for first, second in pairs:
+            keys = self.graph.tasks[min(first, second)].key, self.graph.tasks[max(first, second)].key
+            if not self.goes_on or {*keys} in ({one.first, one.second} for one in self.shown) or any(one in self.after.get(other, ()) for one, other in (keys, keys[::-1]) if one and other):
+                continue
+            plan = Plan("overlap", self.graph.adjacent(first, second), after=self.after, is_slow=True)
+            (_, ended), = self.make(plan)
+            if ended is None:
+                left.discard((min(first, second), max(first, second)))
+            elif self.make(replace(plan, is_slow=False))[0][1] is None:
+                self.shown.append(Shown(*keys, ended, True))
+        self.cleared = [pair for pair in self.cleared if pair not in left]
+
     def made_again(self, plan: Plan) -> tuple[Built, Optional[Ended]]:
         """Makes a build in which something differs again, and a serial one beside it: that shows what goes by the time. What another build has shown is no
         difference any more, and neither is what the recorded build did meanwhile."""
@@ -280,7 +298,7 @@ class Trial:
     def shown_labels(self, one: Shown) -> dict[str, Any]:
         """A difference, by the build and the labels of its two recipes."""
         build, first, second = one.first and one.second and self.graph.together(one.first, one.second) or ("", "", "")
-        return {"build": build, "first": first, "second": second, "path": one.ended.path, "status": one.ended.status, "text": one.ended.text}
+        return {"build": build, "first": first, "second": second, "path": one.ended.path, "status": one.ended.status, "text": one.ended.text, "beside": one.is_beside}
 
 
 def target_of(key: Key) -> str:

@@ -6,6 +6,7 @@ from guard import YES, Guard, guards
 
 GUARDS: List[Guard] = [
     *guards("orders/exploring.py",
+        ("folders-that-two-make", "pass", "orders.Orders.case_folder_that_two_make", YES),
         ("makes-of-other-users", "pass", "laid.Covered.another_user"),
         ("room-of-the-tmpfs", "return size < int(words[1]) * 512 and runs_programs(TMPFS)", "orders.Orders.room_of_the_tmpfs"),
         ("what-builds-beside-could-see", "if False:", "orders.Orders.what_the_recorded_build_changes_elsewhere"),
@@ -36,7 +37,11 @@ GUARDS: List[Guard] = [
         ("who-lists-folder", "users.setdefault(file_of(path), set()).add(at)", "orders_graph.Graphs.users_first"),
         ("looks-of-make", "found[at] = -0.5", "orders_graph.Graphs.looks_of_make"),
     ),
+    *guards("orders/joined.py",
+        ("who-found-it-there", "for late in sorted(made):", "orders.Orders.folders_that_need_no_try"),
+    ),
     *guards("orders/processes.py",
+        ("who-is-held-by-a-tracer", 'if words_of(pid)[0] not in "SZX" or any(one in shown(pid, "wchan") for one in SLEEPS):', "orders.Orders.case_folder_that_two_make", YES),
         ("who-does-something-of-its-own", "return all([is_settled(one, waiting, seen) for one in live])", "gate.Gates.order_while_one_sleeps"),
     ),
 ]

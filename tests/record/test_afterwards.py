@@ -27,7 +27,7 @@ AFTERWARDS: Dict[str, Small] = {
     "make_that_compares_no_age": Small("safe", TWO % "$(MAKE) -f 2.mk", {"1.mk": FIRST, "2.mk": NEXT % "| x"}),
     "make_whose_target_has_no_recipe": Small("race", TWO % "$(MAKE) -f 2.mk", {"1.mk": FIRST, "2.mk": "all: z\nz: y ; echo ran >> log; touch z\ny: x\n"}, says=SAYS),
     "make_of_phony_targets": Small("safe", TWO % "$(MAKE) -f 2.mk", {"1.mk": FIRST, "2.mk": "all: y\n.PHONY: x y\n" + NEXT.partition("\n")[2] % "x"}),
-    "make_of_a_script": Small("race", FIRST, {"2.mk": NEXT % "x"}, says=SAYS),
+    "make_of_a_script": Small("race", FIRST, {"2.mk": NEXT % "x"}, says="  (what runs behind this make)  -           may ask for it"),
     "make_that_came_first": Small("safe", FIRST, {"1.mk": "all: w\nw: ; touch w\n"}),
     "makefile_that_is_remade": Small("race", "all: y\ninclude inc\ninc: | x y ; echo 'y: x' > inc\nx: ; touch x\ny: ; sleep 1; touch y\n", says=SAYS),
     "age_of_a_folder": Small("race", TWO % "$(MAKE) -f 2.mk", {"1.mk": "all: x y\nx: ; touch d/x\ny: ; sleep 1; touch y\n", "2.mk": NEXT % "d", "d/k": ""}, says="which of y and d is newer"),

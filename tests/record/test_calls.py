@@ -69,7 +69,7 @@ Makefiles = makefiles(__name__, {
     # ages
     "size_of_a_folder": Small("safe", "all: a b\na: ; echo 1 > d/n; touch a\nb: ; stat -c %s d > b\n", {"d/k": "k"}, below="/dev/shm", says="programs that look at a folder"),
     # what programs ask of a folder
-    "folder_that_a_shell_enters": Small("safe", HERE % "cat s", {"d/s": ""}, lacks="programs that look at a folder"),
+    "folder_that_a_shell_enters": Small("safe", BASH + HERE % "cat s", {"d/s": ""}, lacks="programs that look at a folder"),
     "folder_that_an_unknown_program_asks_for": Small("safe", ASKED % "./l d > b", {"d/k": "", "l.c": LINKS}, "cc -o l l.c", says="such as l of d in b)"),
     "open_folder_that_an_unknown_program_asks_for": Small("safe", ASKED % "./l d > b", {"d/k": "", "l.c": LINKS.replace("stat(a[1]", "fstat(open(a[1], 0)")}, "cc -o l l.c", says="such as l of d in b)"),
     "folder_that_a_known_program_asks_for": Small("safe", ASKED % "cc -Id -c k.c -o b", {"d/k": "", "k.c": ""}, lacks=FOLDERS),

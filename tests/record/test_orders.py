@@ -27,6 +27,9 @@ CASES: Dict[str, Tuple[str, Dict[str, str], int, Tuple[str, ...]]] = {
         "  seen where c runs before a:", "    c: line 1 is `none`, and `some` after a serial build")),
     "one order of three": ("all: c\n" + AB + "d: ; @echo d > d\nc: a b d ; @test b -nt a && test a -nt d && echo yes > c || echo no > c\n", {}, 1, ("  seen where d runs before a:",)),
     "build that fails": ("all: b/x u\nb/x: ; @mkdir -p b; echo x > b/x\nu: ; @cp src b/u && echo u > u\n", {"src": ""}, 1, ("  seen where u runs before b/x:", "    the build fails with status 2", "cp: ")),
+    "folder that two make": ("all: a b\na b:\n\t@test -d d || mkdir d\n\t@echo > d/$@; echo > $@\n", {}, 1, (
+        "RACE  d  (that the folder d is there)", "  seen where b runs beside a:", "    the build fails with status 2", "  fix: b: | a          (checked: ends this race)")),
+    "folder that both make by p": ("all: a b\na b:\n\t@test -d d || mkdir -p d\n\t@echo > d/$@; echo > $@\n", {}, 0, ("in other orders left the same 5 files",)),
     "jobs alone": ("all: a b\na: ; @case \"$$MAKEFLAGS\" in *jobserver*) echo many > a ;; *) echo one > a ;; esac\nb: ; @echo b > b\n", {}, 1, (
         "RACE  with several jobs, whatever the order of recipes is:", "  a: line 1 is `many`, and `one` after a serial build")),
     "what differs in two serial builds": ("all: d/a list\nd/a: ; @echo a > d/a\nlist: ; @ls d > list; date +%N >> list\n", {"d/k": ""}, 1, ("RACE  d/a", "note: two serial builds differ in list")),
@@ -124,6 +127,14 @@ class Orders(unittest.TestCase):
             with support.Project({"Makefile": "all: a b\na b: ; %s\n" % recipe}) as project:
                 found = project.record(once=False)
         self.assertEqual((0, True), (found.status, "other orders left the same" in found.text()), found.text())
+
+    def test_folders_that_need_no_try(self) -> None:
+        """Each has found it there and went on, or it goes again."""
+        for makes in ("mkdir d 2> /dev/null; echo > d/$@", "while ! mkdir d 2> /dev/null; do sleep 0.1; done; rmdir d"):
+            with support.Project({"Makefile": "all: a b\na b: ; @%s; echo > $@\n" % makes}) as project:
+                found = project.record(once=False)
+            assert found.record is not None
+            self.assertEqual((0, 3), (found.status, found.record["orders"]["made"]), found.text())
 
     def test_nothing_but_jobs(self) -> None:
         """No two recipes are blamed for what differs in the order of the serial build."""
