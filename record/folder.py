@@ -95,6 +95,7 @@ class Record:
     def try_out(self, orders: Dict[str, Any]) -> None:
         """Takes in what builds in other orders came to: what they try out is not taken for granted any more, and looks are not where all of them were tried."""
         self.orders = orders
+        self.holes += ["a build in another order failed, and did not when it was made again: " + how for how in orders["failed"]]
         self.assumptions = [one for one in self.assumptions if one["kind"] not in TRIED_OUT or orders["untried"] and one["kind"] in UNTRIED]  # guard: what-orders-try-out
 
     def text(self) -> str:

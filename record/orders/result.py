@@ -56,4 +56,4 @@ def uncompared(orders: Orders, folder: str, most: int) -> list[str]:
     """Names that two serial builds leave otherwise."""
     names = [os.path.relpath(name, folder) for name in (orders or {}).get("unstable", ())]
     more = " and %d more" % (len(names) - most) if len(names) > most else ""
-    return ["two serial builds differ in %s%s, so other orders are not compared there" % (", ".join(names[:most]), more)] if names else []
+    return ["two builds in one order differ in %s%s, so other orders are not compared there" % (", ".join(names[:most]), more)] if names else []

@@ -55,6 +55,7 @@ class Trial:
     others: int = 0  # builds in other orders that left the same
     cleared: list[Pair] = field(default_factory=list)
     shown: list[Shown] = field(default_factory=list)
+    failed: list[str] = field(default_factory=list)  # how builds ended that ended well when they were made again
     bases: set[int] = field(default_factory=set)  # with so many jobs the order of the serial build leaves the same
 
     def __post_init__(self) -> None:
@@ -106,8 +107,8 @@ class Trial:
     def begin(self, running: Running) -> list[Plan]:
         """The second serial build, and the flipped one: those that ran beside the recorded build, where they count. A flipped one that is still to be made.
         `CannotTry` where the project cannot be built a second time."""
-        flip = Plan(FLIPPED, self.graph.flipped(), after=self.after, is_recorded=True)
-        if not running.children:
+        flip, is_beside = Plan(FLIPPED, self.graph.flipped(), after=self.after, is_recorded=True), bool(running.children)
+        if not is_beside:
             running.begin(Plan(SERIAL, {}, 1), flip)
         elif self.after:  # it began before anybody knew the fixes
             running.end(FLIPPED)
@@ -127,7 +128,7 @@ class Trial:
         ended = self.ended(built)
         self.room.forget(built.plan)
         self.builds += 1
-        self.settle(replace(built, plan=flip), ended)
+        self.settle(replace(built, plan=flip), ended, is_beside)
         return []
 
     def compare(self, again: Built) -> None:
@@ -136,8 +137,12 @@ class Trial:
         for number, (one, other) in enumerate(zip(self.serial, again.held)):
             self.unstable[number] |= differing(one, other)
             self.passing[number] += passing(one.keys() - other.keys(), other.keys() - one.keys())
-        self.pairs = [pair for pair in self.pairs if not self.is_unseen(pair)]  # guard: what-is-not-compared-clears-nothing
+        self.pass_unseen()
         self.room.forget(again.plan)
+
+    def pass_unseen(self) -> None:
+        """Conflicts of which nobody sees what they do stay races."""
+        self.pairs = [pair for pair in self.pairs if not self.is_unseen(pair)]  # guard: what-is-not-compared-clears-nothing
 
     def is_unseen(self, pair: Pair) -> bool:
         """Whether what two tasks, or who asks for what they settle, leave is not compared."""
@@ -210,10 +215,14 @@ class Trial:
         """Whether another build may be made, and says something: nothing differs whatever the order is."""
         return self.builds < self.most and all(one.first for one in self.shown)
 
-    def settle(self, built: Built, ended: Optional[Ended]) -> None:
-        """Takes in a build. What differs is narrowed down to two recipes, and the build made again where these keep the order of the serial one."""
+    def settle(self, built: Built, ended: Optional[Ended], is_beside: bool = False) -> None:
+        """Takes in a build. What differs is narrowed down to two recipes, and the build made again where these keep the order of the serial one. `is_beside`: it
+        ran beside the recorded build."""
         if ended is not None:
+            once, names = ended, self.names(built)
             built, ended = self.made_again(built.plan)
+            if ended is None and not is_beside:
+                self.doubt(once, names)  # guard: what-differs-once
         while ended is not None:
             found = self.narrow(built, ended)
             self.shown.append(found)
@@ -226,6 +235,14 @@ class Trial:
             self.cleared = [one for one in self.cleared if {*one} != both]
             (built, ended), = self.make(Plan("again", built.plan.places, built.plan.jobs, self.after))
         self.note(built)
+
+    def doubt(self, once: Ended, names: Sequence[tuple[int, str]]) -> None:
+        """Takes in what one of two builds in one order came to, and the other one did not: these names are compared no more, and where it failed there is no yes."""
+        for number, name in names:
+            self.unstable[number].add(name)
+        self.pass_unseen()
+        if once.status is not None and not names:
+            self.failed.append("; ".join(once.text))
 
     def overlap(self, pairs: Sequence[Pair]) -> None:
         """Tries out recipes that make a folder where it is not there, the second of each pair beside the first: it looks while that makes the folder. What
@@ -289,7 +306,7 @@ class Trial:
 
     def result(self) -> dict[str, Any]:
         """What a record keeps of it."""
-        return {"builds": self.others, "made": self.builds, "pairs": self.graph.pairs(), "turned": size(self.turned),
+        return {"builds": self.others, "failed": self.failed, "made": self.builds, "pairs": self.graph.pairs(), "turned": size(self.turned),
                 "untried": any(self.looked) or any(self.is_loose(number, {asker}) for number, build in self.graph.builds.items() for asker, *_ in build["looks"]),
                 "files": sum(text.startswith("file") for held in self.serial for text in held.values()),
                 "unstable": sorted(os.path.join(self.room.tops[number], name) for number, found in enumerate(self.unstable) for name in found),

@@ -2,11 +2,11 @@
 
 from typing import List
 
-from guard import YES, Guard, guards
+from guard import UNSAID, YES, Guard, guards
 
 GUARDS: List[Guard] = [
     *guards("orders/exploring.py",
-        ("folders-that-two-make", "pass", "orders.Orders.case_folder_that_two_make", YES),
+        ("folders-that-two-make", "pass", "orders.Orders.case_folder_that_two_make", UNSAID),
         ("makes-of-other-users", "pass", "laid.Covered.another_user"),
         ("room-of-the-tmpfs", "return size < int(words[1]) * 512 and runs_programs(TMPFS)", "orders.Orders.room_of_the_tmpfs"),
         ("what-builds-beside-could-see", "if False:", "orders.Orders.what_the_recorded_build_changes_elsewhere"),
@@ -19,6 +19,7 @@ GUARDS: List[Guard] = [
         ("what-tool-does-itself", "if (one.first, one.second) not in known and first != second:", "orders.Orders.folder_that_ninja_makes_before_a_recipe_begins", YES),
     ),
     *guards("orders/trial.py",
+        ("what-differs-once", "pass", "orders.Orders.what_differs_once"),
         ("looks-are-tried", "self.looked = [0] * len(self.graph.tasks)", "orders.Orders.case_one_order_of_three"),
         ("builds-that-need-other-machines", "raise CannotTry(again.message())", "orders.Orders.build_that_needs_a_server_of_this_machine"),
         ("no-more-than-there-may-be", "some = left[:AT_ONCE]", "orders.Orders.as_many_as_may_be"),
@@ -41,7 +42,7 @@ GUARDS: List[Guard] = [
         ("who-found-it-there", "for late in sorted(made):", "orders.Orders.folders_that_need_no_try"),
     ),
     *guards("orders/processes.py",
-        ("who-is-held-by-a-tracer", 'if words_of(pid)[0] not in "SZX" or any(one in shown(pid, "wchan") for one in SLEEPS):', "orders.Orders.case_folder_that_two_make", YES),
+        ("who-is-held-by-a-tracer", 'if words_of(pid)[0] not in "SZX" or any(one in shown(pid, "wchan") for one in SLEEPS):', "orders.Orders.case_folder_that_two_make", UNSAID),
         ("who-does-something-of-its-own", "return all([is_settled(one, waiting, seen) for one in live])", "gate.Gates.order_while_one_sleeps"),
     ),
 ]

@@ -257,7 +257,7 @@ GUARDS: List[Guard] = [
         ("programs-that-are-not-run", "if False:", "classes.Traces.programs_that_are_not_run"),
         ("interpreters-are-read", "pass", "small.Makefiles.interpreter_that_a_recipe_makes", YES, "interpreter"),
         ("what-unknown-programs-have-open", "pass", "started.Makefiles.age_of_what_an_unknown_program_has_open", UNSAID),
-        ("scripts-are-of-their-interpreter", "pass", "small.Makefiles.script_that_compares_ages", YES),
+        ("scripts-are-of-their-interpreter", "pass", "small.Makefiles.one_job_of_a_script", FALSE_RACE),
         ("too-many-words-hole", "if False:", "moves.Traces.too_many_words"),
         ("file-of-another-make", "if match is None or not ok:", "replay.Lives.make_without_the_library_is_noted"),
         ("make-whatever-its-program-is-called", "life.is_query = name in self.silent", "replay.Lives.make_without_the_library_is_noted"),

@@ -12,6 +12,7 @@ from unittest import mock
 import support
 
 from record.orders.exploring import has_memory
+from record.orders.trial import Trial
 
 LISTS = "all: d/a list\nd/a: ; @echo a > d/a\nlist: ; @ls d > list\n"
 AB = "a: ; @echo a > a\nb: ; @echo b > b\n"
@@ -32,14 +33,14 @@ CASES: Dict[str, Tuple[str, Dict[str, str], int, Tuple[str, ...]]] = {
     "folder that both make by p": ("all: a b\na b:\n\t@test -d d || mkdir -p d\n\t@echo > d/$@; echo > $@\n", {}, 0, ("in other orders left the same 5 files",)),
     "jobs alone": ("all: a b\na: ; @case \"$$MAKEFLAGS\" in *jobserver*) echo many > a ;; *) echo one > a ;; esac\nb: ; @echo b > b\n", {}, 1, (
         "RACE  with several jobs, whatever the order of recipes is:", "  a: line 1 is `many`, and `one` after a serial build")),
-    "what differs in two serial builds": ("all: d/a list\nd/a: ; @echo a > d/a\nlist: ; @ls d > list; date +%N >> list\n", {"d/k": ""}, 1, ("RACE  d/a", "note: two serial builds differ in list")),
+    "what differs in two serial builds": ("all: d/a list\nd/a: ; @echo a > d/a\nlist: ; @ls d > list; date +%N >> list\n", {"d/k": ""}, 1, ("RACE  d/a", "note: two builds in one order differ in list")),
     "macro that another recipe sets": ("all: s a b\ns: ; @touch s\na: s ; $(eval X := set)@touch a\nb: ; @echo x$(X) > b\n", {}, 1, (
         "RACE  with several jobs, whatever the order of recipes is:", "  b: line 1 is `x`, and `xset` after a serial build")),
     "macro that make expands in one order": ("all: s a b\ns: ; @touch s\na: s ; $(eval X := set)@touch a\nb: s ; @echo x$(X) > b\n", {}, 0, ("in other orders left the same 4 files",)),
     "make in a recipe": ("all: d/a sub\nd/a: ; @echo a > d/a\nsub: ; @$(MAKE) -s -C s\n\t@touch sub\n", {"d/k": "", "s/Makefile": "list: ; @ls ../d > list\n"}, 1, (
         "  seen where sub runs before d/a:", "    s/list: line 1 is `k`, and `a` after a serial build")),
     "look whose answer is not compared": ("all: c\n" + AB + "c: a b ; @test a -nt b && echo newer > c; date +%N >> c\n", {}, 0, ("ages (1, such as", "other orders are not compared there")),
-    "time of day": ("all: a b\na b: ; @date +%N > $@\n", {}, 0, ("note: two serial builds differ in a, b, so other orders are not compared there",)),
+    "time of day": ("all: a b\na b: ; @date +%N > $@\n", {}, 0, ("note: two builds in one order differ in a, b, so other orders are not compared there",)),
     "hard conflict that another order shows": ("all: d/a x c\nd/a: ; @echo a > d/a\nx: ; @echo x > x\nc: ; @ls d | grep -q a || cat x > /dev/null 2>&1; echo c > c\n", {"d/k": ""}, 1, (
         "RACE  x", "  c  Makefile:4  reads it, and nothing orders the two")),
 }
@@ -105,7 +106,7 @@ class Orders(unittest.TestCase):
         makefile = "all: a b\na: ; @test $$(date +%%s) -ge %d && echo late > a || echo early > a\nb: ; @sleep 4; echo > b\n" % (time.time() + 3)
         with support.Project({"Makefile": makefile}) as project:
             found = project.record(once=False)
-        self.assertEqual((0, True), (found.status, "note: two serial builds differ in a, " in found.text()), found.text())
+        self.assertEqual((0, True), (found.status, "note: two builds in one order differ in a, " in found.text()), found.text())
 
     def test_what_copies_write_elsewhere(self) -> None:
         """It is theirs alone."""
@@ -135,6 +136,15 @@ class Orders(unittest.TestCase):
                 found = project.record(once=False)
             assert found.record is not None
             self.assertEqual((0, 3), (found.status, found.record["orders"]["made"]), found.text())
+
+    def test_what_differs_once(self) -> None:
+        """It is compared no more, and a build that failed gives no yes."""
+        made_again = Trial.made_again
+        with mock.patch.object(Trial, "made_again", lambda trial, plan: (made_again(trial, plan)[0], None)), mock.patch("record.orders.builds.have_own_ports", return_value=False):
+            for makefile, files, status, says in ((LISTS, {"d/k": ""}, 1, "note: two builds in one order differ in list"), (CASES["build that fails"][0], {"src": ""}, 2, "did not when it was made again: the build")):
+                with support.Project({"Makefile": makefile, **files}) as project:
+                    found = project.record(once=False)
+                self.assertEqual((status, True), (found.status, says in found.text()), found.text())
 
     def test_nothing_but_jobs(self) -> None:
         """No two recipes are blamed for what differs in the order of the serial build."""
