@@ -158,7 +158,7 @@ def write_build(folder: Path, build: "Build", within: Optional[Dict[str, str]], 
     }
     text = {"tool": build.tool, "make": record.tools.get("make", ""), "folder": shown(root), "project": shown(record.folder), "top": shown(top_of(record.folder)), "words": shown(build.words), "round": build.stage, "within": within,
             "span": [build.make.life.born, build.make.life.died], "counts": counts, "labels": about, "meanings": meanings, "askers": askers,
-            "looks": [[labels[at] if at >= 0 else "", *(sorted(labels[one] for one in side) for side in sides)] for at, *sides in build.looks]}
+            "looks": [[[labels[at] if at >= 0 else "" for at in sorted(some)] for some in look] for look in [*(({at}, who, who) for at, who in build.looks), *((by, by, who) for by, who in build.asked.values())]]}
     (folder / "build.json").write_text(json.dumps(text, indent=1, ensure_ascii=False) + "\n", encoding="utf-8")
 
 
@@ -167,7 +167,7 @@ def soft_leaves(build: "Build") -> Dict[int, List[str]]:
     found: Dict[int, Set[str]] = {}
     for task in build.tasks:
         found.setdefault(id(task.node), set()).update(task.leaves)
-    asking = {*build.askers.values(), *(at for at, _, _ in build.looks)}
+    asking = {*build.askers.values(), *(at for at, _ in build.looks)}.union(*(by for by, _ in build.asked.values()))
     soft = (at for at, task in enumerate(build.tasks) if task.listed or at in asking or any(map(OWN_NAME.search, task.reads | task.writes)))
     return {at: sorted(found[id(build.tasks[at].node)]) for at in soft}
 

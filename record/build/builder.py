@@ -172,9 +172,8 @@ class Builder:
 
     def note_asked(self, at: int, folder: str, program: str, created: Dict[str, Dict[str, Set[int]]]) -> None:
         """A task asks for the time, the size or the links of a folder in which another one makes or removes names."""
-        others = {other for who in created.get(folder, {}).values() for other in who if self.build.unordered(at, other)}
-        if others:  # guard: folders-that-nobody-changes
-            self.build.looks.append((at, {at}, others))
+        if any(self.build.unordered(at, other) for who in created.get(folder, {}).values() for other in who):  # guard: folders-that-nobody-changes
+            self.build.asked.setdefault(folder, (set(), set().union(*created[folder].values())))[0].add(at)
             self.assumed.add("folders", "%s of %s in %s" % (program, folder, self.build.tasks[at].label))
 
     def is_known(self, path: str) -> bool:

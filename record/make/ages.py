@@ -175,7 +175,7 @@ def looked_at_ages(builder: Builder, at: int, work: Work, assumed: str = "ages",
             settled.setdefault(one, set()).add(path)
     who = {one for one in settled if any(build.unordered(one, other) and len(settled[one] | paths) > 1 for other, paths in settled.items())}  # guard: two-names
     if who:
-        build.looks.append((at, who, who))
+        build.looks.append((at, who))
         names = sorted(set().union(*(settled[one] for one in who)))
         builder.assumed.add(assumed, "%s looks at %s" % (words or build.tasks[at].node.name, " and ".join(names[:2])))  # guard: who-looks-at-two-files
 

@@ -27,6 +27,7 @@ CREDENTIALS = struct.Struct("3i")  # of who has connected: process, user, group
 LEAST, MOST = 0.001, 0.032  # seconds from one look at the processes to the next
 PATIENCE = 0.3  # seconds without a sign of life, behind which another recipe may begin: a process waits for what no process of the build will do
 LAST = float("inf")
+CLOCK_OF_FILES = 5  # CLOCK_REALTIME_COARSE of Linux
 
 
 def sum_of(command: bytes) -> str:
@@ -131,6 +132,7 @@ class Gate:
             self.open[make, name] = key
             self.counts[(*key[:-1], (*key[-1][:2], 0))] = key[-1][2]
         self.owners[pid] = self.open[make, name]
+        wait_for_tick()
         end = os.pidfd_open(pid)
         go_on(self.waiting.pop(pid))
         return end
@@ -165,6 +167,13 @@ class Gate:
                 else:
                     pause = min(2 * pause, MOST)
         return True
+
+
+def wait_for_tick() -> None:
+    """Waits some milliseconds until files get another time: what the next recipe writes is newer than what was written before."""
+    now = time.clock_gettime_ns(CLOCK_OF_FILES)
+    while time.clock_gettime_ns(CLOCK_OF_FILES) == now:
+        time.sleep(LEAST / 2)
 
 
 def go_on(channel: socket.socket) -> None:

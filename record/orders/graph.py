@@ -134,8 +134,10 @@ class Graph:
             for _, *sides in build["looks"]:
                 one, other = (self.bits(self.recipe_of(number, label) for label in side) for side in sides)
                 for at in numbers(one | other):
-                    waits = self.bits(self.keys[key] for key in after.get(self.tasks[at].key or (), ()) if key in self.keys)
-                    found[at] |= self.free[at] & ~waits & ((other if one >> at & 1 else 0) | (one if other >> at & 1 else 0))
+                    found[at] |= self.free[at] & ((other if one >> at & 1 else 0) | (one if other >> at & 1 else 0))
+        for late, early in after.items():
+            if late in self.keys:
+                found[self.keys[late]] &= ~self.bits(self.keys[key] for key in early if key in self.keys)
         return found
 
     def is_free(self, one: int, other: int) -> bool:

@@ -307,7 +307,7 @@ class Trial:
     def result(self) -> dict[str, Any]:
         """What a record keeps of it."""
         return {"builds": self.others, "failed": self.failed, "made": self.builds, "pairs": self.graph.pairs(), "turned": size(self.turned),
-                "untried": any(self.looked) or any(self.is_loose(number, {asker}) for number, build in self.graph.builds.items() for asker, *_ in build["looks"]),
+                "untried": any(self.looked) or any(self.is_loose(number, {*by}) for number, build in self.graph.builds.items() for by, *_ in build["looks"]),
                 "files": sum(text.startswith("file") for held in self.serial for text in held.values()),
                 "unstable": sorted(os.path.join(self.room.tops[number], name) for number, found in enumerate(self.unstable) for name in found),
                 "cleared": [one for pair in self.cleared for one in self.soft[pair]], "left": [one for pair in self.pairs for one in self.soft[pair]], "shown": list(map(self.shown_labels, self.shown))}

@@ -123,7 +123,7 @@ class Ages(unittest.TestCase):
     def test_two_names_that_a_third_compares(self) -> None:
         rules = {"a": [], "b": [], "c": ["a", "b"]}
         done: Dict[str, Events] = {"a": [("C", "x"), ("W", "x")], "b": [("C", "y"), ("W", "y")], "c": [("A", "x"), ("A", "y")]}
-        self.assertEqual([(2, {0, 1}, {0, 1})], build_of(rules, done).looks)
+        self.assertEqual([(2, {0, 1})], build_of(rules, done).looks)
         self.assertEqual([], build_of({"a": [], "b": ["a"], "c": ["a", "b"]}, done).looks)
         self.assertEqual([], build_of(rules, {**done, "c": [("A", "x")]}).looks)
         self.assertEqual([], build_of(rules, {**done, "b": [("W", "x")], "c": [("A", "x")]}).looks)
@@ -132,15 +132,15 @@ class Ages(unittest.TestCase):
         names = ["n%d" % n for n in range(900)]
         rules = {"a": [], "b": [], "c": ["a", "b"]}
         build = build_of(rules, {"a": [("W", n) for n in names[:450]], "b": [("W", n) for n in names[450:]], "c": [("A", n) for n in names]})
-        self.assertEqual([(2, {0, 1}, {0, 1})], build.looks)
+        self.assertEqual([(2, {0, 1})], build.looks)
 
     def test_age_of_a_folder_by_what_is_in_it(self) -> None:
         rules = {"a": [], "b": [], "c": ["a", "b"]}
         done: Dict[str, Events] = {"a": [("C", "d/x")], "b": [("W", "y")], "c": [("A", "d"), ("A", "y")]}
-        self.assertEqual([(2, {0, 1}, {0, 1})], build_of(rules, done, {"d": "d", "y": "f"}).looks)
+        self.assertEqual([(2, {0, 1})], build_of(rules, done, {"d": "d", "y": "f"}).looks)
 
     def test_time_of_a_folder(self) -> None:
-        self.assertEqual([(1, {1}, {0})], build_of(AB, {"a": [("C", "d/x")], "b": [("g", "d\0tool")]}, {"d": "d"}).looks)
+        self.assertEqual({TOP + "/d": ({1}, {0})}, build_of(AB, {"a": [("C", "d/x")], "b": [("g", "d\0tool")]}, {"d": "d"}).asked)
 
 
 Makefiles = makefiles(__name__, {

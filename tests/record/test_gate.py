@@ -44,6 +44,10 @@ class Gates(unittest.TestCase):
             self.assertEqual(0, process.returncode)
         return [[part[1] + ("" if part[2] == 1 else " %d" % part[2]) for part in key] for key in gate.began]
 
+    def test_files_of_two_recipes_have_two_ages(self) -> None:
+        self.began({"Makefile": "all: a b c d e ; @stat -c %y $^ | sort -u | wc -l\na b c d e: ; @touch $@\n"}, ["make", "-j5"])
+        self.assertEqual("5\n", self.output)
+
     def test_order(self) -> None:
         """The greatest place first, of those that are ready."""
         found = self.began({"Makefile": "all: a b c\na b c: ; @echo $@\nb: c\n"}, ["make", "-j9"], lambda name: "acb".index(name))
