@@ -40,7 +40,7 @@ def judge(folder: Path, program: Path) -> Report:
         report.recipes += build.about.get("counts", {}).get("recipes", 0)
     report.fixes = merged(it.remedy for it in report.races if it.fix)
     report.considered |= report.ran
-    report.tree = record.get("tree", "")
+    report.tree, report.seconds = record.get("tree", ""), record.get("seconds", 0.0)
     report.tool = "ninja" if tools == {"ninja"} else "make"
     report.missing = Question.of(folder, str(program)) if "missing" in record else None
     report.verdict = "none" if report.holes or not report.builds else "race" if report.races or whatever(record.get("orders")) else "safe"

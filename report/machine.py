@@ -65,9 +65,9 @@ def missing_object(missing: Question, report: Report) -> dict[str, Any]:
     }
 
 
-def as_json(report: Report) -> str:
-    """The whole report as one object."""
-    text = {
+def object_of(report: Report) -> dict[str, Any]:
+    """The whole report as the schema has it."""
+    return {
         "schema": "race-report", "version": VERSION, "verdict": report.verdict, "summary": summary(report),
         "folder": shown(report.folder), "words": report.words,
         "counts": {"builds": report.builds, "recipes": report.recipes, "pairs": report.pairs, "races": len(report.races)},
@@ -79,7 +79,11 @@ def as_json(report: Report) -> str:
         "unmet": report.unmet,
         **({"missing": missing_object(report.missing, report)} if report.missing else {}),
     }
-    return json.dumps(text, indent=1, ensure_ascii=True) + "\n"
+
+
+def as_json(report: Report) -> str:
+    """The whole report as one object."""
+    return json.dumps(object_of(report), indent=1, ensure_ascii=True) + "\n"
 
 
 def location(recipe: Recipe, message: str, number: int | None = None) -> dict[str, Any]:
@@ -133,18 +137,27 @@ def as_gitlab(report: Report) -> str:
     return json.dumps(found, indent=1, ensure_ascii=True) + "\n"
 
 
-def as_sarif(report: Report) -> str:
-    """A log of SARIF 2.1.0 with one run: a rule for each kind, a result for each race."""
+def run_of(report: Report) -> dict[str, Any]:
+    """A run of SARIF 2.1.0: a rule for each kind, a result for each race."""
     rules = [{
         "id": it.name, "name": it.name, "shortDescription": {"text": it.title},
         "fullDescription": {"text": f"Two recipes may run at once: {it.title}."},
         "help": {"text": it.fix}, "defaultConfiguration": {"level": "error"},
     } for it in KINDS]
     notes = [{"level": "error", "message": {"text": it}} for it in report.holes]
-    run = {
+    return {
         "tool": {"driver": {"name": "race", "rules": rules}},
         "originalUriBaseIds": {"PROJECT": {"uri": "file://" + quote(os.fsencode(report.top.rstrip("/") + "/"), safe="/")}},
         "invocations": [{"executionSuccessful": report.verdict != "none", "toolExecutionNotifications": notes}],
         "results": [result(it, report) for it in report.races],
     }
-    return json.dumps({"$schema": SCHEMA, "version": "2.1.0", "runs": [run]}, indent=1, ensure_ascii=True) + "\n"
+
+
+def log(runs: list[dict[str, Any]]) -> str:
+    """A log of SARIF 2.1.0."""
+    return json.dumps({"$schema": SCHEMA, "version": "2.1.0", "runs": runs}, indent=1, ensure_ascii=True) + "\n"
+
+
+def as_sarif(report: Report) -> str:
+    """A log with one run."""
+    return log([run_of(report)])

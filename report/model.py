@@ -170,6 +170,8 @@ class Report:
     tree: str = ""  # what the build started from
     tool: str = "make"  # what ran the recipes: ninja where no make did, tasks where nobody knows
     missing: Question | None = None  # of a record with --missing: what recipes read and make does not know of
+    seconds: float = 0.0  # of the recorded build
+    is_unread: bool = False  # of a record that cannot be read; its hole says why
 
     @property
     def is_checked(self) -> bool:
@@ -209,7 +211,9 @@ class Report:
         yield from groups.items()
 
     def status(self) -> int:
-        """0 safe or nothing new, 1 races or missing inputs, 2 no verdict on one of the two."""
+        """0 safe or nothing new, 1 races or missing inputs, 2 no verdict on one of the two, 3 a record that cannot be read."""
+        if self.is_unread:
+            return 3
         missing = self.missing.verdict() if self.missing else "nothing"
         return 2 if "none" in (self.verdict, missing) else int("new" in map(self.state, self.fingerprints()))
 

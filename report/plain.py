@@ -28,6 +28,8 @@ def counted(number: int, one: str, many: str = "") -> str:
 
 def summary(report: Report) -> str:
     """The verdict in one sentence."""
+    if report.is_unread:
+        return "The record cannot be read."
     recipes = f"{counted(report.recipes, 'recipe')} in {counted(report.builds, 'build')}"
     if report.verdict == "none":
         of_record = f"The record has {counted(len(report.holes), 'hole')}." if report.holes else "No recipe ran in the recorded build, so nothing is judged."

@@ -4,7 +4,7 @@ from __future__ import annotations
 
 import json
 import re
-from collections.abc import Iterable, Iterator
+from collections.abc import Iterator
 from dataclasses import dataclass
 from fnmatch import fnmatchcase
 from pathlib import Path
@@ -17,6 +17,7 @@ from report.model import BadRecord, Gone, Report
 IGNORED = "race-ignore"  # in the project's top
 PRINT = re.compile(r"[0-9a-f]{32}")
 ENTRY = re.compile(r"(?P<words>.*?)(?:(?:^|\s)#\s*(?P<reason>.*))?")
+SEVERAL = '{"package"'  # how a report of several records begins
 HOW = "an entry is a pattern of files, two targets, or a fingerprint, and behind # a reason"
 
 
@@ -46,23 +47,25 @@ def of_input(found: dict[str, Any]) -> Known:
     return Known(found["fingerprint"], f"{found['target']}: {found['path']} was missing", tuple((it, True) for it in names))
 
 
-def read_baseline(path: Path) -> list[Known]:
-    """The races and missing inputs of a baseline, which is a report in JSON."""
+def read_baseline(path: Path) -> dict[str, list[Known]]:
+    """The races and missing inputs of a baseline, by package. It is a report in JSON: of several records, or of one, under an empty name."""
     how = f"to make it anew: race-report --format json -o {path}"
     try:
-        found = json.loads(path.read_text(encoding="utf-8"))
-        if found["schema"] != "race-report" or found["version"] != VERSION:
-            raise BadRecord(f"the baseline {path} is a {found['schema']} of version {found['version']}, and version {VERSION} is read here; {how}")
-        return [*map(of_race, found["races"]), *map(of_input, found.get("missing", {}).get("inputs", []))]
+        text = path.read_text(encoding="utf-8")
+        found = [*map(json.loads, text.rstrip("\n").split("\n") if text.startswith(SEVERAL) else [text])]
+        for it in found:
+            if it["schema"] != "race-report" or it["version"] != VERSION:
+                raise BadRecord(f"the baseline {path} is a {it['schema']} of version {it['version']}, and version {VERSION} is read here; {how}")
+        return {it.get("package", ""): [*map(of_race, it["races"]), *map(of_input, it.get("missing", {}).get("inputs", []))] for it in found}
     except OSError as error:
         raise BadRecord(f"the baseline {reason(error)}; {how}") from error
     except (AttributeError, KeyError, TypeError, ValueError) as error:
         raise BadRecord(f"the baseline {path} is no report in JSON ({type(error).__name__}: {error}); {how}") from error
 
 
-def hold_against(report: Report, known: Iterable[Known]) -> None:
-    """Marks what a baseline has, and notes what of it is gone: fixed where its recipes ran, else not seen."""
-    known = [*known]
+def hold_against(report: Report, baseline: dict[str, list[Known]], package: str) -> None:
+    """Marks what a baseline has, and notes what of it is gone: fixed where its recipes ran, else not seen. That of one record is about each package."""
+    known = baseline.get("", baseline.get(package, []))
     report.known = {it.fingerprint for it in known}
     there = report.fingerprints()
     report.gone = [Gone(it.text, it.is_seen(report)) for it in known if it.fingerprint not in there]
@@ -106,3 +109,11 @@ def ignore(report: Report) -> None:
             report.ignored.setdefault(fingerprint, entry.reason)
             left[entry] = False
     report.unmet = [f"{path}:{it.line}: {' '.join(it.words)}" for it, is_left in left.items() if is_left]
+
+
+def settle(report: Report, baseline: dict[str, list[Known]] | None, package: str) -> Report:
+    """A report with how its races stand: against a baseline, where there is one, and by the project's `race-ignore`."""
+    if baseline is not None:
+        hold_against(report, baseline, package)
+    ignore(report)
+    return report

@@ -133,7 +133,7 @@ complete -c race-record -x -a '(__fish_complete_subcommand)'
 
 complete -c race-report -s h -l help -d 'show this help message and exit'
 complete -c race-report -l format -x -a 'github gitlab html json patch sarif text' -d 'the form (text)'
-complete -c race-report -s o -l output -r -F -d 'write to FILE instead of standard output'
+complete -c race-report -s o -l output -r -F -d 'write to FILE instead of standard output; html of several records: a folder'
 complete -c race-report -l baseline -r -F -d 'a report in JSON: its races are known, and do not fail'
 complete -c race-report -l all -d 'give each race a block in the text: else the first ten groups'
 complete -c race-report -l race -r -F -d 'the program race (else $RACE, the checkout\'s, or the one on PATH)'

@@ -12,8 +12,9 @@ STATES = ("new", "unchanged", "updated", "absent")
 # The type of each property: the name of an object; a type with [] for a list, with {} for an object with free keys; a tuple of words.
 TYPES: dict[str, dict[str, object]] = {
     "log": {"$schema": "uri", "version!": ("2.1.0",), "runs!": "run[]", "properties": "any"},
-    "run": {"tool!": "tool", "invocations": "invocation[]", "originalUriBaseIds": "artifactLocation{}", "results": "result[]",
+    "run": {"tool!": "tool", "invocations": "invocation[]", "originalUriBaseIds": "artifactLocation{}", "results": "result[]", "automationDetails": "runAutomationDetails",
             "columnKind": ("utf16CodeUnits", "unicodeCodePoints"), "properties": "any"},
+    "runAutomationDetails": {"description": "message", "id": "text", "guid": "text", "correlationGuid": "text", "properties": "any"},
     "tool": {"driver!": "toolComponent", "extensions": "toolComponent[]", "properties": "any"},
     "toolComponent": {"name!": "text", "fullName": "text", "version": "text", "semanticVersion": "text", "informationUri": "uri",
                       "rules": "reportingDescriptor[]", "properties": "any"},
