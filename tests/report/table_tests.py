@@ -5,6 +5,8 @@ from __future__ import annotations
 import contextlib
 import io
 import json
+import os
+import subprocess
 from pathlib import Path
 from xml.etree import ElementTree
 
@@ -12,7 +14,7 @@ import records
 import sarif
 from report.index import page_name
 from report.main import main as race_report
-from support import PROGRAMS, Reporting
+from support import PROGRAMS, TOP, Reporting
 
 
 class Tables(Reporting):
@@ -143,3 +145,33 @@ class Tables(Reporting):
         for words, says in ((["--format", "github"], "--format github shows one record, and here are 3"), (["--format", "patch"], "--format patch shows one"),
                             (["--format", "html"], "name a folder for them by -o"), (["--tasks", "t", "more"], "--tasks takes no record, and here are 2")):
             self.assertIn(says, self.refused(str(self.all), *words))
+
+
+class OnePackage(Reporting):
+    """The script that records a package, with another program in the place of mmdebstrap."""
+
+    def ran(self, *words: str, status: int = 0) -> "subprocess.CompletedProcess[str]":
+        tool = self.room / "mmdebstrap"
+        tool.write_text(f'#!/bin/sh\necho "$# words, $DEB_BUILD_OPTIONS"\nprintf "%s\\n" "$@"\nexit {status}\n')
+        tool.chmod(0o755)
+        env = {**os.environ, "PATH": f"{self.room}:{os.environ['PATH']}"}
+        return subprocess.run([str(TOP / "share" / "archive" / "one-package"), *words], cwd=self.room, env=env, capture_output=True, text=True, check=False)
+
+    def test_log_and_status(self) -> None:
+        old = self.room / "records" / "libx++-1.0" / "record.json"
+        old.parent.mkdir(parents=True)
+        old.write_text("{}")
+        for status in (0, 25):
+            ran = self.ran("base.tar", "records", "libx++-1.0", status=status)
+            self.assertEqual((status, "", ""), (ran.returncode, ran.stdout, ran.stderr))
+            log = (old.parent / "log").read_text()
+            self.assertIn("nocheck parallel=4\n", log)
+            self.assertIn("\n--setup-hook=tar-in 'base.tar' /\n", log)
+            self.assertIn("\n--customize-hook=sync-out /build/record 'records/libx++-1.0'\n", log)
+        self.assertFalse(old.exists())
+
+    def test_usage(self) -> None:
+        for words in ((), ("b", "records"), ("b", "records", ""), ("b", "records", ".."), ("b", "records", "../x"), ("b", "records", "a b"), ("b", "records", "a", "c")):
+            ran = self.ran(*words)
+            self.assertEqual((3, "usage: one-package BASE.tar FOLDER PACKAGE\n"), (ran.returncode, ran.stderr), words)
+        self.assertFalse((self.room / "records").exists())
