@@ -43,5 +43,6 @@ def judge(folder: Path, program: Path) -> Report:
     report.tree, report.seconds = record.get("tree", ""), record.get("seconds", 0.0)
     report.tool = "ninja" if tools == {"ninja"} else "make"
     report.missing = Question.of(folder, str(program)) if "missing" in record else None
-    report.verdict = "none" if report.holes or not report.builds else "race" if report.races or whatever(record.get("orders")) else "safe"
+    report.jobs = whatever(record.get("orders"))
+    report.verdict = "none" if report.holes or not report.builds else "race" if report.races or report.jobs else "safe"
     return report

@@ -74,7 +74,7 @@ def object_of(report: Report) -> dict[str, Any]:
         "races": [race_object(it, report) for it in report.races],
         "fixes": {"lines": report.fixes if report.races else [], "checked": report.is_checked},
         "assumptions": [{"text": it.text, "count": it.count, "example": it.example} for it in report.assumptions],
-        "holes": report.holes, "hints": report.hints, "standing": report.standing(),
+        "holes": report.holes, "hints": report.hints, **({"jobs": report.jobs} if report.jobs else {}), "standing": report.standing(),
         "fixed": [it.text for it in report.gone if it.is_fixed], "not_seen": [it.text for it in report.gone if not it.is_fixed],
         "unmet": report.unmet,
         **({"missing": missing_object(report.missing, report)} if report.missing else {}),
@@ -130,10 +130,10 @@ def issue(race: Race, report: Report) -> dict[str, Any]:
 
 
 def as_gitlab(report: Report) -> str:
-    """A report of code quality: an issue for each race that is not ignored, and for each reason why there is no verdict."""
+    """A report of code quality: an issue for each race that is not ignored, and for each reason why there is no yes else."""
     found = [issue(it, report) for it in report.races if report.state(it.fingerprint) != "ignored"]
-    found += [{"description": f"no verdict: {it}", "check_name": "no-verdict", "fingerprint": hashlib.sha256(it.encode()).hexdigest()[:32], "severity": "blocker",
-               "location": {"path": "Makefile", "lines": {"begin": 1}}} for it in report.holes]
+    found += [{"description": f"no verdict: {it}" if it in report.holes else it, "check_name": "no-verdict", "fingerprint": hashlib.sha256(it.encode()).hexdigest()[:32], "severity": "blocker",
+               "location": {"path": "Makefile", "lines": {"begin": 1}}} for it in report.troubles]
     return json.dumps(found, indent=1, ensure_ascii=True) + "\n"
 
 
@@ -144,7 +144,7 @@ def run_of(report: Report) -> dict[str, Any]:
         "fullDescription": {"text": f"Two recipes may run at once: {it.title}."},
         "help": {"text": it.fix}, "defaultConfiguration": {"level": "error"},
     } for it in KINDS]
-    notes = [{"level": "error", "message": {"text": it}} for it in report.holes]
+    notes = [{"level": "error", "message": {"text": it}} for it in report.troubles]
     return {
         "tool": {"driver": {"name": "race", "rules": rules}},
         "originalUriBaseIds": {"PROJECT": {"uri": "file://" + quote(os.fsencode(report.top.rstrip("/") + "/"), safe="/")}},

@@ -156,6 +156,7 @@ class Report:
     assumptions: list[Assumption] = field(default_factory=list)
     holes: list[str] = field(default_factory=list)
     hints: list[str] = field(default_factory=list)  # what to try
+    jobs: list[str] = field(default_factory=list)  # what differs with several jobs, whatever the order of recipes is
     builds: int = 0
     recipes: int = 0
     pairs: int = 0
@@ -172,6 +173,11 @@ class Report:
     missing: Question | None = None  # of a record with --missing: what recipes read and make does not know of
     seconds: float = 0.0  # of the recorded build
     is_unread: bool = False  # of a record that cannot be read; its hole says why
+
+    @property
+    def troubles(self) -> list[str]:
+        """What bars a yes and is no race of two recipes."""
+        return self.holes + ["with several jobs, whatever the order of recipes is: " + "; ".join(self.jobs)] * bool(self.jobs)
 
     @property
     def is_checked(self) -> bool:
@@ -215,7 +221,7 @@ class Report:
         if self.is_unread:
             return 3
         missing = self.missing.verdict() if self.missing else "nothing"
-        return 2 if "none" in (self.verdict, missing) else int("new" in map(self.state, self.fingerprints()))
+        return 2 if "none" in (self.verdict, missing) else int(bool(self.jobs) or "new" in map(self.state, self.fingerprints()))
 
 
 def read_json(path: Path) -> dict[str, Any]:

@@ -174,7 +174,7 @@ def as_html(report: Report) -> str:
     body = [
         f'<header class="verdict {report.verdict}"><h1>{HEADLINES[report.verdict]}</h1><p>{escape(" ".join(filter(None, (summary(report), report.standing()))))}</p>'
         f'<div class="where"><code>{escape(" ".join(report.words))}</code> in <code>{escape(shown(report.folder))}</code></div></header>',
-        listed("Why there is no verdict", [escape(it) for it in report.holes]), listed("What to try", [escape(it) for it in report.hints]), fixes(report), *races(report),
+        listed("Why there is no verdict", [escape(it) for it in report.holes]), listed("With several jobs, whatever the order of recipes is", [escape(it) for it in report.jobs]), listed("What to try", [escape(it) for it in report.hints]), fixes(report), *races(report),
         *(listed(title, [escape(it.text) for it in report.gone if it.is_fixed == side]) for title, side in (("Fixed since the baseline", True), ("Not seen in this build", False))),
         listed("Lines of race-ignore that no race meets", [escape(it) for it in report.unmet]), assumptions(report), missing(report),
     ]

@@ -37,6 +37,8 @@ def summary(report: Report) -> str:
     if report.verdict == "safe":
         same = SAME[report.tool] + (f", for {report.tree}" if report.tree else "")
         return f"{same}. {recipes}; {counted(report.pairs, 'pair')} that conflict are in order."
+    if not report.races:
+        return f"Builds with several jobs leave something else. {recipes}."
     files = len({it.path for it in report.races})
     return f"{counted(len(report.races), 'race')} on {counted(files, 'file')}. {recipes}."
 
@@ -98,6 +100,7 @@ def text(report: Report) -> str:
     """The whole report: the verdict first, and why there is none."""
     lines = [f"{HEADLINES[report.verdict]}  {summary(report)}", ""]
     lines += [*holes(report), *blocks(report), *standing_lines(report)]
+    lines += ["With several jobs, whatever the order of recipes is:", *("  " + it for it in report.jobs), ""] if report.jobs else []
     if report.fixes:
         checked = "with these lines the build is safe (checked)" if report.is_checked else "not checked together"
         lines += [f"All fixes, {checked}:", *(f"    {it}" for it in report.fixes), ""]
@@ -150,7 +153,7 @@ def github(report: Report) -> str:
         level = LEVELS[report.state(race.fingerprint)]
         lines.append(annotation(level, f"race on {race.shown}", message, late.file, late.line))
     lines += missing_annotations(report)
-    lines += [annotation("error", "race: no verdict", it) for it in report.holes]
+    lines += [annotation("error", "race: no verdict" if it in report.holes else "race", it) for it in report.troubles]
     lines += [annotation("notice", "race: hint", it) for it in report.hints]
     lines += [annotation("notice", f"race: {'fixed' if it.is_fixed else 'not seen'}", it.text) for it in report.gone]
     lines += [annotation("warning", "race: no race meets this line", it) for it in report.unmet]
