@@ -24,6 +24,7 @@ from itertools import combinations
 from typing import TYPE_CHECKING, Dict, FrozenSet, Iterable, Iterator, List, Sequence, Set, Tuple
 
 from record import machine
+from record.make.owners import Make
 from record.trace.events import BY_LIST, CHANGES, CREATED, ENTERED, HELD, LISTED, MADE, MADE_BEFORE, MADE_QUIETLY, MODE_GIVEN, OUTPUT, READ, REFUSED, SEEN
 from record.trace.lists import fits
 from record.trace.names import Names
@@ -229,13 +230,16 @@ def early_folders(before: Dict[str, str], builds: "Sequence[Build]", lives: "Ite
 
 
 def listed(before: Dict[str, str], builds: "Iterable[Build]", names: Names) -> Iterator[str]:
-    """The files that were there and that a recipe may have met as it listed their folder: one that comes later has no place in the list."""
+    """What was there and a recipe, or make itself, may have met as it listed the folder: what comes later has no place in the list."""
     found = {path for build in builds for task in build.tasks for work in task.works for kind, path in work.events if kind == LISTED}
     inside: Dict[str, List[str]] = {}
     for folder, _, pattern in (path.partition("\0") for path in sorted(found)):  # in one order, so that an import asks the machine what the recording did
         inside.setdefault(folder, []).append(pattern)
+    for make in {id(build.make): build.make for build in builds if isinstance(build.make, Make)}.values():
+        for folder in sorted({path for _, path in make.lists}):
+            inside.setdefault(folder, []).extend(make.all_patterns_in(folder))  # guard: what-make-lists
     for path, kind in before.items():
-        if kind == "f" and any(fits(pattern, path, names) for pattern in inside.get(os.path.dirname(path), ())):
+        if kind in ("f", "d") and any(fits(pattern, path, names, kind == "d") for pattern in inside.get(os.path.dirname(path), ())):
             yield path  # guard: what-lists-show
 
 

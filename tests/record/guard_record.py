@@ -79,6 +79,7 @@ GUARDS: List[Guard] = [
         ("empty-recipe-may-wait", 'return about.get("tool", "make") == "make" and found.get("kind") == "decision" and path == found.get("target")', "small.Makefiles.look_of_an_empty_recipe"),
     ),
     *guards("first_tree.py",
+        ("what-make-lists", "pass", "first_tree.Left.folder_that_make_lists"),
         ("what-earlier-build-left", "return set()", "first_tree.Left.dependency_file"),
         ("what-one-recipe-changes", "written = (by_any | by_recipes) & shared", "first_tree.Left.cache_of_one_recipe", LOST_HOLE),
         ("what-lists-show", "yield from ()", "first_tree.Left.name_that_a_list_shows", LOST_HOLE),

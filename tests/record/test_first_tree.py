@@ -69,6 +69,9 @@ class Left(unittest.TestCase):
         self.warm(files, "make -s; make -s clean", "p/b")
         self.assertEqual(0, self.recorded({**files, "Makefile": files["Makefile"].replace("ls p", "ls p/k*")}, "make -s; make -s clean").status)
 
+    def test_folder_that_make_lists(self) -> None:
+        self.warm({"Makefile": "all: list sub\nlist: ; echo $(wildcard p/*/) > list\nsub: ; mkdir -p p/d; touch sub\nclean: ; rm -f list sub\n", "p/k": ""}, GIT + "; make -s; make -s clean", "p/d")
+
     def test_folder(self) -> None:
         files = {"Makefile": "all: obj/a\nobj/a: ; echo > obj/a\n"}
         self.warm(files, GIT + "; mkdir obj", "obj")
