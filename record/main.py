@@ -31,7 +31,6 @@ from record.fresh import clean, fresh_tree, in_place
 from record.judge import find_race, judge, no_race
 from record.ninja.retry import JOBS, TRIES, by_hand, hints, tops_of, undo, with_jobs
 from record.ninja.cold_copy import CannotClean, cold_copy, fresh_folder, has_ninja, saved_name
-from record.ninja.log import Kept
 from record.orders.builds import CannotTry, with_many
 from record.orders.exploring import MOST, beside, explore, new_room
 from record.orders.result import Orders, tried, whatever

@@ -1,6 +1,5 @@
 """Lines of makefiles and manifests as people wrote them: a rule that is to be edited, and the places of targets that have no recipe there."""
 
-import os
 import re
 from dataclasses import dataclass
 from functools import lru_cache

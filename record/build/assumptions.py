@@ -4,7 +4,7 @@ from dataclasses import dataclass
 from typing import Dict, List
 
 TEXTS = {
-    "serial": "make decides goals in this order, without --shuffle, and recipes do the same on the same looks: they do not go by macros that another one sets ($(eval ..)), how long things take, the space that is free, when a file was read last, the time of the folder that a shell runs in, MAKEFLAGS, the number of processors, a terminal, standard input, descriptors of a job server, or files that were opened for them before make began",
+    "serial": "make decides goals in this order, without --shuffle, and recipes do the same on the same looks: they do not go by macros that another one sets ($(eval ..)) or that a target hands down (a: V = 1), how long things take, the space that is free, when a file was read last, the time of the folder that a shell runs in, MAKEFLAGS, the number of processors, a terminal, standard input, descriptors of a job server, or files that were opened for them before make began",
     "ninja": "commands of ninja do the same on the same looks: they do not go by how long things take, the space that is free, when a file was read last, the time of the folder that a shell runs in, the number of jobs, the number of processors, a terminal, standard input, or files that were opened for them before ninja began; and nobody looks at the order of what ninja prints",
     "ties": "build statements with one command ran in the order that the log of ninja shows",
     "up-to-date": "builds start from this tree: targets that were up to date stay so",

@@ -2,7 +2,7 @@
 
 import re
 from functools import lru_cache
-from typing import Dict, FrozenSet, Iterable, Iterator, List, Set
+from typing import Dict, FrozenSet, Iterable, Iterator, List
 
 from record.trace.strace import remembered
 

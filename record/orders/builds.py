@@ -25,6 +25,7 @@ from dataclasses import dataclass, field
 from pathlib import Path
 from typing import ContextManager, Optional
 
+from record.commands.shelltext import PASSING
 from record.entry import forget_coerced, in_one_step
 from record.ninja.retry import with_jobs
 from record.orders.gate import Gate, Key
@@ -254,7 +255,8 @@ def with_many(words: Sequence[str], env: Mapping[str, str], jobs: int) -> tuple[
     words = with_jobs([*words], jobs)
     if jobs == 1:
         return words, dict(env)
-    if os.path.basename(words[0]) in NAMES:
+    name = os.path.basename(words[0])
+    if name in NAMES or name in PASSING and any(os.path.basename(word) in NAMES for word in words):  # guard: makes-that-another-program-runs
         return [*words, "-j%d" % jobs], dict(env)
     return words, {**env, "MAKEFLAGS": env.get("MAKEFLAGS") or " -j%d" % jobs, "CMAKE_BUILD_PARALLEL_LEVEL": str(jobs)}
 

@@ -87,6 +87,8 @@ def explore(room: Room, record: Record, out: Path, race: str, most: int, running
         many, each = ("s", " each") if count > 1 else ("", "")
         print("race-record: %d build%s in copies, of %s%s; one more for each step where something differs" % (count, many, clock(record.seconds), each), file=sys.stderr, flush=True)
     trial.run(running)
+    if graph.pairs() and not (any(trial.turned) or trial.shown or after):  # guard: builds-that-turn-nothing-round
+        raise CannotTry("no two recipes change places there, as where a script calls make with -j1")
     if (room.top / "record").exists():  # else that build was stopped, as all of it waited
         other = Graph(room.top / "record")
         trial.overlap(contested(graph, other))  # guard: folders-that-two-make

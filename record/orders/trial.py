@@ -12,7 +12,7 @@ from typing import Any, Optional
 from record.orders.builds import FLIPPED, MANY, SERIAL, Built, CannotTry, Plan, Room, Running, side_by_side
 from record.orders.gate import Key
 from record.orders.graph import Graph, Pair, numbers, placed, size
-from record.orders.trees import difference, differing, passing, remove
+from record.orders.trees import difference, differing, passing
 
 AT_ONCE = 4  # builds that run side by side
 SHOWN = 5  # differences that are named

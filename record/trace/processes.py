@@ -4,11 +4,8 @@ says which calls each method takes."""
 import re
 import stat
 from functools import lru_cache
-from typing import List
 
 from record import machine
-from record.commands import shelltext
-from record.trace.events import LISTED
 from record.trace.lives import Life, Program
 from record.trace.moves import Moves
 from record.trace.strace import Call

@@ -1,6 +1,7 @@
 """Builds of a project for the fuzzer: serial, recorded and judged, and parallel with delays; what each leaves."""
 
 import hashlib
+import json
 import os
 import random
 import re
@@ -45,7 +46,7 @@ OWN = (".ninja_log", ".ninja_deps", ".ninja_lock")
 SHOWN = "nohup.out"  # what make prints where `nohup` calls it from a terminal: its commands show who delays them
 USUAL = Place(outputs="joined")
 AHEAD = re.compile(rb"[0-9.e+]+ s in the future|race-record: [^\n]* in copies[, ][^\n]*\n")  # what passes meanwhile, and builds in other orders
-VERDICT = re.compile(rb"(\x1b\[[0-9;]*m)?(WARM|SAFE|RACE|NO VERDICT|make )")
+VERDICT = re.compile(rb"(\x1b\[[0-9;]*m)?(WARM|SAFE|RACE|NO VERDICT|HINT|note: |make )")
 Tree = Dict[str, str]
 
 
@@ -246,6 +247,13 @@ def granted(project: Project, assumed: List[str]) -> List[str]:
     return [name for name, key in project.assumed().items() if any(one.startswith(TEXTS[key]) or re.search(r"by its key: .*\b%s\b" % key, one) for one in assumed)]
 
 
+def uncompared(folder: Path) -> List[str]:
+    """The files of which a record says that two builds in one order differ in them."""
+    path = folder / ".race" / "record.json"
+    found: Dict[str, Dict[str, List[str]]] = json.loads(path.read_text()) if path.exists() else {}
+    return [os.path.relpath(name, os.path.realpath(folder)) for name in found.get("orders", {}).get("unstable", ())]
+
+
 def judge(project: Project, room: Path, runs: int, recorder: Path = RECORDER, shuffles: bool = False) -> Result:
     """Builds a project in all ways; what came of it."""
     builder = Builder(project, room, recorder)
@@ -301,7 +309,7 @@ def said_otherwise(plain: List[Outcome], recorded: Outcome) -> str:
 
 def shake(builder: Builder, serial: Outcome, result: Result, builds: Iterable[Outcome]) -> None:
     """Parallel builds, until one differs in more than files of an assumption that was printed."""
-    others = [*granted(builder.project, result.assumed), SHOWN]
+    others = [*granted(builder.project, result.assumed), *uncompared(builder.folder), SHOWN]
     is_safe, is_broken = result.verdict == "safe", False
     for parallel in builds:
         about = differences(serial, parallel, others)

@@ -6,12 +6,14 @@ from guard import UNSAID, YES, Guard, guards
 
 GUARDS: List[Guard] = [
     *guards("orders/exploring.py",
+        ("builds-that-turn-nothing-round", "if False:", "orders.Orders.where_one_job_is_asked_for"),
         ("folders-that-two-make", "pass", "orders.Orders.case_folder_that_two_make", UNSAID),
         ("makes-of-other-users", "pass", "laid.Covered.another_user"),
         ("room-of-the-tmpfs", "return size < int(words[1]) * 512 and runs_programs(TMPFS)", "orders.Orders.room_of_the_tmpfs"),
         ("what-builds-beside-could-see", "if False:", "orders.Orders.what_the_recorded_build_changes_elsewhere"),
     ),
     *guards("orders/builds.py",
+        ("makes-that-another-program-runs", "if name in NAMES:", "orders.Orders.where_one_job_is_asked_for"),
         ("ports-of-their-own", "if False:", "orders.Orders.port_that_each_build_opens"),
         ("folders-of-their-own", "pass", "orders.Orders.what_copies_write_elsewhere"),
     ),

@@ -146,6 +146,13 @@ class Orders(unittest.TestCase):
                     found = project.record(once=False)
                 self.assertEqual((status, True), (found.status, says in found.text()), found.text())
 
+    def test_where_one_job_is_asked_for(self) -> None:
+        """The number of jobs is that of the builds, but in a script."""
+        for words, status in ((["timeout", "100", "make", "-j1"], 1), (["sh", "all"], 0)):
+            with support.Project({"Makefile": CASES["jobs alone"][0], "all": "make -j1\n"}) as project:
+                found = project.record(words, once=False)
+            self.assertEqual((status, status == 0), (found.status, "no two recipes change places there" in found.text()), found.text())
+
     def test_nothing_but_jobs(self) -> None:
         """No two recipes are blamed for what differs in the order of the serial build."""
         with support.Project({"Makefile": CASES["jobs alone"][0]}) as project:
