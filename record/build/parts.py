@@ -54,7 +54,8 @@ class Parts:
     def late(self) -> Dict[Key, str]:
         """What processes did for which the recipe has waited by luck alone, with their commands."""
         lucky = (course for course in self.courses if not self.is_waited(course, False) and self.is_waited(course))
-        return {key: command(course) for course in lucky for life in lives_of(course) for key in life.events if key[0] in CHANGES + LOOKS}
+        done = [(key, command(course)) for course in lucky for life in lives_of(course) for key in life.events]
+        return {(WRITTEN if kind == OUTPUT else kind, path): found for (kind, path), found in done if kind in CHANGES + LOOKS + OUTPUT}  # guard: what-is-written-late
 
     # ---------------------------------------------------------------- pieces
     def divide(self, course: Optional[Course]) -> None:

@@ -110,6 +110,7 @@ class Course:
         if not is_named:
             self.row.append((child, is_blocking or self.has_slept))
             self.limit = ALWAYS  # guard: rows-of-waits
+        self.has_slept = False  # what ended in that time as well it hears of by the way  # guard: sleep-for-each
 
     def end_row(self, has_none: bool) -> None:
         """A row of waits for any child ends. `has_none`: no child was left."""

@@ -15,6 +15,7 @@ GUARDS: List[Guard] = [
     ),
     *guards("build/parts.py",
         ("processes-that-are-left", "if False:", "parts.Makefiles.process_that_its_recipe_leaves", YES),
+        ("what-is-written-late", "return {key: found for key, found in done if key[0] in CHANGES + LOOKS}", "parts.Makefiles.wait_by_luck_for_who_writes_through_a_descriptor", UNSAID),
         ("conflicts-by-luck-alone", "if True:", "parts.Divided.recipes_that_are_whole"),
         ("lines-of-recipe-in-order", "begun, self.end = -1, row[-1]", "parts.Makefiles.lines_in_order"),
     ),

@@ -78,6 +78,7 @@ GUARDS: List[Guard] = [
         ("looks-whether-child-has-ended", "child.waited, child.is_known = (self, self.at), is_named", "courses.Orders.a_look_whether_one_has_ended"),
         ("rows-of-waits", "pass", "courses.Orders.a_row_of_waits_that_leaves_no_child"),
         ("pipelines", "if has_none or self.first.is_make or self.first.is_ninja:", "courses.Orders.a_pipeline"),
+        ("sleep-for-each", "pass", "courses.Orders.a_look_whether_a_child_has_ended"),
         ("luck", "last.is_known = True", "courses.Orders.a_wait_for_any_child"),
         ("what-is-done-again", "pass", "courses.Orders.what_is_done_again"),
         ("children-that-are-left", "pass", "courses.Orders.a_row_of_waits_that_leaves_no_child"),

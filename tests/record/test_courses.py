@@ -67,7 +67,8 @@ class Orders(unittest.TestCase):
     def test_a_look_whether_a_child_has_ended(self) -> None:
         lines = [*TWO, *child(2, "a"), *child(3, "b")]
         self.says([*lines, POLL % 2, POLL % 3, MAKE % (1, "c", "c")], {"ac": "luck", "bc": "luck"})
-        self.says([*lines, *SLEEP, POLL % 2, POLL % 3, MAKE % (1, "c", "c")], {"ac": "luck", "bc": "always"})
+        self.says([*lines, *SLEEP, POLL % 2, POLL % 3, MAKE % (1, "c", "c")], {"ac": "luck", "bc": "luck"})
+        self.says([*lines, *SLEEP, POLL % 2, *SLEEP, POLL % 3, MAKE % (1, "c", "c")], {"ac": "luck", "bc": "always"})
         self.says([*TWO, *child(2, "a"), *SLEEP, POLL % 2, *child(3, "b"), NAMED % (3, 3), FORK % (1, 4), *child(4, "d"), POLL % 4, MAKE % (1, "c", "c")], {"bc": "always", "dc": "luck"})
 
     def test_a_pipeline(self) -> None:

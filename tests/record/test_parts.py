@@ -41,6 +41,7 @@ Makefiles = makefiles(__name__, {
     "poll": Small("race", TWO % "(cat in > o; touch done) & while [ ! -e done ]; do sleep .05; done; cat o > p", IN),
     "wait_by_luck": Small("safe", BASH + TWO % "cp in o & sleep .3; cat o > p", IN, says=LUCK),
     "wait_by_luck_for_what_another_recipe_uses": Small("safe", BASH + USER % "cp in o & sleep .3", IN, says=LUCK),
+    "wait_by_luck_for_who_writes_through_a_descriptor": Small("safe", USER % "exec 3> o; (sleep .1; echo x >&3) & sleep .5", says=LUCK),
     "wait_by_luck_for_what_nobody_uses": Small("safe", BASH + TWO % "cp in o & sleep .3", IN, lacks=LUCK),
     "pipeline": Small("safe", TWO % "sort in | cat > o; mv o p; cat p | tee q > r; mv p q; rm -f q r", IN, lacks=LUCK),
     # processes that nobody waits for
