@@ -18,6 +18,7 @@ from record.messages import reason
 from record.places import Places
 from record.build.assumptions import TRIED_OUT, UNTRIED
 from record.build.text import OWN_NAME, labels_of, lines_of, relative, shown
+from record.trace.courses import Address, Child, apart
 
 if TYPE_CHECKING:
     from record.build.assumptions import Assumptions
@@ -26,7 +27,7 @@ if TYPE_CHECKING:
 ROOMS = "/tmp" if os.path.isdir("/tmp") else None  # where temporary folders are made
 NO_ROOM = "no folder for temporary files lets programs run (%s: they are mounted with noexec, or not for you): name one by TMPDIR that is not in the project"
 NAMES = 12  # so many of the targets that were there before are named
-INSIDE = ("configured", "first", "markers", "up_to_date")  # what the record does not hold as it is
+INSIDE = ("apart", "configured", "first", "known", "lucky", "markers", "up_to_date")  # what the record does not hold as it is
 FOUND = 3  # so many names of a folder that is no record
 
 
@@ -81,6 +82,9 @@ class Record:
     first: Optional[FirstTree] = None  # the tree that it started from
     up_to_date: List[str] = field(default_factory=list)  # files that the build makes, and that are part of that tree
     markers: List[str] = field(default_factory=list)  # files that say that a folder is there (record/tools/exists.py)
+    lucky: Dict[str, Set[Child]] = field(default_factory=dict)  # by case of `luck`: the processes for which others have waited so
+    apart: List[Set[Address]] = field(default_factory=list)  # the same in rows: those of one row can be held at their end in one build
+    known: Set[Child] = field(default_factory=set)  # of those that were held at their end, and of others with the same parent: for whom each build waits
     missingdeps: int = 0  # what `ninja -t missingdeps` finds
     orders: Optional[Dict[str, Any]] = None  # what builds in other orders came to
     missing: Optional[Dict[str, Any]] = None  # with --missing: what its answer takes for granted, and why there may be none
@@ -91,6 +95,14 @@ class Record:
             if one["kind"] in kinds:
                 self.holes.append("--strict: %s (%d, such as %s)" % (one["text"], one["count"], one["example"]))
         self.assumptions = [one for one in self.assumptions if one["kind"] not in kinds]
+
+    def settle_luck(self, known: Set[Child]) -> None:
+        """Takes in for whom each build waits, as was tried out."""
+        left = [example for example, waits in self.lucky.items() if not waits <= known]  # guard: waits-that-are-not-all-known
+        for one in self.assumptions:
+            if one["kind"] == "luck":
+                one.update(count=len(left), example=shown(left[0]) if left else "")
+        self.assumptions = [one for one in self.assumptions if one["count"]]
 
     def try_out(self, orders: Dict[str, Any]) -> None:
         """Takes in what builds in other orders came to: what they try out is not taken for granted any more, and looks are not where all of them were tried."""
@@ -183,6 +195,10 @@ def write_record(folder: Path, record: Record, builds: "List[Build]", assumed: "
         record.builds.append("%03d" % number)
         write_build(folder / "builds" / ("%03d" % number), build, within.get(id(build.make.life)), record)
     record.assumptions = [{"kind": a.kind, "count": a.count, "example": shown(a.example), "text": a.text()} for a in assumed.all()]
+    record.lucky = {example: {course.name() for course in waits} for example, waits in assumed.lucky.items()}
+    lucky = set().union(*assumed.lucky.values())
+    record.apart = apart(lucky)
+    record.known |= {one.name() for course in lucky if course.waiter is not None for one in course.waiter.children if one.is_known}
     rewrite(folder, record)
 
 

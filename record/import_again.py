@@ -22,6 +22,6 @@ def import_again(folder: Path, out: Optional[Path] = None) -> Tuple[Record, Impo
     first.update(new=tuple(first.get("new", ())), tracked=frozenset(first.get("tracked", ())))
     record = begun(about["words"], about["folder"], about["status"], about["seconds"], about["tools"], FirstTree(**first) if about.get("first") else None)
     facts = Facts(folder, about["place"], about["real"], names, kept, folder / SAID, about["said"], about["covered"])
-    options = argparse.Namespace(warm=about["warm"], footprints=False, missing=False)
+    options = argparse.Namespace(warm=about["warm"], footprints=False, missing=False, held=())
     with machine.answering(machine.Answers.written(folder / "after")):
         return record, complete(record, facts, out, options) if out else imported(record, facts, options.warm)

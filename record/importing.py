@@ -37,6 +37,7 @@ from record.tools.caches import settle_caches
 from record.tools.exists import credit_makes, settle_exists
 from record.tools.python import settle
 from record.trace.calls import Calls
+from record.trace.courses import known_of
 from record.trace.lives import Life
 from record.trace.names import Names, mounts_below
 from record.trace.sifting import SYSTEM, unseen_changes
@@ -242,6 +243,7 @@ def imported(record: Record, facts: Facts, warm: bool, out: str = "") -> Importe
 def complete(record: Record, facts: Facts, out: Path, options: argparse.Namespace) -> Imported:
     """Writes the record of a build that has ended."""
     found = imported(record, facts, options.warm, os.path.realpath(out))
+    record.known = known_of(found.lives[0].course, options.held) if options.held else set()
     write_record(out, record, found.builds, found.assumed)
     for number, build in zip(record.builds, found.builds if options.footprints else ()):
         if build.tool == "make":

@@ -31,10 +31,11 @@ from record.fresh import clean, fresh_tree, in_place
 from record.judge import find_race, judge, no_race
 from record.ninja.retry import JOBS, TRIES, by_hand, hints, tops_of, undo, with_jobs
 from record.ninja.cold_copy import CannotClean, cold_copy, fresh_folder, has_ninja, saved_name
-from record.orders.builds import CannotTry, with_many
+from record.orders.builds import CannotTry, Plan, with_many
 from record.orders.exploring import MOST, beside, explore, new_room
 from record.orders.result import Orders, tried, whatever
 from record.orders.trees import CannotCopy
+from record.orders.waits import try_waits
 from record.progress import Elapsed
 from record.report import Judged, colours, read_json, report
 from record.standstill import Standstill
@@ -204,7 +205,7 @@ def parser_of_words() -> argparse.ArgumentParser:
     parser.add_argument("-V", "--version", action="version", version="%(prog)s " + RELEASE, help="print the version")
     parser.add_argument("words", nargs=argparse.REMAINDER, metavar="-- COMMAND ..", help="what builds the project")
     parser.set_defaults(tree=None)  # the first tree, where --fresh made it
-    parser.set_defaults(gate="")  # where recipes wait in a build in another order
+    parser.set_defaults(gate="", held=())  # where recipes wait in a build in another order; processes that are held at their end
     parser.set_defaults(linked=[], expected=0.0, made=0)  # files of a copy that have names outside of it, in the folder itself; seconds and builds of the former record
     return parser
 
@@ -297,12 +298,16 @@ def attempt(options: argparse.Namespace, words: List[str], tools: Dict[str, str]
         watch.remove()
 
 
-def record_in_order(options: argparse.Namespace, tools: Dict[str, str], first: Optional[FirstTree], place: Path, jobs: int) -> int:
-    """Records a build in a copy, whose recipes wait at a gate in its folder; its status."""
-    words, env = with_many(options.words, os.environ, jobs)
+def record_in_order(options: argparse.Namespace, tools: Dict[str, str], first: Optional[FirstTree], place: Path, plan: Plan) -> int:
+    """Records a build in a copy, whose recipes wait at a gate in its folder, or whose processes are held at their end; its status."""
+    words, env = with_many(options.words, os.environ, plan.jobs)
     os.environ.update(env)
-    own = argparse.Namespace(**{**vars(options), "gate": str(place / "gate"), "tree": first, "missing": False, "footprints": False, "keep_trace": False, "expected": 0.0})
-    return attempt(own, words, tools, place / "record", True)[0].status
+    own = argparse.Namespace(**{**vars(options), "tree": first, "expected": 0.0, "held": plan.ends})
+    if not plan.ends:
+        own.gate, own.missing, own.footprints, own.keep_trace = str(place / "gate"), False, False, False
+    record = attempt(own, words, tools, place / "record", True)[0]
+    (place / "kept").write_bytes(pickle.dumps(record))
+    return record.status
 
 
 def record_all(options: argparse.Namespace, tools: Dict[str, str], out: Path, race: str) -> Record:
@@ -320,6 +325,8 @@ def record_all(options: argparse.Namespace, tools: Dict[str, str], out: Path, ra
         record = record_serial(options, tools, out)
         try:
             if room is not None and running is not None and record.status == 0 and not record.holes and (not record.warm or options.warm or record.stands_alone):
+                room.bound(record.seconds)
+                record = try_waits(room, record, out, race, options.orders)
                 record.try_out(explore(room, record, out, race, options.orders, running))
         except (CannotCopy, CannotTry) as fault:
             why = str(fault)

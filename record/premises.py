@@ -119,8 +119,8 @@ def does_more(owners: Owners, life: Life) -> bool:
 
 def lucky(work: Optional[Work], target: str, assumed: Assumptions) -> None:
     """Processes of one recipe that are ordered by a wait which may have been luck."""
-    for text in work.luck if work is not None else ():
-        assumed.add("luck", "%s in %s" % (text, target))
+    for text, waits in sorted(work.luck.items()) if work is not None else ():
+        assumed.add_luck("%s in %s" % (text, target), waits)
 
 
 def side_by_side_makes(owners: Owners, assumed: Assumptions) -> None:

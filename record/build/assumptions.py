@@ -1,7 +1,9 @@
 """What a verdict takes for granted: counted, with an example each."""
 
 from dataclasses import dataclass
-from typing import Dict, List
+from typing import Dict, List, Set
+
+from record.trace.courses import Course
 
 TEXTS = {
     "serial": "make decides goals in this order, without --shuffle, and recipes do the same on the same looks: they do not go by macros that another one sets ($(eval ..)) or that a target hands down (a: V = 1), how long things take, the space that is free, when a file was read last, the time of the folder that a shell runs in, MAKEFLAGS, the number of processors, a terminal, standard input, descriptors of a job server, or files that were opened for them before make began",
@@ -82,11 +84,17 @@ class Assumptions:
 
     def __init__(self) -> None:
         self.known: Dict[str, Assumption] = {}
+        self.lucky: Dict[str, Set[Course]] = {}  # by case of `luck`: the processes for which others have waited so
 
     def add(self, kind: str, example: str, count: int = 1) -> None:
         """Counts one case."""
         found = self.known.setdefault(kind, Assumption(kind, 0, example))
         found.count += count
+
+    def add_luck(self, example: str, waits: Set[Course]) -> None:
+        """Counts a case of `luck`."""
+        self.add("luck", example)
+        self.lucky.setdefault(example, set()).update(waits)
 
     def all(self) -> List[Assumption]:
         """In the order in which they were met."""

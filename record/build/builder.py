@@ -92,9 +92,9 @@ class Builder:
         for at, task in enumerate(self.build.tasks):
             row = [self.build.tasks[one] for one in (*task.parts, at)]
             writes, reads = set().union(*(one.writes for one in row)), set().union(*(one.reads for one in row))
-            for (kind, path), words in (found for work in task.works for found in work.late.items()):
+            for (kind, path), (words, waits) in (found for work in task.works for found in work.late.items()):
                 if kind in CHANGES and path in writes or path in reads and any(self.build.is_before(at, other) for other in self.build.writers.get(path, ())):
-                    self.assumed.add("luck", "%s by %s in %s" % (path, words, task.label))
+                    self.assumed.add_luck("%s by %s in %s" % (path, words, task.label), waits)
 
     @property
     def acts_at(self) -> Dict[str, int]:

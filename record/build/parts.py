@@ -11,7 +11,7 @@ from typing import Container, Dict, List, Optional, Set, Tuple, cast
 
 from record.build.segments import Conflict, conflicts_in, courses_of, fork_of, owner
 from record.build.work import Part, Work
-from record.trace.courses import Course, Key, Segment
+from record.trace.courses import Course, Key, Segment, lucky_waits
 from record.trace.events import CHANGES, LOOKS, MAKES, OUTPUT, WRITTEN
 from record.trace.lives import Life
 
@@ -51,10 +51,10 @@ class Parts:
             course = course.waited[0]
         return True
 
-    def late(self) -> Dict[Key, str]:
-        """What processes did for which the recipe has waited by luck alone, with their commands."""
-        lucky = (course for course in self.courses if not self.is_waited(course, False) and self.is_waited(course))
-        done = [(key, command(course)) for course in lucky for life in lives_of(course) for key in life.events]
+    def late(self) -> Dict[Key, Tuple[str, Set[Course]]]:
+        """What processes did for which the recipe has waited by luck alone: their commands, and for whom it waits so."""
+        lucky = {course: (command(course), lucky_waits(course, self.roots)) for course in self.courses if not self.is_waited(course, False) and self.is_waited(course)}
+        done = [(key, found) for course, found in lucky.items() for life in lives_of(course) for key in life.events]
         return {(WRITTEN if kind == OUTPUT else kind, path): found for (kind, path), found in done if kind in CHANGES + LOOKS + OUTPUT}  # guard: what-is-written-late
 
     # ---------------------------------------------------------------- pieces
@@ -166,7 +166,9 @@ def command(course: Course) -> str:
 def divide(work: Work, written: Container[str]) -> None:
     """Divides a recipe, and says where luck alone orders two of its processes."""
     found = Parts(work, written)
-    lucky = {(one.path, command(one.first[0]), command(one.second[0])) for one in found.conflicts if one.is_luck}
-    work.luck = ["%s by %s and %s" % one for one in sorted(lucky)]
+    for one in found.conflicts:
+        if one.is_luck:
+            text = "%s by %s and %s" % (one.path, command(one.first[0]), command(one.second[0]))
+            work.luck.setdefault(text, set()).update(lucky_waits(one.first[0], {id(up) for up in one.second[0].up()}))
     work.late = found.late()
     work.parts = found.in_order()

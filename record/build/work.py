@@ -4,7 +4,7 @@ from dataclasses import dataclass, field
 from typing import Dict, Iterable, Iterator, List, Set, Tuple
 
 from record.trace.events import CHANGES
-from record.trace.courses import Key
+from record.trace.courses import Course, Key
 from record.trace.lives import Life
 
 Pair = Tuple[str, str]  # an output, and an input whose age is compared with its own
@@ -19,8 +19,8 @@ class Work:
     makes: List["Tool"] = field(default_factory=list)
     ninjas: List["Tool"] = field(default_factory=list)
     parts: List["Part"] = field(default_factory=list)  # those that are tasks of their own (parts.py), that with which it ends last; none where it is one task
-    luck: List[str] = field(default_factory=list)  # files on which two of its processes meet that a wait orders by luck, with the two
-    late: Dict[Key, str] = field(default_factory=dict)  # what processes did for which it has waited by luck alone, with their commands
+    luck: Dict[str, Set[Course]] = field(default_factory=dict)  # files on which two of its processes meet that a wait orders by luck, with the two; for whom it waits so
+    late: Dict[Key, Tuple[str, Set[Course]]] = field(default_factory=dict)  # what processes did for which it has waited by luck alone: their commands, and the same
 
     def add(self, kind: str, path: str, place: int) -> None:
         """Takes one event; its first place counts."""

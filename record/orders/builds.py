@@ -29,12 +29,15 @@ from record.commands.shelltext import PASSING
 from record.entry import forget_coerced, in_one_step
 from record.ninja.retry import with_jobs
 from record.orders.gate import Gate, Key
+from record.orders.holding import Ends
 from record.orders.processes import children_of, end
 from record.orders.trees import copy, held_by, remove
+from record.trace.courses import Address
 from record.trace.names import mounts_below
 from record.watch.lay import BIND, LIBC, NAMES, Watch, leave, makes_of, mount
 
 MANY = 100  # jobs: so many recipes wait at the gate at once
+QUIET, TIMES = 20.0, 2.0  # a build hangs where nothing begins or ends for so many seconds, and so many times as long as the recorded one took
 ENDING = 2.0  # seconds that the output of a build has to come, when that has ended
 WITH_PARENT, TAKES_LEFT = 1, 36  # for prctl: which signal comes when the parent ends; who outlives its parent becomes a child of this process
 SET_FLAGS, IS_UP = 0x8914, 1  # of a device of the network
@@ -52,7 +55,7 @@ class CannotTry(Exception):
 @dataclass
 class Plan:
     """A build to be made: which recipe begins of those that wait, with how many jobs, and whether it is recorded. `is_flipped`: where `places` does not say,
-    the last that came to wait, and not the first; `is_slow`: to make a folder takes a while."""
+    the last that came to wait, and not the first; `is_slow`: to make a folder takes a while; `ends`: of these processes, which are held there: no recipe waits to begin."""
 
     name: str
     places: Mapping[Key, float]
@@ -61,6 +64,7 @@ class Plan:
     is_recorded: bool = False
     is_flipped: bool = False
     is_slow: bool = False
+    ends: frozenset[Address] = frozenset()
 
 
 SERIAL, FLIPPED = "serial", "flipped"
@@ -88,14 +92,18 @@ class Built:
 @dataclass
 class Room:
     """The folder of all copies. `tops`: the folders of the project, the first is that in which it builds; `setup`: words of a command that runs before `words`, and
-    then those; `record`: records a build where this process is, with so many jobs, into a folder, and says its status."""
+    then those; `record`: records a build where this process is, into its folder, and says its status."""
 
     top: Path
     tops: Sequence[str]
     setup: Sequence[str]
     words: Sequence[str]
-    record: Callable[[Path, int], int]
+    record: Callable[[Path, Plan], int]
     has_net: bool = False  # builds have the ports of this machine, and reach others
+
+    def bound(self, seconds: float) -> None:
+        """Keeps how long the recorded build took."""
+        (self.top / "limit").write_text(str(QUIET + TIMES * seconds))
 
     def limit(self) -> float:
         """Seconds in which something begins or ends in a build: no end is known while the recorded one runs."""
@@ -179,13 +187,14 @@ class Room:
         place = self.place(plan)
         for number, tree in enumerate(self.trees(plan)):
             copy(self.fresh(number), tree)
-        gate, began = Gate(place, plan.places, plan.after, plan.is_flipped), time.monotonic()
+        gate: Gate | Ends = Ends(plan.ends) if plan.ends else Gate(place, plan.places, plan.after, plan.is_flipped)
+        began = time.monotonic()
         with gate.listen() as listener, output_to(place / "output") as output:
             before = {*children_of(os.getpid())}
             with in_one_step() as heard:
                 pid = os.fork()
                 if pid == 0:
-                    self.become(plan, output, heard)
+                    self.become(plan, gate, output, heard)
             ended: list[int] = []
 
             def has_ended() -> bool:
@@ -204,23 +213,24 @@ class Room:
             status = 1
         return Built(plan, status, time.monotonic() - began, gate.began, (place / "output").read_text(errors="replace"), [held_by(tree) for tree in self.trees(plan)])
 
-    def become(self, plan: Plan, output: int, heard: Callable[[], ContextManager[object]]) -> None:
+    def become(self, plan: Plan, gate: Gate | Ends, output: int, heard: Callable[[], ContextManager[object]]) -> None:
         """Builds in a process of its own, and ends it."""
         try:
             with heard():
-                self.build_in_place(plan, output)
+                self.build_in_place(plan, gate, output)
         except BaseException as fault:
             os.write(2, ("race-record: %s\n" % fault).encode(errors="replace"))
         finally:
             os._exit(0)
 
-    def build_in_place(self, plan: Plan, output: int) -> None:
+    def build_in_place(self, plan: Plan, gate: Gate | Ends, output: int) -> None:
         """Builds in this process, and writes the status."""
         os.setsid()
         for stream, file in ((0, os.open(os.devnull, os.O_RDONLY)), (1, output), (2, output)):
             os.dup2(file, stream)
         self.enter(plan)
-        status = self.record(self.place(plan), plan.jobs) if plan.is_recorded else self.build(plan)
+        gate.enter()
+        status = self.record(self.place(plan), plan) if plan.is_recorded else self.build(plan)
         (self.place(plan) / "status").write_text(str(status))
 
     def build(self, plan: Plan) -> int:

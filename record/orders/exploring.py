@@ -11,7 +11,7 @@ from pathlib import Path
 from typing import Any
 
 from record.folder import Record, runs_programs
-from record.orders.builds import BESIDE, CannotTry, Room, Running, is_child_able
+from record.orders.builds import BESIDE, CannotTry, Plan, Room, Running, is_child_able
 from record.orders.graph import Graph
 from record.orders.joined import contested, join
 from record.orders.softness import conflicts
@@ -21,7 +21,6 @@ from record.watch.lay import leave
 
 TMPFS = "/dev/shm"
 COPIES, GROWTH = 6, 4  # so many copies are there at once, and a build may make so many times of what it begins with
-QUIET, TIMES = 20.0, 2.0  # a build hangs where nothing begins or ends for so many seconds, and so many times as long as the recorded one took
 SHARED = {"outside", "processes"}  # of what is taken for granted: by these a build may see what another one does beside it
 MOST = 40  # builds, where nobody says how many
 
@@ -41,7 +40,7 @@ def has_memory(size: int) -> bool:
 
 
 @contextmanager
-def new_room(tops: Sequence[str], setup: Sequence[str], words: Sequence[str], out: str, rooms: str, record: Callable[[Path, int], int]) -> Iterator[Room]:
+def new_room(tops: Sequence[str], setup: Sequence[str], words: Sequence[str], out: str, rooms: str, record: Callable[[Path, Plan], int]) -> Iterator[Room]:
     """The folder of the copies, with the project as it is before it is recorded."""
     for top in tops:
         if not os.path.isdir(top):
@@ -74,9 +73,14 @@ def clock(seconds: float) -> str:
     return "about %.0f seconds" % seconds if seconds > 1 else "a second or less"
 
 
+def say(count: int, record: Record, more: str) -> None:
+    """Says how many builds will follow, and of what kind."""
+    many, each = ("s", " each") if count > 1 else ("", "")
+    print("race-record: %d build%s in copies, of %s%s%s" % (count, many, clock(record.seconds), each, more), file=sys.stderr, flush=True)
+
+
 def explore(room: Room, record: Record, out: Path, race: str, most: int, running: Running) -> dict[str, Any]:
     """Builds in other orders; what the record keeps of them."""
-    (room.top / "limit").write_text(str(QUIET + TIMES * record.seconds))
     if not SHARED.isdisjoint(one["kind"] for one in record.assumptions):  # guard: what-builds-beside-could-see
         running.end()
     graph = Graph(out)
@@ -84,8 +88,7 @@ def explore(room: Room, record: Record, out: Path, race: str, most: int, running
     trial = Trial(room, graph, [held_by(Path(top), str(out)) for top in room.tops], soft, after, most, {*record.markers})
     count = trial.expected() - (0 if not running.children else 1 if after else 2)
     if count:
-        many, each = ("s", " each") if count > 1 else ("", "")
-        print("race-record: %d build%s in copies, of %s%s; one more for each step where something differs" % (count, many, clock(record.seconds), each), file=sys.stderr, flush=True)
+        say(count, record, "; one more for each step where something differs")
     trial.run(running)
     if graph.pairs() and not (any(trial.turned) or trial.shown or after):  # guard: builds-that-turn-nothing-round
         raise CannotTry("no two recipes change places there, as where a script calls make with -j1")

@@ -19,13 +19,12 @@ from pathlib import Path
 from typing import Optional
 
 from record.build.text import shown
-from record.orders.processes import born, folder_of, is_quiet, parent_of, pulse, words_of
+from record.orders.processes import Stalled, born, folder_of, is_quiet, parent_of, words_of
 
 Key = tuple[tuple[str, str, int], ...]  # a recipe: from the outermost make or ninja on its folder, the target, and which of those of that name it is
 OF_CHILD = re.compile(rb"(?:Putting|Live) child \S+ \((.*)\) PID (\d+)|Removing child \S+ (?:\(.*\) )?PID (\d+)")
 CREDENTIALS = struct.Struct("3i")  # of who has connected: process, user, group
 LEAST, MOST = 0.001, 0.032  # seconds from one look at the processes to the next
-PATIENCE = 0.3  # seconds without a sign of life, behind which another recipe may begin: a process waits for what no process of the build will do
 LAST = float("inf")
 CLOCK_OF_FILES = 5  # CLOCK_REALTIME_COARSE of Linux
 
@@ -64,7 +63,7 @@ class Gate:
     ended: set[tuple[int, str]] = field(default_factory=set)  # makes and targets whose recipes have ended
     read: dict[Path, int] = field(default_factory=dict)  # how much was read of the file of each make
     since: float = 0.0  # when something happened last
-    still: tuple[object, float] = (None, 0.0)  # the last pulse, and since when it is the same
+    stalled: Stalled = field(default_factory=Stalled)
 
     def listen(self) -> socket.socket:
         """The socket at which processes wait."""
@@ -72,6 +71,9 @@ class Gate:
         found.bind(str(self.top / "gate"))
         found.listen(1000)
         return found
+
+    def enter(self) -> None:
+        """What the build begins with: nothing. Makes and ninjas come by themselves."""
 
     def come(self, listener: socket.socket) -> None:
         """A process waits."""
@@ -119,7 +121,7 @@ class Gate:
 
     def turn(self, root: int) -> Optional[int]:
         """Lets a recipe begin, if nothing else can happen; what is ready when its first process has ended."""
-        if not self.waiting or not (is_quiet(root, self.waiting) or self.is_stalled(root)):
+        if not self.waiting or not (is_quiet(root, self.waiting) or self.stalled.is_so(root, ())):
             return None
         self.hear_makes()
         rows = {pid: self.bare(pid) for pid in self.waiting}
@@ -136,13 +138,6 @@ class Gate:
         end = os.pidfd_open(pid)
         go_on(self.waiting.pop(pid))
         return end
-
-    def is_stalled(self, root: int) -> bool:
-        """Whether no process of the build has shown a sign of life for so long: one waits for what another recipe will do."""
-        found, now = pulse(root), time.monotonic()
-        if found is None or found != self.still[0]:
-            self.still = (found, now)
-        return found is not None and now - self.still[1] > PATIENCE
 
     def serve(self, root: int, listener: socket.socket, has_ended: Callable[[], bool], limit: Callable[[], float]) -> bool:
         """Answers until the build has ended; false where nothing began or ended in it for so many seconds."""

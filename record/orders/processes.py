@@ -6,9 +6,11 @@ import os
 import signal
 import time
 from collections.abc import Container, Iterator
+from dataclasses import dataclass
 from pathlib import Path
 
 PATIENCE = 10.0  # seconds that killed processes have to end
+STILL = 0.3  # seconds without a sign of life, behind which a process waits for what no process of the build will do
 SLEEPS = ("nanosleep", "hrtimer_nanosleep", "do_nanosleep")  # a process that waits for a time to pass, and not for another one
 
 
@@ -85,14 +87,31 @@ def shown(pid: int, name: str) -> str:
         return ""
 
 
-def pulse(root: int) -> list[tuple[int, str]] | None:
-    """How long each process of a build has run so far; nothing where one runs, or lets a time pass. One that is held by who traces it does neither."""
+def pulse(root: int, waiting: Container[int]) -> list[tuple[int, str]] | None:
+    """How long each process of a build has run so far; nothing where one runs, or lets a time pass. One that is held by who traces it does neither, and
+    `waiting` are those of which this is known."""
     found = []
     for pid in below(root):
+        if pid in waiting:
+            continue
         if words_of(pid)[0] not in "SZXt" or any(one in shown(pid, "wchan") for one in SLEEPS):  # guard: who-is-held-by-a-tracer
             return None
         found.append((pid, shown(pid, "schedstat")))
     return sorted(found)
+
+
+@dataclass
+class Stalled:
+    """Whether no process of a build has shown a sign of life for so long."""
+
+    last: tuple[object, float] = (None, 0.0)  # the last pulse, and since when it is the same
+
+    def is_so(self, root: int, waiting: Container[int]) -> bool:
+        """Looks again."""
+        found, now = pulse(root, waiting), time.monotonic()
+        if found is None or found != self.last[0]:
+            self.last = (found, now)
+        return found is not None and now - self.last[1] > STILL
 
 
 def end(root: int) -> None:

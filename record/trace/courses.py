@@ -9,10 +9,13 @@ background by then, and does not wait for it again.
 """
 
 from bisect import bisect_right
-from typing import Dict, Iterator, List, Optional, Protocol, Set, Tuple
+from functools import cached_property
+from typing import Container, Dict, Iterable, Iterator, List, Optional, Protocol, Set, Tuple
 
 Key = Tuple[str, str]  # an event: its kind, and a path
 Segment = Tuple["Course", int]
+Address = Tuple[int, ...]  # of a process: which child it is of the one that started it, behind the address of that; none of the first one
+Child = Tuple[Address, str]  # a process as another build has it too: its address, and what ran above it
 ALWAYS = 1 << 60  # a place behind all others
 
 
@@ -25,6 +28,7 @@ class Living(Protocol):
     is_make: bool
     is_ninja: bool
     number: int
+    ran: List[List[str]]
 
 
 class Course:
@@ -134,6 +138,19 @@ class Course:
                 self.wait(child, place, True, True)
 
     # ---------------------------------------------------------------- order
+    def address(self) -> Address:
+        """Where it is among all processes of the build."""
+        return (*self.waiter.address(), self.waiter.children.index(self)) if self.waiter is not None else ()
+
+    def name(self) -> Child:
+        """How it is known in another build."""
+        return self.address(), self.waiter.words if self.waiter is not None else ""
+
+    @cached_property
+    def words(self) -> str:
+        """What ran in it first, and in those above."""
+        return str([up.first.ran[:1] for up in self.up()])  # guard: what-ran-in-another-build
+
     def up(self) -> Iterator["Course"]:
         """It, and those above it."""
         course: Optional["Course"] = self
@@ -166,3 +183,37 @@ def forks(course: "Course", number: int) -> Iterator[Segment]:
     while course.parent is not None:
         yield course.parent, course.forked
         course = course.parent
+
+
+def lucky_waits(course: Course, until: Container[int]) -> Set[Course]:
+    """The processes for which another one has waited by luck, from one on up to one of `until`; where it was by another way, one for which nobody has."""
+    found: Set[Course] = set()
+    while course.waited is not None and id(course) not in until:
+        found.update(() if course.is_known else (course,))
+        course = course.waited[0]
+    return found if id(course) in until else {course}
+
+
+def apart(courses: Iterable[Course]) -> List[Set[Address]]:
+    """Some processes that others have waited for, in rows: of two in one row that have one parent, this has waited for the first before it started the second."""
+    rows: List[Set[Address]] = []
+    ends: Dict[Course, List[int]] = {}  # by parent: for each row the segment in which it has waited for the last one
+    for course in sorted(courses, key=lambda one: one.forked):
+        if course.waited is not None:
+            row = ends.setdefault(course.waited[0], [])
+            at = next((at for at, end in enumerate(row) if end <= course.forked), len(row))  # guard: one-child-at-a-time
+            row[at:at + 1] = [course.waited[1]]
+            rows += [set()] if at == len(rows) else []
+            rows[at].add(course.address())
+    return rows
+
+
+def known_of(first: Course, addresses: Iterable[Address]) -> Set[Child]:
+    """Those of some processes for which each build waits. `first`: the first process of the build."""
+    found: Set[Child] = set()
+    for address in addresses:
+        course: Optional[Course] = first
+        for number in address:
+            course = course.children[number] if course is not None and number < len(course.children) else None
+        found.update((course.name(),) if course is not None and course.is_known else ())
+    return found

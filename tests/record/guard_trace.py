@@ -83,6 +83,8 @@ GUARDS: List[Guard] = [
         ("what-is-done-again", "pass", "courses.Orders.what_is_done_again"),
         ("children-that-are-left", "pass", "courses.Orders.a_row_of_waits_that_leaves_no_child"),
         ("waits-that-are-luck", "if course.waited is not None:", "courses.Orders.a_wait_for_any_child"),
+        ("what-ran-in-another-build", 'return ""', "waits.Names.names"),
+        ("one-child-at-a-time", "at = 0", "waits.Names.processes_in_rows"),
         ("descriptors-that-are-closed", "pass", "courses.Descriptors.descriptors_that_a_program_does_not_get"),
     ),
     *guards("trace/descriptors.py",
