@@ -40,7 +40,7 @@ def started(project: support.Project, options: Sequence[str] = (), words: Sequen
     args = [str(support.RECORDER), "--race", support.race_program(), *options, "--", *words]
     process = subprocess.Popen(args, cwd=project.folder, stdin=subprocess.DEVNULL, stdout=subprocess.PIPE, stderr=subprocess.PIPE, preexec_fn=alone)
     begun = time.monotonic()
-    while not list(project.folder.rglob("begun")) and time.monotonic() < begun + 60:
+    while not any("begun" in files for _, _, files in os.walk(project.folder)) and time.monotonic() < begun + 60:  # folders go meanwhile
         time.sleep(0.05)
     return process
 
