@@ -142,7 +142,7 @@ class Trial:
 
     def pass_unseen(self) -> None:
         """Conflicts of which nobody sees what they do stay races."""
-        self.pairs = [pair for pair in self.pairs if not self.is_unseen(pair)]  # guard: what-is-not-compared-clears-nothing
+        self.pairs, self.cleared = ([pair for pair in some if not self.is_unseen(pair)] for some in (self.pairs, self.cleared))  # guard: what-is-not-compared-clears-nothing
 
     def is_unseen(self, pair: Pair) -> bool:
         """Whether what two tasks, or who asks for what they settle, leave is not compared."""
@@ -238,10 +238,11 @@ class Trial:
 
     def doubt(self, once: Ended, names: Sequence[tuple[int, str]]) -> None:
         """Takes in what one of two builds in one order came to, and the other one did not: these names are compared no more, and where it failed there is no yes."""
-        for number, name in names:
-            self.unstable[number].add(name)
-        self.pass_unseen()
-        if once.status is not None and not names:
+        if once.status == 0 and names:
+            for number, name in names:
+                self.unstable[number].add(name)
+            self.pass_unseen()
+        elif once.status is not None:
             self.failed.append("; ".join(once.text))
 
     def overlap(self, pairs: Sequence[Pair]) -> None:
