@@ -225,6 +225,8 @@ class Trial:
                 self.doubt(once, names)  # guard: what-differs-once
         while ended is not None:
             found = self.narrow(built, ended)
+            if found.first is not None and found.second is not None and found.first in self.after.get(found.second, ()):  # nothing else could begin, so the gate let it go all the same
+                return
             self.shown.append(found)
             if found.first is None or found.second is None or not self.goes_on:
                 return
