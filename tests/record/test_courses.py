@@ -70,6 +70,9 @@ class Orders(unittest.TestCase):
         self.says([*lines, *SLEEP, POLL % 2, POLL % 3, MAKE % (1, "c", "c")], {"ac": "luck", "bc": "luck"})
         self.says([*lines, *SLEEP, POLL % 2, *SLEEP, POLL % 3, MAKE % (1, "c", "c")], {"ac": "luck", "bc": "always"})
         self.says([*TWO, *child(2, "a"), *SLEEP, POLL % 2, *child(3, "b"), NAMED % (3, 3), FORK % (1, 4), *child(4, "d"), POLL % 4, MAKE % (1, "c", "c")], {"bc": "always", "dc": "luck"})
+        interrupted = "1 wait4(-1, 0x7ffd, 0, NULL) = -1 EINTR (Interrupted system call)"
+        self.says([*lines, *SLEEP, interrupted, POLL % 2, *SLEEP, POLL % 3, MAKE % (1, "c", "c")], {"ac": "luck", "bc": "always"})
+        self.says([*lines, *SLEEP, POLL % 2, *SLEEP, interrupted, POLL % 3, MAKE % (1, "c", "c")], {"ac": "luck", "bc": "luck"})
 
     def test_a_pipeline(self) -> None:
         ends = ["2 dup2(4<pipe:[7]>, 1) = 1<pipe:[7]>", "3 dup2(3<pipe:[7]>, 0) = 0<pipe:[7]>"]

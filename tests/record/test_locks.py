@@ -56,7 +56,7 @@ LOCKS: Dict[str, Small] = {
     "masks_that_differ": Small("race", "all: a b\na: ; umask 077; flock lock touch $@\nb: ; flock lock touch $@\n"),
     "masks_that_differ_and_change": Small("race", "all: a b\na: ; umask 077; flock -F lock sh -c 'umask 022; touch $@'\nb: ; flock lock touch $@\n"),
     "age_behind_both": Small("safe", "all: c\na b: ; flock lock touch $@\ny: ; touch y\nc: a b y ; test lock -nt y && echo yes > c || touch c\n", says=LOOKS),
-    "file_by_its_number": Small("safe", "all: a b\nx: ; touch x\na b: x ; flock lock -c 'test /dev/fd/3 -nt x && echo yes' > $@ || true\n"),
+    "file_by_its_number": Small("safe", "all: c\na: ; touch lock a\ny: ; touch y\nc: a y ; flock lock -c 'test /dev/fd/3 -nt y && echo yes' > $@ || true\n", says=LOOKS),
     # makes inside
     "age_that_an_unknown_program_under_it_asks_for": Small("safe", "all: a b\na b: ; flock lock ./s -Lc %s /dev/fd/3 > $@\n", {"s.c": ""}, setup="cp $(command -v stat) s"),
     "locks_of_two_makes": Small("safe", "all: a b\na b: ; $(MAKE) -f in.mk G=$@\n", {"in.mk": "all: $G.x $G.y\n$G.x $G.y: ; flock lock touch $@\n"}),
