@@ -1,6 +1,6 @@
 """Holds processes at their end, in a build in a copy: so it is tried out whether another one really waits for them.
 
-The kernel tells of each process that is to end, and waits for an answer (seccomp_unotify(2)). So nothing is at work in the process, which has all that it
+The kernel reports each process that is to end, and waits for an answer (seccomp_unotify(2)). So nothing is at work in the process, which has all that it
 had, and strace records the build beside it. A process that is held ends when that which started it has ended; when nothing else can happen in the build, so
 that somebody waits for it, or for its pipes; and when it was held for long, as somebody looks at it again and again.
 """
@@ -25,10 +25,10 @@ from record.trace.courses import Address
 from record.watch.lay import LIBC
 
 CALLS = {"x86_64": (0xC000003E, 231, 317), "aarch64": (0xC00000B7, 94, 277)}  # by machine: its calls, exit_group, and seccomp
-LOAD, EQUAL, RETURN, TELL, ALLOW = 0x20, 0x15, 0x06, 0x7FC00000, 0x7FFF0000  # of a program that looks at calls
+LOAD, EQUAL, RETURN, REPORT, ALLOW = 0x20, 0x15, 0x06, 0x7FC00000, 0x7FFF0000  # of a program that looks at calls
 NO_NEW_RIGHTS, FILTER, LISTENED, UNTIL_KILLED = 38, 1, 8, 32  # for prctl, and for seccomp: no signal but one that kills ends the waiting
 RECEIVE, ANSWER = 0xC0502100, 0xC0182101  # for ioctl
-TOLD, ANSWERED = struct.Struct("=QI68x"), struct.Struct("=QqiI")
+REPORTED, ANSWERED = struct.Struct("=QI68x"), struct.Struct("=QqiI")
 GOES_ON = 1
 LEAST, MOST = 0.001, 0.032  # seconds from one look at the processes to the next
 LONG, OFTEN = 10.0, 3  # seconds that one is held at most; where so many were held so long, none is any more
@@ -37,30 +37,30 @@ TRACER = re.compile(r"^TracerPid:\t(\d+)$", re.M)
 
 @dataclass
 class Held:
-    """A process that is held: the number under which the kernel told of it, which process started it, and since when."""
+    """A process that is held: the number under which the kernel reported it, which process started it, and since when."""
 
     number: int
     above: int
     since: float
 
 
-def tell_of_ends() -> int:
-    """From here on the kernel tells of the end of this process, and of each that it starts; the descriptor by which it does."""
+def report_ends() -> int:
+    """From here on the kernel reports the end of this process, and of each that it starts; the descriptor by which it does."""
     if os.uname().machine not in CALLS:
         raise OSError("no numbers of calls are known of this machine")
     system, ends, seccomp = CALLS[os.uname().machine]
-    rows = ((LOAD, 0, 0, 4), (EQUAL, 0, 3, system), (LOAD, 0, 0, 0), (EQUAL, 0, 1, ends), (RETURN, 0, 0, TELL), (RETURN, 0, 0, ALLOW))
+    rows = ((LOAD, 0, 0, 4), (EQUAL, 0, 3, system), (LOAD, 0, 0, 0), (EQUAL, 0, 1, ends), (RETURN, 0, 0, REPORT), (RETURN, 0, 0, ALLOW))
     code = ctypes.create_string_buffer(b"".join(struct.pack("=HBBI", *row) for row in rows))
     program = struct.pack("@HP", len(rows), ctypes.addressof(code))
     LIBC.prctl(NO_NEW_RIGHTS, 1, 0, 0, 0)  # as strace does
     found: int = LIBC.syscall(seccomp, FILTER, LISTENED | UNTIL_KILLED, program)
     if found < 0:
-        raise OSError(ctypes.get_errno(), "the kernel tells of no ends")
+        raise OSError(ctypes.get_errno(), "the kernel reports no ends")
     return found
 
 
-def is_told(listener: int, seconds: float) -> bool:
-    """Whether the kernel tells of a process, at once or in so many seconds."""
+def is_reported(listener: int, seconds: float) -> bool:
+    """Whether the kernel reports a process, at once or in so many seconds."""
     return bool(select.select([listener], [], [], seconds)[0])
 
 
@@ -82,7 +82,7 @@ class Ends:
 
     def enter(self) -> None:
         """What the build begins with."""
-        descriptor = tell_of_ends()
+        descriptor = report_ends()
         socket.send_fds(self.other, [b"d"], [descriptor])
         os.close(descriptor)
 
@@ -99,11 +99,11 @@ class Ends:
         return tuple(reversed(row))
 
     def hear(self, listener: int) -> None:
-        """The kernel tells of a process."""
-        told = bytearray(TOLD.size)
+        """The kernel reports a process."""
+        report = bytearray(REPORTED.size)
         with suppress(OSError):  # it was killed
-            fcntl.ioctl(listener, RECEIVE, told)
-            number, pid = TOLD.unpack(told)
+            fcntl.ioctl(listener, RECEIVE, report)
+            number, pid = REPORTED.unpack(report)
             self.held[pid] = Held(number, parent_of(pid), time.monotonic())
             if self.long >= OFTEN or self.address(pid) not in self.targets:
                 self.let_end(listener, pid)
@@ -120,7 +120,7 @@ class Ends:
             self.long += now - one.since > LONG
             if parent_of(pid) != one.above or now - one.since > LONG:
                 self.let_end(listener, pid)
-        if self.held and self.stalled.is_so(root, self.held) and not is_told(listener, 0):  # guard: ends-that-nobody-has-heard-of
+        if self.held and self.stalled.is_so(root, self.held) and not is_reported(listener, 0):  # guard: ends-that-nobody-has-heard-of
             self.let_end(listener, min(self.held, key=lambda pid: len(children_of(self.held[pid].above))))
 
     def serve(self, root: int, listener: socket.socket, has_ended: Callable[[], bool], limit: Callable[[], float]) -> bool:
@@ -131,7 +131,7 @@ class Ends:
         while not has_ended():
             if not descriptors:  # the build could not begin
                 time.sleep(LEAST)
-            elif is_told(descriptors[0], pause):
+            elif is_reported(descriptors[0], pause):
                 self.hear(descriptors[0])
                 since, pause = time.monotonic(), LEAST
             elif time.monotonic() - since > limit():

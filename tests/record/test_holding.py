@@ -117,7 +117,7 @@ class Looking(unittest.TestCase):
         os.waitpid(root, 0)
 
     def test_end_of_which_nobody_has_heard(self) -> None:
-        """Its parent is to end, and the kernel has told of that since."""
+        """Its parent is to end, and the kernel has reported that since."""
         held = Ends(frozenset())
         parent = subprocess.Popen(["sleep", "9"])
         here, there = socket.socketpair()

@@ -59,8 +59,8 @@ class Waits(unittest.TestCase):
             found = project.record()
         self.assertEqual((0, True), (found.status, "may have been luck" in found.text()), found.text())
 
-    def test_kernel_that_tells_of_no_ends(self) -> None:
-        with mock.patch("record.orders.holding.tell_of_ends", side_effect=OSError("no")), support.Project({"Makefile": ALL % "cp in o & sleep 1; cat o > p", "in": "1\n"}) as project:
+    def test_kernel_that_reports_no_ends(self) -> None:
+        with mock.patch("record.orders.holding.report_ends", side_effect=OSError("no")), support.Project({"Makefile": ALL % "cp in o & sleep 1; cat o > p", "in": "1\n"}) as project:
             found = project.record(once=False)
         self.assertEqual((0, True), (found.status, LUCK in found.text()), found.text())
         self.assertIn("build in other orders left the same", found.text())
@@ -72,7 +72,7 @@ class Waits(unittest.TestCase):
         self.assertIn(b"4 builds in copies", found.stderr)
 
     def test_build_that_fails_where_a_process_is_held(self) -> None:
-        """It tells nothing."""
+        """It shows nothing."""
         with support.Project({"Makefile": ALL % "cp in o & sleep 1; ! kill -0 $$! 2> /dev/null || exit 1; cat o > p", "in": "1\n"}) as project:
             found = project.record(once=False)
         self.assertEqual((0, True), (found.status, LUCK in found.text()), found.text())
