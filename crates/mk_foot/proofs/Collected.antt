@@ -1,12 +1,14 @@
 -- Paths that are collected at once are those that are put in one by one.
-use Rattle.std.proofs.Common.{◌≡◌, Less, Equal, Greater, Ordering, Bool, true, false, ◌||◌, List, [], ◌∷◌, fold, refl, sym, ap, ◌∙◌}
+use Rattle.std.proofs.Common.{◌≡◌, Less, Equal, Greater, Ordering, Bool, true, false, ◌||◌, List, [], ◌∷◌, ◌++◌, append_assoc, fold, refl, subst, sym, ap, ◌∙◌}
 use Rattle.std.specs.BTreeSet.{BTreeSet, IsFromIterResult, insert_key}
 use Rattle.std.specs.List.{AllByRecursion, list_any}
 use Rattle.std.specs.List.Sorted.{IsStrictlySortedBy}
 use Rattle.std.specs.Ordering.{eq_by_cmp, match_ordering, ordering_reverse}
 use Rattle.std.proofs.Math.Bool.{or_assoc, or_comm}
+use Rattle.std.proofs.lemmas.List.{append-nil}
 use Rattle.std.proofs.lemmas.Map.Lookups.{btree_set_from_contains}
 use Rattle.mk_path.specs.declared.path.Path.{Path}
+use Rattle.mk_text.proofs.Copies.{put_last}
 use Rattle.mk_path.specs.Paths.{path_cmp}
 use Rattle.mk_path.proofs.PathOrder.{path_cmp_total}
 use Rattle.mk_path.proofs.Numbering.{equal_path_is}
@@ -80,3 +82,14 @@ pub collected : (more : List Path) (set : BTreeSet Path) → IsFromIterResult pa
 collected more set is =
     btree_set_from_contains path_cmp_total set (record { keys = fold (insert_key path_cmp) [] more }) is.1 (rise-all more [] rise-none)
     (λ q. is.0 q ∙ or_none (list_any (same q) more) ∙ sym (has-all more [] q)) equal_path_is
+
+-- paths that rise are put in one behind the other
+all_last : (ps more : List Path) → IsStrictlySortedBy path_cmp (ps ++ more) → fold (insert_key path_cmp) ps more ≡ ps ++ more
+all_last ps [] rise = sym (append-nil ps)
+all_last ps (p ∷ more) rise =
+    ap (λ (qs : List Path). fold (insert_key path_cmp) qs more) (put_last path_cmp path_cmp_total ps p more rise)
+    ∙ all_last (ps ++ p ∷ []) more (subst (IsStrictlySortedBy path_cmp) (sym (append_assoc ps (p ∷ []) more)) rise) ∙ append_assoc ps (p ∷ []) more
+
+-- so a set of them has just these
+pub risen : (more : List Path) → IsStrictlySortedBy path_cmp more → fold (insert_key path_cmp) [] more ≡ more
+risen more rise = all_last [] more rise

@@ -155,11 +155,20 @@ fn copied_by_target(
 fn copied(alloc: Global, paths: &BTreeSet<Path>) -> Result<BTreeSet<Path>, AllocError>
     ensures { IfOk result (λ copy. copy.keys ≡ paths.now.keys) }
 {
-    let mut copy = BTreeSet::new(alloc);
+    let list = copies_of(alloc, paths)?;
+    collected(alloc, list)
+}
+
+/// Copies of the paths of a set, rising. The only error is out of memory.
+fn copies_of(alloc: Global, paths: &BTreeSet<Path>) -> Result<Vec<Path>, AllocError>
+    ensures paths { IfOk result (λ list. list.items ≡ paths.now.keys) }
+    ensures rising { IfOk result (λ list. IsStrictlySortedBy path_cmp list.items) }
+{
+    let mut list = Vec::with_capacity(alloc, paths.len())?;
     for path in paths {
-        copy.insert(path.copy(alloc)?)?;
+        list.push(path.copy(alloc)?)?;
     }
-    Ok(copy)
+    Ok(list)
 }
 
 /// Adds the paths that are not there yet. The only error is out of memory.
