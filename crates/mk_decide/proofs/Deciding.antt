@@ -26,7 +26,7 @@ use Rattle.mk_decide.specs.declared.decision.Verdict.{Verdict}
 use Rattle.mk_decide.specs.declared.decision.Verdict.TheVariants.{Safe, Race}
 use Rattle.mk_decide.specs.Decisions.{IfRace, IsSafe, IsVerdict}
 use Rattle.mk_decide.specs.Pairs.{ArePairs, HasFewPairs, HasManyPairs, IsRising, OnlyClashing}
-use Rattle.mk_decide.specs.Races.{IsLeastRace}
+use Rattle.mk_decide.specs.Races.{HasLeastRace, IsLeastRace}
 use Rattle.mk_decide.specs.ShortVerdicts.{IsShortVerdict}
 use Rattle.mk_decide.proofs.Paired.{pair_equal, pair_ties}
 
@@ -101,3 +101,9 @@ free_if_none jobs pairs None true are ordered least is = (λ _. ordered_free job
 free_if_none jobs pairs None false are ordered least is = absurd (false≢true is)
 free_if_none jobs pairs (Some race) true are ordered least is = absurd (false≢true (sym is))
 free_if_none jobs pairs (Some race) false are ordered least is = (λ so. absurd (false≢true so), λ free. absurd (least.race.apart (free race.0 race.1 least.race.clash)))
+
+-- where one was found, there is a least one
+pub race_if_some : (jobs : Jobs) (race : Option (ℕ × ℕ)) (free : Bool) → IfSome race (λ r. IsLeastRace jobs r.0 r.1) → is_some race ≡ not free → free ≡ false → HasLeastRace jobs
+race_if_some jobs None true least is races = absurd (false≢true (sym races))
+race_if_some jobs None false least is races = absurd (false≢true is)
+race_if_some jobs (Some race) free least is races = (race.0, race.1, least)

@@ -12,3 +12,7 @@ pub record IsRace (jobs : Jobs) (a b : ℕ) : Type 0 where
 pub record IsLeastRace (jobs : Jobs) (a b : ℕ) : Type 0 where
   pub race : IsRace jobs a b
   pub least : (c d : ℕ) → IsRace jobs c d → (a < c) ⊎ ((a ≡ c) × (b ≤ d))
+
+-- jobs have a least race
+abbrev pub HasLeastRace : Jobs → Type 0
+HasLeastRace jobs = (a b : ℕ) × IsLeastRace jobs a b

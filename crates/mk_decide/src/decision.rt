@@ -1,5 +1,5 @@
 //! Whether jobs are race-free, and what shows it.
-ghost use Rattle.std.specs.Prelude.{ℕ, ◌≡◌, ◌↔◌, ◌≤◌, Err, IfErr, IfOk, IsTrue, length};
+ghost use Rattle.std.specs.Prelude.{ℕ, ◌≡◌, ◌↔◌, ◌≤◌, Err, IfErr, IfOk, IsTrue, false, length};
 ghost use Rattle.mk_name.specs.Gives.{HaltsAmong};
 ghost use Rattle.mk_jobs.specs.Jobs.{IsRaceFree};
 ghost use Rattle.mk_jobs.specs.Shape.{IsWellFormed};
@@ -9,6 +9,7 @@ ghost use Rattle.mk_cert.specs.Sure.{IsSure};
 ghost use Rattle.mk_cert.specs.Traces.{TraceHolds};
 ghost use Rattle.mk_decide.specs.Decisions.{AreSafe, AreSafeBy, IfRace, IsSafe, IsVerdict};
 ghost use Rattle.mk_decide.specs.Pairs.{ArePairs, HasFewPairs, HasManyPairs, pair_limit, too_many};
+ghost use Rattle.mk_decide.specs.Races.{HasLeastRace};
 
 use crate::before::Before;
 use crate::certificate::{certificate_of, first_race};
@@ -95,14 +96,27 @@ pub fn decide(alloc: Global, jobs: &Jobs) -> Result<Verdict, Halt>
 /// Whether jobs are race-free, as [`decide`] decides it, with the same fault; but with nothing to show it.
 pub fn is_race_free(alloc: Global, jobs: &Jobs) -> Result<bool, Halt>
     ensures free { IfOk result (λ free. IsTrue free ↔ IsRaceFree jobs.now) }
+    ensures race { IfOk result (λ free. free ≡ false → HasLeastRace jobs.now) }
+    ensures from_one_run { IfOk result (λ free. IsTrue free → IsDeterminateFromOneRun jobs.now) }
     ensures few { IfOk result (λ free. HasFewPairs jobs.now) }
     ensures many { IfErr result (λ halt.
         HaltsAmong {Y = ℕ} halt (λ answer. (answer ≡ Err too_many) × HasManyPairs jobs.now)) }
 {
     let _count = jobs.count();
     let pairs = clashing_pairs(alloc, jobs)?;
+    let free = are_in_order(alloc, jobs, &pairs)?;
+    Ok(free)
+}
+
+/// Whether jobs are race-free, of which these are all pairs that clash. The only error is out of memory.
+pub fn are_in_order(alloc: Global, jobs: &Jobs, pairs: &[(u32, u32)]) -> Result<bool, AllocError>
+    requires { ArePairs jobs.now pairs.now }
+    ensures free { IfOk result (λ free. IsTrue free ↔ IsRaceFree jobs.now) }
+    ensures race { IfOk result (λ free. free ≡ false → HasLeastRace jobs.now) }
+{
+    let _count = jobs.count();
     let mut rows = Rows::new(alloc, jobs)?;
-    let race = first_race(jobs, &mut rows, &pairs);
+    let race = first_race(jobs, &mut rows, pairs);
     Ok(race.is_none())
 }
 

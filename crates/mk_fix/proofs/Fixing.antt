@@ -1,14 +1,16 @@
 -- Fixes: determinate, weakest, the only one.
 use Rattle.std.proofs.Common.{ℕ, ◌≡◌, ◌<◌, ◌⊎◌, ◌↔◌, List, [], ◌∷◌, ◌++◌, Contains, refl, sym, ap, subst, ◌∙◌, inl, inr, arith}
+use Rattle.std.specs.List.Sorted.{IsStrictlySortedBy}
 use Rattle.std.proofs.lemmas.List.Elements.{Contains-append_cases, Contains-append_left, Contains-append_right}
 use Rattle.mk_jobs.specs.Jobs.{Jobs, Before, edge, further, IsPrerequisite, IsRaceFree, IsValid, may_write, name_of}
 use Rattle.mk_jobs.proofs.JobsLemmas.{before_less, clash_live, live_node}
 use Rattle.mk_sched.specs.Laws.{IsDeterminate}
 use Rattle.mk_sched.proofs.Determinate.{headline}
+use Rattle.mk_decide.specs.Pairs.{IsRising}
 use Rattle.mk_decide.specs.Races.{IsRace}
 use Rattle.mk_fix.specs.Added.{AreRisingToLive, with_edges}
 use Rattle.mk_fix.specs.Fixes.{IsFix}
-use Rattle.mk_fix.proofs.Adding.{clash_up, cons_cases, count_same, edge_cases, here, name_same, new_edge, none_in, old_edge, still_smaller, there, write_same}
+use Rattle.mk_fix.proofs.Adding.{before_more, clash_down, clash_up, cons_cases, count_same, edge_cases, here, name_same, new_edge, none_in, old_edge, still_smaller, there, write_same}
 
 -- the edges of a fix rise, to live nodes
 pub to_live : {jobs : Jobs} {edges : List (ℕ × ℕ)} → IsFix jobs edges → AreRisingToLive jobs edges
@@ -39,6 +41,23 @@ free_of_none jobs free a b clash = elim (free a b (clash_up jobs [] (none_rise j
 no_edge : (jobs : Jobs) (edges : List (ℕ × ℕ)) → ((a b : ℕ) → Contains edges (a, b) → IsRace jobs a b) → IsRaceFree jobs → edges ≡ []
 no_edge jobs [] races free = refl
 no_edge jobs (e ∷ edges) races free = let race = races e.0 e.1 (here e edges) in absurd (race.apart (free e.0 e.1 race.clash))
+
+-- race-free jobs stay so, and so their fix has no edge
+not_split : (front back : List (ℕ × ℕ)) (e : ℕ × ℕ) → [] ≡ front ++ e ∷ back → ⊥
+not_split [] back e is = cc
+not_split (f ∷ front) back e is = cc
+
+none_rising : IsRising []
+unfolding IsStrictlySortedBy
+none_rising = tt
+
+pub fix_of_free : (jobs : Jobs) → IsRaceFree jobs → IsFix jobs []
+fix_of_free jobs free = record {
+  rise = none_rising;
+  races = λ a b h. absurd (none_in (a, b) h);
+  free = λ a b clash. elim (free a b (clash_down jobs [] (none_rise jobs) a b clash)) [ inl up ↦ inl (before_more [] up) | inr down ↦ inr (before_more [] down) ];
+  needed = λ front back a b is before. not_split front back (a, b) is;
+}
 
 pub nothing_to_fix : (jobs : Jobs) (edges : List (ℕ × ℕ)) → IsFix jobs edges → (edges ≡ []) ↔ IsRaceFree jobs
 nothing_to_fix jobs edges fix = (

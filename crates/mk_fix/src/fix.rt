@@ -9,6 +9,7 @@ ghost use Rattle.mk_fix.specs.Fixes.{IsFix};
 ghost use Rattle.mk_fix.specs.Musts.{AreDirect, AreDirectBelow, AreFirsts, AreMustRows, IsBehind, IsDirect, IsMustRow};
 
 use crate::added::sources_of;
+use mk_decide::decision::are_in_order;
 use mk_decide::pairs::clashing_pairs;
 use mk_decide::words::merge;
 use mk_index::bits::{has_bit, set_bit};
@@ -21,7 +22,7 @@ const WORD: usize = 64;
 
 /// The fix of these jobs, by first and then second number: the races that, added as edges, make the jobs race-free, where none
 /// can be left out. There is one fix of any jobs, and it is empty just where they are race-free. Where more than `PAIR_LIMIT`
-/// pairs of nodes clash the fault is `TooManyPairs` in the jobs, at place 0 (profile). For N nodes it takes N rows of N bits.
+/// pairs of nodes clash the fault is `TooManyPairs` in the jobs, at place 0 (profile). For N nodes that race it takes N rows of N bits.
 #[tactic(auto, using(crate::proofs::Direct::direct_fix))]
 pub fn fix(alloc: Global, jobs: &Jobs) -> Result<Vec<(u32, u32)>, Halt>
     ensures fix { IfOk result (λ edges. IsFix jobs.now edges.items) }
@@ -31,6 +32,10 @@ pub fn fix(alloc: Global, jobs: &Jobs) -> Result<Vec<(u32, u32)>, Halt>
 {
     let _count = jobs.count();
     let pairs = clashing_pairs(alloc, jobs)?;
+    let free = are_in_order(alloc, jobs, &pairs)?;
+    if free {
+        return Ok(Vec::new(alloc));
+    }
     let edges = direct_races(alloc, jobs, &pairs)?;
     Ok(edges)
 }
