@@ -25,9 +25,9 @@ unfixed_is Is Says halt fault status text given is ends reported =
 -- what is reported of it is its answer
 pub fixed_is : (texts : Texts) (footprints : List ℕ) (proof : Bool) (fixing : Fixing) (status : Status) (text : List ℕ)
     → IsFixing texts footprints (Ok fixing) → IsFixReported texts footprints proof fixing status text → IsFixAnswer texts footprints proof status text
-fixed_is texts footprints proof (Fixed lines jobs chains) status text is reported =
-    subst (λ (s : Status). IsFixReported texts footprints proof (Fixed lines jobs chains) s text → IsFixAnswer texts footprints proof s text) (sym reported.0)
-    (λ here. (Fixed lines jobs chains, is, here)) reported
+fixed_is texts footprints proof (Fixed lines jobs) status text is reported =
+    subst (λ (s : Status). IsFixReported texts footprints proof (Fixed lines jobs) s text → IsFixAnswer texts footprints proof s text) (sym reported.0)
+    (λ here. (Fixed lines jobs, is, here)) reported
 fixed_is texts footprints proof (NotFixed jobs edges refusal) status text is reported =
     subst (λ (s : Status). IsFixReported texts footprints proof (NotFixed jobs edges refusal) s text → IsFixAnswer texts footprints proof s text) (sym reported.0)
     (λ here. (NotFixed jobs edges refusal, is, here)) reported
@@ -35,7 +35,7 @@ fixed_is texts footprints proof (NotFixed jobs edges refusal) status text is rep
 -- what is said of tasks ends as done or as no
 pub tasks_not_failed : (root tasks : List ℕ) (proof : Bool) (fixing : TaskFixing) (status : Status) (text : List ℕ)
     → SaysTasksFixed root tasks proof fixing status text → status ≢ Failed
-tasks_not_failed root tasks proof (tasks_fixed.Fixed lines jobs chains) status text said failed =
+tasks_not_failed root tasks proof (tasks_fixed.Fixed lines jobs) status text said failed =
     let e : ◌≡◌ {A = Status} Done Failed = sym said.0 ∙ failed in cc
 tasks_not_failed root tasks proof (tasks_fixed.NotFixed needs) status text said failed =
     let e : ◌≡◌ {A = Status} No Failed = sym said.0 ∙ failed in cc
@@ -43,9 +43,9 @@ tasks_not_failed root tasks proof (tasks_fixed.NotFixed needs) status text said 
 -- what is said of them is their answer
 pub tasks_fixed_is : (root tasks : List ℕ) (proof : Bool) (fixing : TaskFixing) (status : Status) (text : List ℕ)
     → IsTaskFixing root tasks (Ok fixing) → SaysTasksFixed root tasks proof fixing status text → IsTaskFixAnswer root tasks proof status text
-tasks_fixed_is root tasks proof (tasks_fixed.Fixed lines jobs chains) status text is said =
-    subst (λ (s : Status). SaysTasksFixed root tasks proof (tasks_fixed.Fixed lines jobs chains) s text → IsTaskFixAnswer root tasks proof s text) (sym said.0)
-    (λ here. (tasks_fixed.Fixed lines jobs chains, is, here)) said
+tasks_fixed_is root tasks proof (tasks_fixed.Fixed lines jobs) status text is said =
+    subst (λ (s : Status). SaysTasksFixed root tasks proof (tasks_fixed.Fixed lines jobs) s text → IsTaskFixAnswer root tasks proof s text) (sym said.0)
+    (λ here. (tasks_fixed.Fixed lines jobs, is, here)) said
 tasks_fixed_is root tasks proof (tasks_fixed.NotFixed needs) status text is said =
     subst (λ (s : Status). SaysTasksFixed root tasks proof (tasks_fixed.NotFixed needs) s text → IsTaskFixAnswer root tasks proof s text) (sym said.0)
     (λ here. (tasks_fixed.NotFixed needs, is, here)) said

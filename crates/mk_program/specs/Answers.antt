@@ -7,6 +7,7 @@ use Rattle.mk_name.specs.Shown.{line, refused_text}
 use Rattle.mk_name.specs.Reported.{Reported}
 use Rattle.mk_device.specs.Device.{AppendsBeginning}
 use Rattle.mk_cert.specs.Traces.{TraceHolds}
+use Rattle.mk_decide.specs.Decisions.{AreSafeBy}
 use Rattle.mk_jobs.specs.Jobs.{Jobs}
 use Rattle.mk_proof.specs.Shapes.{Trace}
 use Rattle.mk_proof.specs.ProofText.{certificate_text}
@@ -244,20 +245,23 @@ abbrev pub IsTaskMissingAnswer : List ℕ → List ℕ → List ℕ → Status �
 IsTaskMissingAnswer root listing tasks status text =
     SaysMissing (IsMissingListBelow root listing tasks) (TasksBuildAsClean root listing tasks) status text
 
--- what is reported of a build that was to be fixed: its lines, or the certificate of the build with them, and no schedule
--- shows; or the edges that no lines give it
+-- the text of a fix: its lines, or the certificate of the jobs with them
+abbrev pub IsFixedText : Jobs → List ℕ → Bool → List ℕ → Type 0
+IsFixedText jobs lines false text = text ≡ lines
+IsFixedText jobs lines true text = (chains : List (List ℕ)) × AreSafeBy jobs chains × (text ≡ certificate_text chains)
+
+-- what is reported of a build that was to be fixed: the text of its fix, and no schedule shows; or the edges that no lines give it
 abbrev pub IsFixReported : Texts → List ℕ → Bool → Fixing → Status → List ℕ → Type 0
-IsFixReported texts footprints proof (Fixed lines jobs chains) status text =
-    (status ≡ statuses.Done) × NoScheduleShows (with_lines texts lines.items) footprints
-    × (text ≡ (if proof then certificate_text chains else lines.items))
+IsFixReported texts footprints proof (Fixed lines jobs) status text =
+    (status ≡ statuses.Done) × NoScheduleShows (with_lines texts lines.items) footprints × IsFixedText jobs lines.items proof text
 IsFixReported texts footprints proof (NotFixed jobs edges refusal) status text =
     (status ≡ statuses.No) × (text ≡ not_fixed_text jobs edges.items refusal)
 
--- what is said of tasks that were to be fixed: their lines, or the certificate of the tasks with them, of which no schedule shows;
--- or the edges that they need, which are too many
+-- what is said of tasks that were to be fixed: the text of their fix, with which no schedule shows; or the edges that they need, which
+-- are too many
 abbrev pub SaysTasksFixed : List ℕ → List ℕ → Bool → TaskFixing → Status → List ℕ → Type 0
-SaysTasksFixed root tasks proof (tasks_fixed.Fixed lines jobs chains) status text =
-    (status ≡ statuses.Done) × FixHolds root tasks jobs × (text ≡ (if proof then certificate_text chains else lines.items))
+SaysTasksFixed root tasks proof (tasks_fixed.Fixed lines jobs) status text =
+    (status ≡ statuses.Done) × FixHolds root tasks jobs × IsFixedText jobs lines.items proof text
 SaysTasksFixed root tasks proof (tasks_fixed.NotFixed needs) status text = (status ≡ statuses.No) × (text ≡ needs.items)
 
 -- what is said of a fix, or the report of the fault that refuses the texts

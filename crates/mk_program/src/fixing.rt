@@ -1,14 +1,15 @@
 //! The answers to `race fix`.
-ghost use Rattle.std.specs.Prelude.{◌≡◌, ◌≢◌, IfOk, List, if◌then◌else◌, ℕ};
-ghost use Rattle.mk_proof.specs.ProofText.{certificate_text};
-ghost use Rattle.mk_race.specs.Fixed.{HoldsOfFixed};
+ghost use Rattle.std.specs.Prelude.{◌≢◌, IfOk, List, ℕ};
+ghost use Rattle.mk_decide.specs.Decisions.{AreSafe};
+ghost use Rattle.mk_race.specs.Fixed.{HoldsOfFixed, HoldsOfJobs};
 ghost use Rattle.mk_race.specs.Stages.{Texts};
 ghost use Rattle.mk_program.specs.Answers as spec;
 ghost use Rattle.mk_run.specs.Builds.{IsReadFrom};
 
 use crate::answers::{Answer, refused};
 use crate::statuses::Status;
-use mk_proof::certificate::Certificate;
+use mk_decide::decision::certify;
+use mk_jobs::jobs::Jobs;
 use mk_proof::writing::write_certificate;
 use mk_race::fixing::{Fixing, fix_parts};
 use mk_report::not_fixed::not_fixed_report;
@@ -36,18 +37,15 @@ pub(crate) fn fix_answer(
 
 /// What comes of a build that was to be fixed, reported. The only error is out of memory.
 fn fixing_answer(alloc: Global, fixing: &Fixing, proof: bool) -> Result<Answer, AllocError>
+    requires { HoldsOfJobs fixing.now }
     ensures status { IfOk result (λ answer. answer.status ≢ Status.Failed) }
     ensures answer { IfOk result (λ answer. (texts : Texts) (footprints : List ℕ) → HoldsOfFixed texts footprints fixing.now
         → spec.IsFixReported texts footprints proof fixing.now answer.status answer.text.items) }
 {
     match fixing {
-        Fixing::Fixed {
-            lines,
-            certificate,
-            ..
-        } => Ok(Answer {
+        Fixing::Fixed { lines, jobs } => Ok(Answer {
             status: Status::Done,
-            text: fixed_text(alloc, lines, certificate, proof)?,
+            text: fixed_text(alloc, lines, jobs, proof)?,
         }),
         Fixing::NotFixed {
             jobs,
@@ -60,18 +58,19 @@ fn fixing_answer(alloc: Global, fixing: &Fixing, proof: bool) -> Result<Answer, 
     }
 }
 
-/// The lines of a fix, or the certificate with them. The only error is out of memory.
+/// The lines of a fix, or the certificate of the jobs with them, which are safe. The only error is out of memory.
 pub(crate) fn fixed_text(
     alloc: Global,
     lines: &[u8],
-    certificate: &Certificate,
+    jobs: &Jobs,
     proof: bool,
 ) -> Result<Vec<u8>, AllocError>
-    ensures { IfOk result (λ text.
-        text.items ≡ (if proof then certificate_text certificate.now else lines.now)) }
+    requires { AreSafe jobs.now }
+    ensures { IfOk result (λ text. spec.IsFixedText jobs.now lines.now proof text.items) }
 {
     if proof {
-        return write_certificate(alloc, certificate);
+        let certificate = certify(alloc, jobs)?;
+        return write_certificate(alloc, &certificate);
     }
     Ok(Vec::from_slice(alloc, lines)?)
 }

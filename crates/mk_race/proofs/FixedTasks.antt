@@ -1,22 +1,19 @@
 -- What the fix of tasks says of their runs.
 use Rattle.std.proofs.Common.{ℕ, ◌≡◌, ◌∙◌, ◌<◌, List, Ok, Err, IfOk, Option, Result, Some, subst, sym}
-use Rattle.mk_name.specs.Gives.{Answers, HaltsAmong}
-use Rattle.mk_name.specs.Reported.{Reported}
+use Rattle.mk_name.specs.Gives.{Answers}
 use Rattle.mk_name.specs.declared.fault.Halt.{Halt}
-use Rattle.mk_name.specs.declared.fault.Halt.TheVariants as halts
-use Rattle.mk_jobs.specs.Jobs.{Jobs, IsRaceFree, IsValid, node_count}
-use Rattle.mk_proof.specs.Shapes.{Trace}
-use Rattle.mk_decide.specs.LeastTraces.{IsOfLeastRace}
-use Rattle.mk_decide.specs.Pairs.{HasManyPairs, too_many}
+use Rattle.mk_jobs.specs.Jobs.{Jobs, IsValid, node_count}
+use Rattle.mk_decide.specs.Decisions.{AreSafe}
+use Rattle.mk_decide.specs.Pairs.{HasFewPairs}
 use Rattle.mk_fix.specs.Added.{AreRisingToLive, IsWithEdges, with_edges}
 use Rattle.mk_fix.specs.Fixes.{IsFix}
-use Rattle.mk_fix.proofs.Adding.{clash_down, count_same, listed_same, name_same, phony_same, recipe_same}
+use Rattle.mk_fix.proofs.Adding.{clash_down, clash_up, count_same, listed_same, name_same, phony_same, recipe_same}
 use Rattle.mk_fix.proofs.Fixing.{fix_determinate, to_live, valid_stays}
 use Rattle.mk_sched.specs.Laws.{IsDeterminate}
 use Rattle.mk_sched.proofs.Staying.{from_one_run}
 use Rattle.mk_task.proofs.Starting.{AreTasks}
 use Rattle.mk_race.specs.Tasked.{tasked}
-use Rattle.mk_race.specs.TasksFixed.{AreFixedBy, FixHolds, HoldsOfFixed, IsFixingOf}
+use Rattle.mk_race.specs.TasksFixed.{AreFixedBy, AreSafeIfFixed, FixHolds, HoldsOfFixed, IsFixingOf}
 use Rattle.mk_race.specs.declared.tasks_fixing.TaskFixing.{TaskFixing}
 use Rattle.mk_race.specs.declared.tasks_fixing.TaskFixing.TheVariants.{Fixed, NotFixed}
 use Rattle.mk_race.proofs.OfTasks.{each_starts, runs_alike, text_of_tasks}
@@ -36,9 +33,8 @@ tasks_stay jobs edges rising are =
 new_tasks : (jobs new : Jobs) (edges : List (ℕ × ℕ)) → IsFix jobs edges → new ≡ with_edges jobs edges → AreTasks jobs → AreTasks new
 new_tasks jobs new edges fix is are = subst AreTasks (sym is) (tasks_stay jobs edges (to_live fix) are)
 
-holds_of : (root text : List ℕ) (jobs new : Jobs) (lines : List ℕ) (chains : List (List ℕ)) → IsValid jobs → tasked root text ≡ Ok jobs → AreFixedBy jobs lines new chains
-    → FixHolds root text new
-holds_of root text jobs new lines chains valid given fixed =
+holds_of : (root text : List ℕ) (jobs new : Jobs) (lines : List ℕ) → IsValid jobs → tasked root text ≡ Ok jobs → AreFixedBy jobs lines new → FixHolds root text new
+holds_of root text jobs new lines valid given fixed =
     let are = new_tasks jobs new fixed.edges fixed.fix fixed.added (text_of_tasks root text jobs given) in
     let still = subst IsValid (sym fixed.added) (valid_stays jobs fixed.edges valid (to_live fixed.fix)) in
     record {
@@ -54,7 +50,7 @@ holds_of root text jobs new lines chains valid given fixed =
     }
 
 fixing_holds : (root text : List ℕ) (jobs : Jobs) (fixing : TaskFixing) → IsValid jobs → tasked root text ≡ Ok jobs → IsFixingOf jobs (Ok fixing) → HoldsOfFixed root text fixing
-fixing_holds root text jobs (Fixed lines new certificate) valid given fixed = holds_of root text jobs new lines.items certificate valid given fixed
+fixing_holds root text jobs (Fixed lines new) valid given fixed = holds_of root text jobs new lines.items valid given fixed
 fixing_holds root text jobs (NotFixed lines) valid given many = tt
 
 -- where tasks are fixed, no schedule of them shows, with the fix
@@ -67,24 +63,29 @@ headline_of root text jobs (Err halt) valid given answer = tt
 pub made_is : (jobs new : Jobs) (edges : List (ℕ × ℕ)) (made : Option Jobs) → made ≡ Some new → IsWithEdges jobs edges made → new ≡ with_edges jobs edges
 made_is jobs new edges made is such = subst (IsWithEdges jobs edges) is such
 
--- jobs with a fix clash on many pairs only where they do without it
-many_stay : (jobs : Jobs) (edges : List (ℕ × ℕ)) → AreRisingToLive jobs edges → HasManyPairs (with_edges jobs edges) → HasManyPairs jobs
-many_stay jobs edges rising many = record {
-  pairs = many.pairs;
-  rise = many.rise;
-  clash = λ a b h. let is = many.clash a b h in (is.0, clash_down jobs edges rising a b is.1);
-  many = many.many;
+-- jobs with a fix have few pairs that clash where they have without it
+few_stay : (jobs : Jobs) (edges : List (ℕ × ℕ)) → AreRisingToLive jobs edges → HasFewPairs jobs → HasFewPairs (with_edges jobs edges)
+few_stay jobs edges rising few = record {
+  pairs = few.pairs;
+  all = record {
+    rise = few.all.rise;
+    clash = λ a b. (
+      λ there. let is = (few.all.clash a b).0 there in (is.0, clash_up jobs edges rising a b is.1),
+      λ is. (few.all.clash a b).1 (is.0, clash_down jobs edges rising a b is.1),
+    );
+  };
+  few = few.few;
 }
 
--- so too many pairs of them are too many of the jobs
-pub many_of : (jobs new : Jobs) (edges : List (ℕ × ℕ)) (halt : Halt) → IsFix jobs edges → new ≡ with_edges jobs edges
-    → HaltsAmong {Y = ℕ} halt (λ answer. (answer ≡ Err too_many) × HasManyPairs new) → HaltsAmong {Y = TaskFixing} halt (IsFixingOf jobs)
-many_of jobs new edges halts.Memory fix added many = tt
-many_of jobs new edges (halts.Fault reported) fix added many = (
-  (let e : ◌≡◌ {A = Result ℕ Reported} (Err reported) (Err too_many) = many.0 in cc),
-  many_stay jobs edges (to_live fix) (subst HasManyPairs added many.1),
-)
+-- so they are safe
+pub new_safe : (jobs new : Jobs) (edges : List (ℕ × ℕ)) → IsFix jobs edges → HasFewPairs jobs → new ≡ with_edges jobs edges → AreSafe new
+new_safe jobs new edges fix few added = subst AreSafe (sym added) (record { race_free = fix.free; few = few_stay jobs edges (to_live fix) few })
 
--- race-free jobs have no least race
-pub no_race : (jobs : Jobs) (trace : Trace) → IsRaceFree jobs → IsOfLeastRace jobs trace → ⊥
-no_race jobs trace free least = least.nodes.race.apart (free trace.first trace.second least.nodes.race.clash)
+-- where tasks are fixed, the jobs that are handed out are safe
+safe_of : (fixing : TaskFixing) (jobs : Jobs) → IsFixingOf jobs (Ok fixing) → AreSafeIfFixed fixing
+safe_of (Fixed lines new) jobs fixed = fixed.safe
+safe_of (NotFixed lines) jobs fixed = tt
+
+pub all_safe : (result : Result TaskFixing Halt) (jobs : Jobs) → Answers result (IsFixingOf jobs) → IfOk result AreSafeIfFixed
+all_safe (Ok fixing) jobs is = safe_of fixing jobs is
+all_safe (Err halt) jobs is = tt

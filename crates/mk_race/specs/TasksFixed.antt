@@ -3,7 +3,7 @@ use Rattle.std.specs.Prelude.{ℕ, ◌≡◌, ◌<◌, List, Result, Ok, Err}
 use Rattle.mk_name.specs.Reported.{Reported}
 use Rattle.mk_jobs.specs.Jobs.{Jobs, IsRaceFree}
 use Rattle.mk_jobs.specs.Plan.{edge_count, edge_limit}
-use Rattle.mk_decide.specs.Decisions.{AreSafeBy}
+use Rattle.mk_decide.specs.Decisions.{AreSafe}
 use Rattle.mk_decide.specs.Pairs.{HasManyPairs, too_many}
 use Rattle.mk_fix.specs.Added.{with_edges}
 use Rattle.mk_fix.specs.Fixes.{IsFix}
@@ -15,13 +15,13 @@ use Rattle.mk_race.specs.Tasked.{EachStarts, RunsAlike, tasked}
 use Rattle.mk_race.specs.declared.tasks_fixing.TaskFixing.{TaskFixing}
 use Rattle.mk_race.specs.declared.tasks_fixing.TaskFixing.TheVariants.{Fixed, NotFixed}
 
--- lines fix tasks of these jobs: they say the fix of the jobs; and the jobs with it are safe by this certificate
-pub record AreFixedBy (jobs : Jobs) (lines : List ℕ) (new : Jobs) (chains : List (List ℕ)) : Type 0 where
+-- lines fix tasks of these jobs: they say the fix of the jobs; and the jobs with it are safe
+pub record AreFixedBy (jobs : Jobs) (lines : List ℕ) (new : Jobs) : Type 0 where
   pub edges : List (ℕ × ℕ)
   pub fix : IsFix jobs edges
   pub says : IsTaskLines jobs edges lines
   pub added : new ≡ with_edges jobs edges
-  pub safe : AreSafeBy new chains
+  pub safe : AreSafe new
 
 -- tasks of these jobs are not fixed, as this text says: with their fix they would have too many edges
 pub record AreNotFixed (jobs : Jobs) (text : List ℕ) : Type 0 where
@@ -32,7 +32,7 @@ pub record AreNotFixed (jobs : Jobs) (text : List ℕ) : Type 0 where
 
 -- what comes of the jobs of tasks: lines that fix them; or the edges that they need, which are too many; or too many pairs clash
 abbrev pub IsFixingOf : Jobs → Result TaskFixing Reported → Type 0
-IsFixingOf jobs (Ok (Fixed lines new certificate)) = AreFixedBy jobs lines.items new certificate
+IsFixingOf jobs (Ok (Fixed lines new)) = AreFixedBy jobs lines.items new
 IsFixingOf jobs (Ok (NotFixed text)) = AreNotFixed jobs text.items
 IsFixingOf jobs (Err reported) = (reported ≡ too_many) × HasManyPairs jobs
 
@@ -55,5 +55,10 @@ pub record FixHolds (root text : List ℕ) (new : Jobs) : Type 0 where
 
 -- where tasks are fixed, this is so of the jobs that are handed out
 abbrev pub HoldsOfFixed : List ℕ → List ℕ → TaskFixing → Type 0
-HoldsOfFixed root text (Fixed lines new certificate) = FixHolds root text new
+HoldsOfFixed root text (Fixed lines new) = FixHolds root text new
 HoldsOfFixed root text (NotFixed lines) = Unit {0}
+
+-- and these jobs are safe
+abbrev pub AreSafeIfFixed : TaskFixing → Type 0
+AreSafeIfFixed (Fixed lines new) = AreSafe new
+AreSafeIfFixed (NotFixed lines) = Unit {0}

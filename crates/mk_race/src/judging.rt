@@ -5,17 +5,14 @@ ghost use Rattle.mk_name.specs.declared.fault.Halt.TheVariants as halts;
 ghost use Rattle.mk_report.specs.declared.answer.Answer.TheVariants as answers;
 ghost use Rattle.mk_sched.specs.Schedules.{IsDeterminateFromOneRun};
 ghost use Rattle.mk_race.specs.Judged.{HoldsOfRace, HoldsOfSafe, IsAnswered, IsDecided, IsSafe, NoScheduleShows};
-ghost use Rattle.mk_race.specs.Parts.{ForTextsRead};
 ghost use Rattle.mk_race.specs.Stages.{IsPrepared, Texts, texts_of};
 
 use crate::input::Input;
-use crate::preparing::{Prepared, prepare, prepared_ahead};
+use crate::preparing::{Prepared, prepare};
 use mk_decide::decision::{Verdict, decide};
-use mk_foot::footprints::Footprints;
 use mk_jobs::jobs::Jobs;
-use mk_name::fault::{Fault, Halt};
+use mk_name::fault::Halt;
 use mk_report::answer::Answer;
-use mk_text::listing::Listing;
 use std::alloc::{AllocError, Global};
 
 /// The answer of a build: safe, where any two of its recipes that conflict are ordered by prerequisites,
@@ -34,27 +31,6 @@ pub fn judge(alloc: Global, input: &Input<'_>) -> Result<Answer, AllocError>
     ensures holds { IfOk result HoldsOfRace }
 {
     match prepare(alloc, input) {
-        Ok(prepared) => judge_prepared(alloc, prepared),
-        Err(halt) => refused(halt),
-    }
-}
-
-/// The answer of a build whose listing and footprints were read ahead; those of the input count for nothing. The only error is out of
-/// memory.
-pub(crate) fn judge_ahead(
-    alloc: Global,
-    input: &Input<'_>,
-    listing: Result<Listing, Fault>,
-    footprints: Result<Footprints, Fault>,
-) -> Result<Answer, AllocError>
-    ensures answer { IfOk result (λ answer. ForTextsRead (texts_of input.now) listing footprints
-        (λ texts lines. IsAnswered texts lines answer)) }
-    ensures headline { IfOk result (λ answer. IsSafe answer
-        → ForTextsRead (texts_of input.now) listing footprints NoScheduleShows) }
-    ensures determinate { IfOk result HoldsOfSafe }
-    ensures holds { IfOk result HoldsOfRace }
-{
-    match prepared_ahead(alloc, input, listing, footprints) {
         Ok(prepared) => judge_prepared(alloc, prepared),
         Err(halt) => refused(halt),
     }

@@ -1,8 +1,9 @@
-use Rattle.std.proofs.lemmas.Result.{IfOk-weaker, err_from_is_err_and}
+use Rattle.std.proofs.lemmas.Result.{err_from_is_err_and}
 use Rattle.mk_race.specs.Fixed.{IsFixingOf}
-use Rattle.mk_race.specs.Parts.{listed_as}
+use Rattle.mk_race.specs.Parts.{AreReadFrom, listed_as}
 use Rattle.mk_race.specs.Stages.{IsPrepared, texts_of}
 use Rattle.mk_race.proofs.Behind.{answers_behind, halts_behind}
+use Rattle.mk_race.proofs.Fixings.{fixing_shows}
 use Rattle.mk_race.proofs.NotedAhead.{halts_there, jobs_there, read_again}
 use Rattle.mk_race.proofs.fixing.fix_ahead.Goals as goal
 
@@ -18,13 +19,13 @@ pub returns-clause-answer : goal.returns-clause-answer
 returns-clause-answer c = λ listed lines from.
     let texts = listed_as (texts_of c.args.input.now) listed in
     let is = c.in_ok-noted.ensures.answer in
-    answers_behind (IsPrepared texts lines) (λ prepared. IsFixingOf texts lines prepared.jobs) c.in_ok-noted.noted.prepared c.fix_jobs.result
-    (jobs_there texts lines c.args.listing c.args.footprints from c.in_ok-noted.noted is)
-    (c.fix_jobs.ensures.answer listed lines
-    (read_again texts c.args.listing c.args.footprints c.in_ok-noted.noted c.in_ok-again.again _ lines is c.in_ok-again.ensures c.in-Some.is from))
+    let build = jobs_there texts lines c.args.listing c.args.footprints from c.in_ok-noted.noted is in
+    answers_behind (IsPrepared texts lines) (λ prepared. IsFixingOf texts lines prepared.jobs) c.in_ok-noted.noted.prepared c.fix_prepared.result build
+    (c.fix_prepared.ensures.answer listed lines
+    (read_again texts c.args.listing c.args.footprints c.in_ok-noted.noted c.in_ok-again.again _ lines is c.in_ok-again.ensures c.in-Some.is from) build)
 
 pub returns-clause-headline : goal.returns-clause-headline
 returns-clause-headline c =
-    IfOk-weaker c.fix_jobs.result _ _ (λ fixing holds listed lines from.
-    holds listed lines (read_again (listed_as (texts_of c.args.input.now) listed) c.args.listing c.args.footprints c.in_ok-noted.noted c.in_ok-again.again _ lines
-    c.in_ok-noted.ensures.answer c.in_ok-again.ensures c.in-Some.is from)) c.fix_jobs.ensures.headline
+    let a = c.args in
+    fixing_shows (listed_as (texts_of a.input.now)) (λ listed lines. AreReadFrom (listed_as (texts_of a.input.now) listed) lines a.listing a.footprints)
+    c.fix_prepared.result (returns-clause-answer c) c.fix_prepared.ensures.safe

@@ -1,36 +1,11 @@
-use Rattle.std.proofs.Common.{◌∙◌, sym}
-use Rattle.std.proofs.lemmas.Bool.{false≢true}
-use Rattle.mk_report.specs.declared.answer.Answer.TheVariants as answers
-use Rattle.mk_race.specs.Parts.{listed_as}
-use Rattle.mk_race.specs.Stages.{texts_of}
-use Rattle.mk_race.proofs.Fixings.{answered_with, tried_with}
+use Rattle.std.proofs.Common.{Ok, Err, refl}
+use Rattle.std.proofs.lemmas.Result.{IfOk-weaker}
 use Rattle.mk_race.proofs.fixing.try_lines.Goals as goal
 
-pub returns-then-have_all-clause-answer : goal.returns-then-have_all-clause-answer
-returns-then-have_all-clause-answer c = λ listed footprints from. (
-  answered_with (listed_as (texts_of c.args.input.now) listed) footprints c.args.lines.now c.in-Ok-Safe.field-0 _ c.in-Ok-Safe.field-0-is
-      (c.in-Ok-Safe.ensures.answer listed footprints from),
-  c.have_all.ensures.0 c.if-have_all.true,
-)
+pub returns-in-Ok-clause-answer : goal.returns-in-Ok-clause-answer
+returns-in-Ok-clause-answer c = IfOk-weaker c.try_jobs.result _ _ (λ tried of listed footprints from.
+    (Ok c.in-Ok.prepared, c.in-Ok.ensures listed footprints from, of)) c.try_jobs.ensures.answer
 
-pub returns-else-have_all-clause-answer : goal.returns-else-have_all-clause-answer
-returns-else-have_all-clause-answer c = λ listed footprints from.
-    let texts = listed_as (texts_of c.args.input.now) listed in
-    let answer = answers.Safe c.in-Ok-Safe.new c.in-Ok-Safe.certificate in
-    tried_with texts footprints c.args.jobs.now c.args.edges.now c.args.lines.now answer c.requires.says
-    (answered_with texts footprints c.args.lines.now c.in-Ok-Safe.field-0 answer c.in-Ok-Safe.field-0-is (c.in-Ok-Safe.ensures.answer listed footprints from))
-    (λ all. false≢true (sym c.if-have_all.false ∙ c.have_all.ensures.1 all))
-
-pub returns-in-Ok-Race-clause-answer : goal.returns-in-Ok-Race-clause-answer
-returns-in-Ok-Race-clause-answer c = λ listed footprints from.
-    let texts = listed_as (texts_of c.args.input.now) listed in
-    let answer = answers.Race c.in-Ok-Race._jobs c.in-Ok-Race._trace in
-    tried_with texts footprints c.args.jobs.now c.args.edges.now c.args.lines.now answer c.requires.says
-    (answered_with texts footprints c.args.lines.now c.in-Ok-Race.field-0 answer c.in-Ok-Race.field-0-is (c.in-Ok-Race.ensures.answer listed footprints from)) tt
-
-pub returns-in-Ok-Refused-clause-answer : goal.returns-in-Ok-Refused-clause-answer
-returns-in-Ok-Refused-clause-answer c = λ listed footprints from.
-    let texts = listed_as (texts_of c.args.input.now) listed in
-    let answer = answers.Refused c.in-Ok-Refused.fault in
-    tried_with texts footprints c.args.jobs.now c.args.edges.now c.args.lines.now answer c.requires.says
-    (answered_with texts footprints c.args.lines.now c.in-Ok-Refused.field-0 answer c.in-Ok-Refused.field-0-is (c.in-Ok-Refused.ensures.answer listed footprints from)) tt
+pub returns-in-Err-Fault-clause-answer : goal.returns-in-Err-Fault-clause-answer
+returns-in-Err-Fault-clause-answer c = λ listed footprints from.
+    rw c.in-Err-Fault.field-0-is (Err c.in-Err-Fault.fault, rw c.in-Err-Fault.field-0-is at (c.in-Err-Fault.ensures listed footprints from), refl)
