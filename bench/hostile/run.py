@@ -305,6 +305,12 @@ def shared_log(part):
     return {"makefile": entries("all", names) + rules, "listing": "", "footprints": "".join(json.dumps(it) + "\n" for it in lines)}
 
 
+def log_of_tasks(part):
+    """1,414 tasks that write one log, in no order."""
+    lines = ({"task": f"t{i}", "after": [], "reads": [], "writes": ["log"]} for i in range(int(1_414 * part)))
+    return {"tasks": "".join(json.dumps(it) + "\n" for it in lines)}
+
+
 def asked(command, make_input):
     """The same input, with another command."""
     return lambda part: {"command": command, **make_input(part)}
@@ -365,6 +371,7 @@ INPUTS = {
     "a log of 1,414 recipes, list": asked("list", shared_log),
     "a log of 1,414 recipes, missing": asked("missing", shared_log),
     "a log of 1,414 recipes, fix": asked("fix", shared_log),
+    "a log of 1,414 tasks, fix": asked("fix", log_of_tasks),
     "a million puts, 100,000 files": puts,
     "a file of 50 megabytes": large_file,
     "include lines of large values": lambda part: included(many("include a\n", 1_000 * part), {"a": ADD}, VALUES),
@@ -387,7 +394,6 @@ LINES = {
     "include lines of large texts": (5_000_000, 0.000002, 0.3),
     "a million pairs in order": (1_000_000, 0.000002, 0.07),
     "a log of 1,414 recipes, list": (998_991, 0.000002, 0.07),
-    "a log of 1,414 recipes, fix": (998_991, 0.000007, 2),
 }
 
 
