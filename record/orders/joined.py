@@ -38,5 +38,5 @@ def contested(graph: Graph, other: Graph) -> list[Pair]:
             made, shared, there = ({graph.recipe_of(number, label) for label in way.get(how, ()) if (number, label) in graph.at} for how in ("made", "shared", "found"))
             for late in sorted(made - there):  # guard: who-found-it-there
                 early = next((one for one in sorted(made | shared) if one != late and graph.is_free(one, late)), None)
-                found.update({(early, late): None} if early is not None else {})
+                found.update({(early, late): None} if early is not None else {})  # guard: who-looks-before-the-other-makes-it
     return list(found)

@@ -42,6 +42,7 @@ GUARDS: List[Guard] = [
     ),
     *guards("orders/joined.py",
         ("who-found-it-there", "for late in sorted(made):", "orders.Orders.folders_that_need_no_try"),
+        ("who-looks-before-the-other-makes-it", "found.update({(late, early): None} if early is not None else {})", "orders.Orders.case_folder_that_one_makes_by_p", UNSAID),
     ),
     *guards("orders/holding.py",
         ("ends-that-nobody-has-heard-of", "if self.held and self.stalled.is_so(root, self.held):", "holding.Looking.end_of_which_nobody_has_heard"),

@@ -30,6 +30,7 @@ CASES: Dict[str, Tuple[str, Dict[str, str], int, Tuple[str, ...]]] = {
     "build that fails": ("all: b/x u\nb/x: ; @mkdir -p b; echo x > b/x\nu: ; @cp src b/u && echo u > u\n", {"src": ""}, 1, ("  seen where u runs before b/x:", "    the build fails with status 2", "cp: ")),
     "folder that two make": ("all: a b\na b:\n\t@test -d d || mkdir d\n\t@echo > d/$@; echo > $@\n", {}, 1, (
         "RACE  d  (that the folder d is there)", "  seen where b runs beside a:", "    the build fails with status 2", "  fix: b: | a          (checked: ends this race)")),
+    "folder that one makes by p": ("all: a b\na:\n\t@test -d d || mkdir d\n\t@touch d/a a\nb: ; @mkdir -p d; touch d/b b\n", {}, 1, ("  seen where b runs beside a:", "    the build fails with status 2")),
     "folder that both make by p": ("all: a b\na b:\n\t@test -d d || mkdir -p d\n\t@echo > d/$@; echo > $@\n", {}, 0, ("in other orders left the same 5 files",)),
     "jobs alone": ("all: a b\na: ; @case \"$$MAKEFLAGS\" in *jobserver*) echo many > a ;; *) echo one > a ;; esac\nb: ; @echo b > b\n", {}, 1, (
         "RACE  with several jobs, whatever the order of recipes is:", "  a: line 1 is `many`, and `one` after a serial build")),
