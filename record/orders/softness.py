@@ -1,4 +1,4 @@
-"""Which conflicts of a record are soft: what the two meet on is no file, but an age, a list of a folder, who made it first, or what make keeps in mind."""
+"""Which conflicts of a record are soft: what the two meet on is no file, but an age, a list of a folder, who made it first, or what make keeps of folders from one target to the next."""
 
 from __future__ import annotations
 
