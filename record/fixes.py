@@ -145,16 +145,12 @@ def in_ninja(about: Dict[str, Any], race: Race, advice: str) -> Remedy:
 
 
 def without_line(about: Dict[str, Any], race: Race) -> str:
-    """What to do where no line orders two tasks: make itself looks for a name when it first considers a target, or one is a later rule with two
-    colons. Nothing where a line does."""
+    """What to do where no line orders two tasks: make itself looks at a target when it first considers that, or one is a later rule with two colons. Nothing
+    where a line does."""
     if any(own_look(about, race.path, one) for one in (race.first, race.second)):  # guard: no-line-orders-look-of-targets-own-rule
         return ONE_WRITER
-    lookers = [target(about, one) for one in (race.first, race.second) if about["labels"].get(one, {}).get("kind") == "first"]
-    if lookers and race.path not in lookers:
-        name = file_of(race.path) if about.get("meanings", {}).get(race.path) else race.path
-        return ("name %s in a rule, and a library not as -lNAME; where a recipe asks for it by $(wildcard ..), let the shell list it (ls): "
-                "make looks for it when it first considers the target, and keeps what it found" % name)
-    return ONE_WRITER if lookers else later_rule(about["labels"], race.first)
+    is_first = any(about["labels"].get(one, {}).get("kind") == "first" for one in (race.first, race.second))
+    return ONE_WRITER if is_first else later_rule(about["labels"], race.first)
 
 
 def later_rule(labels: Dict[str, Any], first: str) -> str:

@@ -163,13 +163,12 @@ def write_build(folder: Path, build: "Build", within: Optional[Dict[str, str]], 
             about.setdefault(label, {"target": "", "kind": "group", "file": "", "line": 0, "recipe": ""})
             edges += len(json.loads(line)["after"])
     meanings = {relative(root, p): shown(m.replace(" %s/" % root.rstrip("/"), " ")) for p, m in sorted(build.meanings.items())}  # with names as the paths have them  # guard: names-as-paths
-    askers = {relative(root, path): labels[at] if at >= 0 else "" for path, at in sorted(build.askers.items())}  # guard: ages-for-which-no-task-asks
     counts = {
         "considered": build.considered, "tasks": len(about), "edges": edges,
         "recipes": sum(1 for t in build.tasks if t.kind == "recipe"), "paths": sum(len(t.reads) + len(t.writes) for t in build.tasks),
     }
     text = {"tool": build.tool, "make": record.tools.get("make", ""), "folder": shown(root), "project": shown(record.folder), "top": shown(top_of(record.folder)), "words": shown(build.words), "round": build.stage, "within": within,
-            "span": [build.make.life.born, build.make.life.died], "counts": counts, "labels": about, "meanings": meanings, "askers": askers,
+            "span": [build.make.life.born, build.make.life.died], "counts": counts, "labels": about, "meanings": meanings,
             "looks": [[[labels[at] if at >= 0 else "" for at in sorted(some)] for some in look] for look in [*(({at}, who, who) for at, who in build.looks), *((by, by, who) for by, who in build.asked.values())]]}
     (folder / "build.json").write_text(json.dumps(text, indent=1, ensure_ascii=False) + "\n", encoding="utf-8")
 
@@ -179,7 +178,7 @@ def soft_leaves(build: "Build") -> Dict[int, List[str]]:
     found: Dict[int, Set[str]] = {}
     for task in build.tasks:
         found.setdefault(id(task.node), set()).update(task.leaves)
-    asking = {*build.askers.values(), *(at for at, _ in build.looks)}.union(*(by for by, _ in build.asked.values()))
+    asking = {at for at, _ in build.looks}.union(*(by for by, _ in build.asked.values()))
     soft = (at for at, task in enumerate(build.tasks) if task.listed or at in asking or any(map(OWN_NAME.search, task.reads | task.writes)))
     return {at: sorted(found[id(build.tasks[at].node)]) for at in soft}
 

@@ -29,22 +29,20 @@ FOLDER = Kind(
     "folder", "a folder that one makes or fills, and the other makes, fills or reads",
     "let the reader need the target of the writer, or give each a folder of its own",
 )
-TIME = Kind("compared-time", "two files whose ages a recipe or `make` compares", "let prerequisites order all recipes that write what is compared")
 PRINTED = Kind("order-of-output", "the order of what a make prints into a file", "let each recipe write a file of its own")
 AT_ONCE = Kind("one-recipe", "two processes of one recipe that run at once", "write `wait` between the two, or let one end before the other begins (`&&`)")
 LEFT = Kind("left-running", "a process that its recipe does not wait for", "let the recipe wait for it (`wait`), or start it in a recipe of its own that does")
 WIDE = Kind("wide-footprint", "a footprint that is too wide: a tree where a few files were meant", "write down the single files")
 
 # WIDE is advice for footprints that are written by hand: nothing in a race shows it, so no race is given this kind.
-KINDS = (FORGOTTEN, TWO, TEMPORARY, LOG, OUTPUT, ARCHIVE, FOLDER, TIME, PRINTED, AT_ONCE, LEFT, WIDE)
-# Names that stand for something else than a file: an age, or that a folder was made.
-OF_AGE = re.compile(r"(?:^|/)@(?:time|age)(?:/|$)")
+KINDS = (FORGOTTEN, TWO, TEMPORARY, LOG, OUTPUT, ARCHIVE, FOLDER, PRINTED, AT_ONCE, LEFT, WIDE)
+# Names that stand for something else than a file, as for who makes a folder.
 OF_OUTPUT = re.compile(r"(?:^|/)@output(?:/|$)")
-OF_FOLDER = re.compile(r"(?:^|/)@(?:make|seen|gone|mode|links)(?:/|$)")
+OF_FOLDER = re.compile(r"(?:^|/)@(?:make|seen|gone)(?:/|$)")
 
 
 def is_of_folder(path: str) -> bool:
-    """Whether a path is about a folder, and not about its time."""
+    """Whether a path is about a folder."""
     return bool(OF_FOLDER.search(path)) or path.endswith("/")
 
 
@@ -87,8 +85,6 @@ def kind_of(about: Dict[str, Any], race: Race) -> Kind:
     if any(about["labels"].get(it, {}).get("left") for it in (race.first, race.second)):
         return LEFT
     is_writing = race.first_does == race.second_does == "writes"
-    if OF_AGE.search(race.path):
-        return TIME
     if is_of_folder(race.path):
         return FOLDER
     if OF_OUTPUT.search(race.path):

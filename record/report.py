@@ -20,9 +20,8 @@ from record.build.text import OWN_NAME, file_of, shown
 SHOWN_BLOCKS, SHOWN_LINES, SHOWN_FILES, SHOWN_HOLES = 10, 3, 3, 20
 SHOWN_SIGNS = 80  # of an example
 WORDS = 100  # signs of a call
-LISTS, AGES = "\0lists", "\0ages"  # what several paths have in common
+LISTS = "\0lists"  # what several paths have in common
 UNJUDGED = "what the trace shows, and nobody can judge, does no harm: "
-NOBODY = "(what runs behind this make)"  # asks for an age, and is no recipe of it
 
 
 @dataclass
@@ -102,11 +101,9 @@ def who(about: Dict[str, Any], race: Race, label: str) -> str:
 
 
 def rows(about: Dict[str, Any], race: Race) -> List[str]:
-    """The two recipes of a race with their places and what they do, and who asks where only their ages count, in columns."""
+    """The two recipes of a race with their places and what they do, in columns."""
     found = [(who(about, race, race.first), place(about, race.first), verb(about, race.first, race.first_does, race.path)),
              (who(about, race, race.second), place(about, race.second), verb(about, race.second, race.second_does, race.path) + ", and nothing orders the two")]
-    asker = about.get("askers", {}).get(race.path)
-    found += [(target(about, asker) or NOBODY, place(about, asker), "may ask for it")] if asker is not None else []
     wide = [max(len(row[at]) for row in found) for at in (0, 1)]
     pool = pool_text(about["labels"], race.first, race.second)
     return ["  %s  %s  %s" % (row[0].ljust(wide[0]), row[1].ljust(wide[1]), row[2]) for row in found] + (["  " + pool] if pool else [])
@@ -158,12 +155,10 @@ def in_order(count: int, word: str) -> str:
 
 
 def group_of(about: Dict[str, Any], race: Race) -> Tuple[str, str]:
-    """What stands together: races of one kind by one writer, all that one task meets as it lists folders, and all ages for which one asks."""
+    """What stands together: races of one kind by one writer, and all that one task meets as it lists folders."""
     lister = [one for one, does in ((race.first, race.first_does), (race.second, race.second_does)) if does != "writes" and lists(about, one, race.path)]
     if lister:  # guard: lists-of-folders-stand-together
         return LISTS, lister[0]  # guard: lists-of-folders-stand-together-by-who-lists
-    if race.path in about.get("askers", {}):  # guard: ages-for-which-one-asks-stand-together
-        return AGES, about["askers"][race.path]
     return kind_of(about, race).name, race.first if race.first_does == "writes" else race.second
 
 
@@ -173,8 +168,6 @@ def more_text(about: Dict[str, Any], group: Tuple[str, str], races: List[Race]) 
     count = len(races) - 1
     if kind == LISTS:
         return "  and %d more on files in folders that %s lists: let it need what it lists, or write the names down" % (count, target(about, label))
-    if kind == AGES:
-        return "  and %d more by ages that %s may compare" % (count, target(about, label) or NOBODY)
     files = list(dict.fromkeys(name_of(about, race.path) for race in races))
     if len(files) == 1:
         return "  and %d more on this file by the same writer" % count

@@ -10,8 +10,8 @@ from record.cleaned import Cleaned
 from record.commands.shelltext import SHELLS
 from record.commands.system import OF_SYSTEM
 from record.make.graph import Graph, MakeBuild
-from record.make.inner import DEFAULTS
 from record.make.owners import Make
+from record.make.words import DEFAULTS
 from record.missing.footprints import is_below
 from record.ninja.runs import Ninja
 from record.trace.names import Names

@@ -14,7 +14,7 @@ from record.missing.report import Judged, Question
 from record.build.text import shown
 from record.kinds import KINDS
 from report.model import Race, Recipe, Report, Side
-from report.plain import asks, summary
+from report.plain import summary
 
 SCHEMA = "https://json.schemastore.org/sarif-2.1.0.json"
 
@@ -40,7 +40,7 @@ def race_object(race: Race, report: Report) -> dict[str, Any]:
     return {
         **standing(race.fingerprint, report), "kind": race.kind.name,
         "build": race.build, "path": race.shown, "name": race.name, "meaning": race.meaning,
-        "first": side(race.first), "second": side(race.second), "asker": place(race.asker) if race.asker else None,
+        "first": side(race.first), "second": side(race.second),
         "fix": "\n".join(race.fix), "note": race.note, "advice": race.remedy.advice,
     }
 
@@ -104,10 +104,9 @@ def location(recipe: Recipe, message: str, number: int | None = None) -> dict[st
 def result(race: Race, report: Report) -> dict[str, Any]:
     """One race as a result, at the recipe that has to wait; both recipes are related places, the one that runs first in front."""
     late, early = race.second, race.first
-    message = (f"{late.recipe.target} {late.does} {race.about}, {early.recipe.target} {early.does} it, and nothing orders the two.{asks(race)} "
+    message = (f"{late.recipe.target} {late.does} {race.about}, {early.recipe.target} {early.does} it, and nothing orders the two. "
                f"{race.to_do}")
-    related = [*((it.recipe, f"{it.recipe.target} {it.does} {race.about}") for it in (early, late)),
-               *([(race.asker, f"{race.asker.target} may ask for it")] if race.asker else [])]
+    related = [(it.recipe, f"{it.recipe.target} {it.does} {race.about}") for it in (early, late)]
     return {
         "ruleId": race.kind.name, "ruleIndex": [it.name for it in KINDS].index(race.kind.name), "level": "error",
         "message": {"text": message},
@@ -123,7 +122,7 @@ def issue(race: Race, report: Report) -> dict[str, Any]:
     """One race as an issue of code quality, as GitLab reads it."""
     late = race.second.recipe
     return {
-        "description": f"{late.target} and {race.first.recipe.target} both use {race.about}, and nothing orders the two.{asks(race)} {race.to_do}",
+        "description": f"{late.target} and {race.first.recipe.target} both use {race.about}, and nothing orders the two. {race.to_do}",
         "check_name": race.kind.name, "fingerprint": race.fingerprint, "severity": "major" if report.state(race.fingerprint) == "new" else "info",
         "location": {"path": late.file, "lines": {"begin": max(late.line, 1)}},
     }

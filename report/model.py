@@ -61,8 +61,8 @@ class Side:
 
 @dataclass(frozen=True)
 class Race:
-    """Two recipes that nothing orders, the path on which they meet, and what ends that. `rows` are both in words, and who asks where only ages
-    count; `is_needed`: the lines of other races do not end it; `is_fixed`: `race fix` found the build safe with all lines."""
+    """Two recipes that nothing orders, the path on which they meet, and what ends that. `rows` are both in words;
+    `is_needed`: the lines of other races do not end it; `is_fixed`: `race fix` found the build safe with all lines."""
 
     build: str
     path: str
@@ -72,7 +72,6 @@ class Race:
     meaning: str
     first: Side
     second: Side
-    asker: Recipe | None
     kind: Kind
     remedy: Remedy
     rows: tuple[str, ...]
@@ -286,11 +285,11 @@ class Build:
 
         early, late = (Side(self.recipe(it), does, others(self.after.get(it, [])), others(self.users.get(it, [])), verb(self.about, it, does, found.path))
                        for it, does in sides)
-        asker, meaning = (self.about.get(it, {}).get(found.path, "") for it in ("askers", "meanings"))
+        meaning = self.about.get("meanings", {}).get(found.path, "")
         sign = self.name(NUMBERS.sub("", found.path) if meaning else found.path)
         shown = name_of(self.about, found.path)
         return Race(self.number, found.path, sign, shown, self.name(shown), meaning, early, late,
-                    self.recipe(asker) if asker else None, kind_of(self.about, found), remedy(self.about, found), tuple(rows(self.about, found)), self.about.get("project", self.folder),
+                    kind_of(self.about, found), remedy(self.about, found), tuple(rows(self.about, found)), self.about.get("project", self.folder),
                     (self.number, *group_of(self.about, found)),
                     is_needed(verdict, found), verdict.is_fixed)
 

@@ -67,7 +67,7 @@ def figures(race: Race) -> str:
 
 def sides(race: Race) -> str:
     """Both recipes as a table. Its parts say what they are, since a narrow screen shows them as blocks."""
-    cells = [(it.recipe, it.verb) for it in (race.first, race.second)] + ([(race.asker, "may ask for it")] if race.asker else [])
+    cells = [(it.recipe, it.verb) for it in (race.first, race.second)]
     rows = "".join(f'<tr role="row"><th role="rowheader" scope="row">{escape(it.target)}</th>'
                    f'<td role="cell">{escape(it.place or "no place known")}</td><td role="cell">{verb}</td></tr>'
                    for it, verb in cells)

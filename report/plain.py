@@ -138,18 +138,13 @@ def missing_annotations(report: Report) -> list[str]:
     return lines + [annotation("error", "race: no verdict on missing inputs", it) for it in (report.missing.holes() if report.missing else ())]
 
 
-def asks(race: Race) -> str:
-    """Who asks for the ages of which a race is."""
-    return f" {race.asker.target} may ask for it: {race.asker.place or 'no place known'}." if race.asker else ""
-
-
 def github(report: Report) -> str:
     """An annotation for each race, at the recipe that has to wait; a warning for one that is known."""
     lines = []
     for race in report.races:
         late, early = race.second.recipe, race.first.recipe
         message = (f"{late.target} and {early.target} both use {race.about}, one of them writes it, and nothing orders the two. "
-                   f"{early.target}: {early.place or 'no place known'}.{asks(race)}\n{race.to_do}")
+                   f"{early.target}: {early.place or 'no place known'}.\n{race.to_do}")
         level = LEVELS[report.state(race.fingerprint)]
         lines.append(annotation(level, f"race on {race.shown}", message, late.file, late.line))
     lines += missing_annotations(report)

@@ -166,15 +166,17 @@ class Builder:
                         task.read_by_list(join(folder, name))  # guard: listings-see-what-is-created
             elif kind == FOLDER_ASKED:
                 folder, program = path.split("\0")[:2]
-                self.note_asked(at, folder, program, created)
+                self.note_asked(at, folder, set().union(*created.get(folder, {}).values()), program)
             elif kind == AGE_SEEN:
                 self.timed.setdefault(path, set())
 
-    def note_asked(self, at: int, folder: str, program: str, created: Dict[str, Dict[str, Set[int]]]) -> None:
-        """A task asks for the time, the size or the links of a folder in which another one makes or removes names."""
-        if any(self.build.unordered(at, other) for who in created.get(folder, {}).values() for other in who):  # guard: folders-that-nobody-changes
-            self.build.asked.setdefault(folder, (set(), set().union(*created[folder].values())))[0].add(at)
-            self.assumed.add("folders", "%s of %s in %s" % (program, folder, self.build.tasks[at].label))
+    def note_asked(self, at: int, path: str, others: Set[int], program: str) -> None:
+        """A task may see of a folder or file more than that it is there, as its time, its mode or its links, and others change that."""
+        if any(self.build.unordered(at, one) for one in others):  # guard: folders-that-nobody-changes
+            by, who = self.build.asked.setdefault(path, (set(), set()))
+            by.add(at)
+            who |= others
+            self.assumed.add("folders", "%s of %s in %s" % (program, path, self.build.tasks[at].label))
 
     def is_known(self, path: str) -> bool:
         """Whether the tree before the build says if a name was there."""

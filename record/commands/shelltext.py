@@ -4,7 +4,7 @@ import getopt
 import os
 import re
 from functools import lru_cache
-from typing import Iterable, List, Set, Tuple
+from typing import Iterable, List, Tuple
 
 from record import machine
 from record.commands.golang import output_folder
@@ -23,11 +23,8 @@ AGELESS = frozenset((
     " mktemp flock which cc gcc c++ g++ cpp clang clang++ cc1 cc1plus collect2 lto1 as ld ld.bfd ld.gold gold lld ar ranlib nm strip objcopy objdump").split())
 VERSIONED = re.compile(r"(?:[\w.]+-linux-gnu-)?([a-z+\[.][a-z0-9+.]*?)(?:-[\d.]+)?$")  # one with a machine or a version: `x86_64-linux-gnu-gcc-12` is `gcc`
 PROGRESS = ("cmake_progress_start", "cmake_progress_report", "cmake_echo_color")  # what `cmake -E` does to count what is built
-COMPRESSORS = ("gzip", "pigz", "bzip2", "xz", "lzma", "lzip", "zstd", "compress")  # they refuse a file that has two names; `tar` that unpacks counts none
-UNPACKS = re.compile(r"\S+(?: -C \S+| --\w[\w-]*=\S*)* (?:-?[vzjJapmko]*x[a-zA-Z]*|--extract|--get)(?: |$)")  # guard: tar-that-packs
 # Scripts that make folders for themselves, and what Perl's makefiles make folders by.
 MAKERS, EXTUTILS = ("install-sh", "mkinstalldirs", "libtool"), re.compile(r"-MExtUtils::Command -e mkpath$|-MExtUtils::Install -e pm_to_blib\(")
-PASSING = ("env", "nice", "ionice", "setsid", "timeout", "flock", "time", "stdbuf")  # they leave errors to who runs in their place  # guard: programs-that-hand-errors
 
 # Words of programs.
 NAMES_NEXT = re.compile(r"[-+]\w*[oO]\w*|--rcfile|--init-file")  # options of a shell whose value is the next word: `-euo pipefail`
@@ -44,9 +41,6 @@ SETS_OPTIONS = re.compile(r"\b(BASHOPTS|SHELLOPTS|BASH_FUNC_)|\bexport\s+-\w*f|\
 WORD = re.compile(r"[^\s;|&<>()'\"`]+")  # a text without a word may be long: each sign is looked at once  # guard: long-words-without-pattern
 MAGIC = re.compile(r"[*?\[]")  # what makes a word a pattern
 BRACKETS = re.compile(r"\[[!^]?\]?(?:\[[:.=][^\]]*[:.=]\]|[^\]/])*\]")  # one of several characters: `[a-z]`; what is quoted in it cuts a word
-DIRECTORY = r"(?:\"[^\"]*\"|'[^']*'|[^\s;|&<>()'\"`]+)"  # a word that names a folder, perhaps in quotes
-# What is thrown away (`2>/dev/null`), and errors that are not (`2>log`, `2>&1`): a folder that is there already is reported there.
-NOWHERE, KEPT_ERRORS = re.compile(r"(?:\b2\s*|&)?>>?\s*/dev/null(?:\s*2>&1)?"), re.compile(r"\b2\s*>|&>|>\s*&|\|&")
 REMOVES = re.compile(r"\s*rm\s[^;&|<>`$()\n]*$")  # a text that runs `rm` and nothing else
 
 
@@ -219,54 +213,6 @@ def is_on_the_way(folder: str, word: str) -> bool:
     return any(folder.endswith("/" + "/".join(parts[:count])) for count in range(1, len(parts) + 1))
 
 
-@lru_cache(KEPT)
-def quiet_folders(text: str, is_kept: bool = False) -> Set[str]:
-    """The folders that a shell's text makes in one of the quiet forms, as it spells them. `is_kept`: its errors are kept elsewhere."""
-    if "mkdir" not in text and "install" not in text:
-        return set()
-    quiet = r"(?:\s*(?:2\s*)?>\s*/dev/null|\s*2>&1)*"
-    ends, asked = r"\s*(?:;|&&|\n|$|\))", r"\s+-[de]\s+(?P<d>" + DIRECTORY + r")(?:\s+\])?" + quiet
-    made = r"(?:mkdir\s+-p|install\s+-d)\s+(?P<made>" + DIRECTORY + ")" + quiet
-    forms = (
-        r"mkdir\s+(?P<d>" + DIRECTORY + ")(?P<errors>" + quiet + r")\s*\|\|\s*(?:true|:|test\s+-d\s+(?P=d)|\[\s+-d\s+(?P=d)\s+\])" + quiet + ends,
-        r"(?:test|\[)" + asked + r"\s*\|\|\s*" + made + ends,
-        r"if\s+(?:(?:test|\[)\s+!|!\s+(?:test|\[))" + asked + r"\s*;\s*then\s+" + made + r"\s*;\s*fi" + ends,
-    )
-    begin = r"(?:^|[;\n({&]|\bthen|\bdo)\s*"
-    found = [m for form in forms for m in re.finditer(begin + form, text) if throws_away(m) or not (is_kept and "made" not in m.groupdict() or KEPT_ERRORS.search(NOWHERE.sub(" ", text)))]  # guard: errors-that-are-kept
-    return {s for m in found if makes_it(m) for s in spelled_by(m)}  # guard: one-that-is-made
-
-
-def is_excused(argv: List[str], folder: str, is_kept: bool = False) -> bool:
-    """Whether a shell's text makes a folder in one of the quiet forms, which do not show who was first."""
-    text = shell_text(argv)
-    if not any(folder.endswith("/" + s.lstrip("./")) for s in quiet_folders(text, is_kept)):
-        return False
-    looks, name = re.sub(r"\binstall\s+-d\b", "install", text), re.escape(os.path.basename(folder)) + r"(?![\w./-])"
-    return all(len(re.findall(begins + name, looks)) <= 1 for begins in (r"(?:-[defrwxs]\s+|\bls\s+|\bstat\s+)\S*", r"\bmkdir\s+(?!-p\b|--p)[^;&|\n]*?"))  # guard: twice-in-text
-
-
-def throws_away(form: "re.Match[str]") -> bool:
-    """Whether a quiet form throws the errors of `mkdir` away: `2>/dev/null`, or `>/dev/null 2>&1` in this order."""
-    output = errors = False
-    for word in re.findall(r"2>&1|2?>\s*/dev/null", form.groupdict().get("errors") or ""):
-        output, errors = output or word[0] == ">", output if "&" in word else errors or word[0] == "2"  # guard: errors-of-mkdir
-    return errors or "made" in form.groupdict() and "/dev/null" in form.group()
-
-
-def spelled_by(form: "re.Match[str]") -> List[str]:
-    """The folders that are there behind a quiet form: the one that it asks for, and those above where it makes them too."""
-    name = os.path.normpath(form.group("d").strip("'\""))
-    parts = name.split("/")
-    return [name] if "made" not in form.groupdict() else ["/".join(parts[:count]) for count in range(1, len(parts) + 1) if parts[count - 1] not in ("", ".", "..")]  # guard: those-above
-
-
-def makes_it(form: "re.Match[str]") -> bool:
-    """Whether a quiet form makes the folder that it asks for, or one below it."""
-    made = form.groupdict().get("made")
-    return made is None or (os.path.normpath(made.strip("'\"")) + "/").startswith(os.path.normpath(form.group("d").strip("'\"")) + "/")  # guard: one-below-it-is-made
-
-
 def is_ageless(argv: List[str]) -> bool:
     """Whether a program is known to go by no times."""
     match = VERSIONED.match(base_name(argv))
@@ -290,18 +236,6 @@ def contents(path: str) -> str:
         return text_of(path, LARGE)
     except OSError:
         return ""
-
-
-def looks_at_links(argv: List[str]) -> bool:
-    """Whether a process may depend on how many names a file or folder has."""
-    name, text = base_name(argv), " ".join(argv)
-    if name == "stat":
-        return "%h" in text or not re.search(r"-c|--format|--printf", text)
-    if name == "ls":
-        return bool(re.search(r"\s(-\w*[lnogs]|--(fo|fu))", text))  # guard: long-words
-    if name in ("find", "tar", "rsync", "cpio", *COMPRESSORS):  # guard: compressors
-        return bool(re.search(r"-links|-printf|-ls|-samefile", text)) if name == "find" else name != "tar" or not UNPACKS.match(text)  # guard: tar-that-unpacks
-    return is_interpreter(argv) and "stat" in text  # also in the text of `-c`  # guard: texts-of-interpreters-count
 
 
 def sets_options(argv: List[str], folder: str) -> bool:
@@ -331,19 +265,12 @@ def is_input(path: str, text: str) -> bool:
     return re.search(r"<\s*[^\s;|&<>()]*" + re.escape(os.path.basename(path)), text) is not None
 
 
-def hands_on(argv: List[str]) -> bool:
-    """Whether a program leaves the errors of what it starts to the place where its own go."""
-    text = shell_text(argv)
-    return not KEPT_ERRORS.search(NOWHERE.sub(" ", text)) if text else base_name(argv) in PASSING  # guard: errors-that-program-above-keeps
-
-
 class Traits:
     """What the words of a process say of all its looks, found once for the words."""
 
     def __init__(self, argv: List[str]) -> None:
         self.argv = argv
         self.makes_folders = maker_at(argv) >= 0 or output_folder(argv) != ""
-        self.looks_at_links = looks_at_links(argv)
         self.is_interpreter = is_interpreter(argv)
         self.is_ageless = is_ageless(argv)
         self.is_shell = base_name(argv) in SHELLS

@@ -4,17 +4,19 @@ import os
 import re
 from functools import lru_cache
 from itertools import chain
-from typing import Dict, Iterator, List, Set, Tuple
+from typing import Container, Dict, Iterator, List, Set, Tuple
 
 from record.build.builder import Builder
 from record.build.work import Work
 from record.commands import shelltext
+from record.make.database import Base
 from record.make.owners import Make, makes_of
 from record.make.targets import RoundBuilder
 from record.trace.events import AGE_SEEN, AGE_TAKEN, BY_LIST, READ, SEEN, WRITTEN
 from record.trace.lives import Life
 from record.trace.names import Names
 
+NEVER = 1 << 60
 PACKERS = ("tar", "bsdtar", "cpio", "pax", "zip")
 BY_LINKS = re.compile(r"(^| )-?[a-zA-Z]*L[a-zA-Z]*( |$)| --check-s")  # words of make: `-L`
 UPDATES = re.compile(r"-?[a-zA-Z]*u")  # the first word of `ar`, where it takes in newer files alone
@@ -22,7 +24,7 @@ UPDATES = re.compile(r"-?[a-zA-Z]*u")  # the first word of `ar`, where it takes 
 
 
 def add_ages(builder: RoundBuilder) -> None:
-    """Adds a name of its own for each two ages whose order depends on the schedule."""
+    """Finds who compares two ages whose order depends on the schedule."""
     build = builder.build
     note_sources(builder)
     for label, at in list(builder.of_node.items()):
@@ -33,7 +35,8 @@ def add_ages(builder: RoundBuilder) -> None:
         for path in names[1:]:
             compare(builder, at, names[0], path, node.name)
         for who, work in chain.from_iterable(works_of(builder, one) for one in (at, *build.tasks[at].parts)):
-            inner_ages(builder, who, work)  # guard: inner-makes
+            for first, second in compared_inside(builder, work):
+                compare(builder, who, first, second)  # guard: inner-makes
             looked_at_ages(builder, who, work)  # guard: looks-of-programs
             ages_in_archives(builder, who, work)  # guard: ages-by-ar
 
@@ -63,7 +66,7 @@ def note_sources(builder: Builder) -> None:
 
 def made_here(builder: Builder, names: Set[str]) -> Set[str]:
     """Those names whose ages the build settles."""
-    return {path for path in names if path in builder.build.writers or path in builder.timers or path in builder.askers.copies}  # guard: copies-of-archives
+    return {path for path in names if path in builder.build.writers or path in builder.timers or path in builder.askers.copies}
 
 
 def packs(life: Life) -> bool:
@@ -105,40 +108,43 @@ def writers_of(builder: Builder, path: str) -> Set[int]:
 
 
 def compare(builder: Builder, at: int, first: str, second: str, own: str = "") -> None:
-    """A task compares the ages of two names; what the rules of its own target write to the first make does not see."""
+    """A make or ninja in a task compares the ages of two names: other orders of those that settle it are to be tried. `at`: the task, -1 for one that is in
+    none. What the rules of its `own` target write to the first make does not see."""
     build = builder.build
     one, two = writers_of(builder, first), writers_of(builder, second)
     one = {a for a in one if not own or build.tasks[a].node.name != own}  # guard: age-that-make-saw-first
-    if not one or not two or first == second:
-        return
-    for a in one:
-        for b in two:
-            if at not in (a, b) and build.unordered(a, b):
-                settle(builder, at, first, second, *sorted((a, b)))
+    who = {both for a in one for b in two if at not in (a, b) and build.unordered(a, b) for both in (a, b)} if first != second else set()
+    if who:
+        build.looks.append((at, who))
+        builder.assumed.add("ages" if at >= 0 else "afterwards", "a make or ninja compares %s and %s" % (first, second))
 
 
-def settle(builder: Builder, at: int, first: str, second: str, low: int, high: int) -> None:
-    """Two tasks settle which of two names is newer, for which a third one asks, or, where `at` is -1, somebody who is no task."""
-    name = "%s/@age/%d/%d" % (first, low, high)
-    builder.build.tasks[low].writes.add(name)
-    builder.build.tasks[high].writes.add(name)
-    builder.build.meanings[name] = "which of %s and %s is newer" % (first, second)
-    builder.build.askers.setdefault(name, at)  # guard: who-asks-for-ages
+def compared(names: Names, make: Make) -> Iterator[Tuple[int, str, str, int]]:
+    """What a make compares: the number of its round, a target, a prerequisite, and when it first looked at the target, as far as that is known."""
+    for number, one in enumerate(make.words.rounds):
+        base, looks = one.base or Base(), make.first_looks.get(one.start, {})
+        paths = {name: age_paths(names, make, one.vpath.get(name, name)) for name in one.nodes}
+        for name, node in one.nodes.items():
+            plain = [n for n in node.prerequisites if n in paths and n not in base.order_only.get(name, ()) and n not in base.phony]  # guard: prerequisites-behind-bar
+            for target in paths[name] if plain and name not in base.phony else ():
+                yield from ((number, target, path, looks.get(name, NEVER)) for n in plain for path in paths[n])
 
 
-def inner_ages(builder: Builder, at: int, work: Work) -> None:
-    """The makes and ninjas of a recipe compare targets with their prerequisites."""
+def compared_inside(builder: Builder, work: Work) -> Iterator[Tuple[str, str]]:
+    """What the makes and ninjas of a recipe compare."""
     for ninja in work.ninjas:
-        for target, asked in ninja.compared():
-            first, second = (builder.names.find(ninja.folder, name, True).path for name in (target, asked))
-            compare(builder, at, first, second)
+        for first, second in ninja.compared():
+            yield builder.names.find(ninja.folder, first, True).path, builder.names.find(ninja.folder, second, True).path
     for make in makes_of(work):
-        for one in make.words.rounds:
-            paths = {n: age_paths(builder.names, make, one.vpath.get(n, n)) for n in one.nodes}
-            for name, node in one.nodes.items():
-                for path in (path for path in paths[name] if writers_of(builder, path)):
-                    for other in (other for prerequisite in node.prerequisites for other in paths[prerequisite]):
-                        compare(builder, at, path, other)
+        yield from ((target, path) for _, target, path, _ in compared(builder.names, make))
+
+
+def note_inner(builder: Builder, created: Container[str]) -> None:
+    """The folders whose ages makes and ninjas inside of a recipe compare. `created`: folders in which recipes make names."""
+    for at in range(len(builder.build.tasks)):
+        for who, work in works_of(builder, at):
+            for folder in (path for path in chain.from_iterable(compared_inside(builder, work)) if path in created or path in builder.made):  # guard: ages-of-folders
+                builder.timed.setdefault(folder, set()).add(who)
 
 
 @lru_cache(maxsize=None)

@@ -4,17 +4,15 @@ import bisect
 from typing import Dict, List, Set
 
 from record.build.tasks import Build, Node, Task, befores, drop_lonely, order_tasks, renumber
-from record.make.ages import add_ages
-from record.make.considered import Considered, is_row
+from record.make.ages import add_ages, note_inner
+from record.make.database import Base
 from record.make.elsewhere import add_elsewhere, find_askers
-from record.make.fixed import asked_ages, fixed_looks, remade_anyway, remembered, unasked_ages
 from record.make.folders import add_folders
-from record.make.inner import add_inner
 from record.make.locks import pass_locks
-from record.make.memory import libraries, place_listings, share_listings
+from record.make.memory import note_memory, place_listings
 from record.make.targets import RoundBuilder
 from record.make.unfiled import add_outputs
-from record.make.words import makefiles
+from record.make.words import LATER, Words, makefiles, numbers_of
 from record.trace.events import CREATED, MAKES, WRITTEN
 
 
@@ -29,7 +27,6 @@ class MakeBuilder(RoundBuilder):
         for node in self.graph.nodes.values():
             node.path = self.path_of(node.name)
         place_listings(self)
-        share_listings(self)
         self.make_recipes()
         self.note_writers()
         self.make_decisions()
@@ -69,12 +66,10 @@ class MakeBuilder(RoundBuilder):
 
     def make_decisions(self) -> None:
         """A target that somebody writes, or one of whose prerequisites is written, is looked at, recipe or not."""
-        self.ageless = unasked_ages(self)  # guard: targets-without-recipe
-        fixed = fixed_looks(self)
         for node in self.graph.nodes.values():
             own = self.of_node.get(node.label, -1)
             needed = self.looked_at(node, own) + self.followed(node, own)  # guard: what-stood-behind
-            if own < 0 and node.label not in fixed and any(self.is_written(p) for p in needed):  # guard: names-that-no-rule-makes
+            if own < 0 and any(self.is_written(p) for p in needed):  # guard: names-that-no-rule-makes
                 self.of_node[node.label] = self.add(node, "decision", node.label)
             elif own >= 0 and self.is_leaf(node):  # guard: looks-of-leaves
                 acts = self.acts_of(node)
@@ -87,24 +82,20 @@ class MakeBuilder(RoundBuilder):
         for node in self.graph.nodes.values():
             for one in node.prerequisites:
                 users.setdefault(one, []).append(node)
-        considered = Considered(self)
         for node in self.graph.nodes.values():
-            short, asked = libraries(self, node), considered.asked(node)
-            own = self.first_seen(node) if short or self.is_seen_early(node, users, considered.late) else []
-            if own or asked or considered.written(node):
+            if self.is_seen_early(node, users):
                 self.first_of[node.label] = self.add(node, "first", node.label + "@first")
-                self.build.tasks[-1].writes = considered.written(node)  # guard: what-they-write
-                self.asked[node.label] = {*own, *short, *asked}
+                self.asked[node.label] = {*self.first_seen(node)}
 
-    def is_seen_early(self, node: Node, users: Dict[str, List[Node]], late: Set[str]) -> bool:
+    def is_seen_early(self, node: Node, users: Dict[str, List[Node]]) -> bool:
         """Whether it makes a difference when make first looks at a target itself."""
-        if node.phony or node.rule or node.label in late or self.is_leaf(node):
+        if node.phony or node.rule or node.label in self.graph.late() or self.is_leaf(node):
             return False
         mine = {self.of_node.get(node.label, -1), self.look_of.get(node.label, -1)}
         others = [self.build.tasks[at].node for path in self.first_seen(node) for at in self.build.writers.get(path, set()) - mine]
         others = [o for o in others if o.name != node.name and node.name not in self.graph.base.also.get(o.name, [])]
         is_compared = (len(self.looked_at(u, self.of_node.get(u.label, -1))) > 1 for u in users.get(node.label, []))
-        return bool(others) and not remade_anyway(self, node, others) and (self.has_effect(node) or any(is_compared))  # guard: what-they-change
+        return bool(others) and (self.has_effect(node) or any(is_compared))  # guard: what-they-change
 
     def has_effect(self, node: Node) -> bool:
         """Whether a target has a recipe that is more than `:`."""
@@ -169,10 +160,10 @@ class MakeBuilder(RoundBuilder):
 
     def chain_looks(self, after: List[Set[int]]) -> None:
         """In its first pass make looks at leaves one after the other, before a recipe starts that it considers later."""
-        nodes, late = self.graph.nodes, self.graph.late()
+        nodes = self.graph.nodes
         looks = [(nodes[label].done, at) for label, at in self.look_of.items()]
         looks += [(nodes[label].done, at) for label, at in self.of_node.items() if self.build.tasks[at].kind == "decision" and self.is_leaf(nodes[label])]
-        looks += [(nodes[label].first, at) for label, at in self.first_of.items() if label not in late]  # guard: that-may-come-late
+        looks += [(nodes[label].first, at) for label, at in self.first_of.items()]
         looks.sort()
         for (_, first), (_, second) in zip(looks, looks[1:]):  # guard: chain-of-looks
             after[second].add(first)
@@ -201,7 +192,7 @@ class MakeBuilder(RoundBuilder):
     # ---------------------------------------------------------------- footprints
     def fill(self) -> None:
         """What each task reads and writes."""
-        build, created, asked = self.build, self.created(), asked_ages(self)
+        build, created, asked = self.build, self.created(), self.asked_ages()
         for label, at in self.of_node.items():
             task, node = build.tasks[at], self.graph.nodes[label]
             self.add_events(at, self.events(task), created)
@@ -214,7 +205,8 @@ class MakeBuilder(RoundBuilder):
                 self.add_events(at, self.events(task), created)
         for label, at in self.first_of.items():
             build.tasks[at].reads.update(self.asked[label])
-        add_inner(self, created)
+        note_inner(self, created)
+        note_memory(self, created)
         find_askers(self, created)
         add_outputs(self)
         add_folders(self)
@@ -225,13 +217,23 @@ class MakeBuilder(RoundBuilder):
         drop_lonely(self.build.tasks, {self.names.find(self.make.folder, name, True).path for name in makefiles(self.make.words)})
         self.note_late()
 
+    def asked_ages(self) -> Set[str]:
+        """The labels of targets with whose ages make compares those of others."""
+        return {one.label for node in self.graph.nodes.values() for one in self.deciding(node, self.of_node.get(node.label, -1))[1:]}
+
     def add_decision(self, looker: int, at: int, node: Node, is_asked: bool) -> None:
         """Make looks at a target and at its prerequisites. The age of a target alone counts where others ask for it."""
         task, writers = self.build.tasks[looker], self.build.writers
-        names, known = self.looked_at(node, at), remembered(self, node, at)
+        names = self.looked_at(node, at)
         for path in names:
-            if path in writers and path not in known and writers[path] - {at, looker}:  # guard: make-keeps-those-of-its-first-look
+            if path in writers and writers[path] - {at, looker}:
                 task.reads.add(path)
-            if len(names) > 1 or is_asked:  # guard: ages-that-nobody-asks
+            if len(names) > 1 or is_asked:
                 self.timed.setdefault(path, set()).add(looker)
         task.reads.update(path for path in self.followed(node, at) if writers.get(path, set()) - {at, looker})  # guard: they-are-read
+
+
+def is_row(base: Base, words: Words) -> bool:
+    """Whether a makefile says that its recipes run one at a time: from a version on `.NOTPARALLEL` with names is about these alone. Where make
+    has searched a rule for it, another target asks for it, and the data base does not show whether a makefile has a rule of its own."""
+    return base.serial and ".NOTPARALLEL" not in base.implicit and (numbers_of(words.version) < LATER or not base.prerequisites.get(".NOTPARALLEL"))  # guard: rows-of-some-targets

@@ -13,14 +13,12 @@ STEM = re.compile(r"^#  Implicit/static pattern stem: '(.*)'$")
 ORIGIN = re.compile(r"# (makefile|environment(?: under -e)?|command line|default|automatic|'override' directive)(?: private)?(?: \(from '(.*)', line (\d+)\))?$")
 VALUE = re.compile(r"^(" + NAME + r"*)(.*?) (?:=|:=|::=|:::=|\+=|\?=) ?(.*)$", re.A)  # its name up to a sign that names seldom have, and the rest of it  # guard: what-macro-of-target-gets
 LINES_TEXT = "$(lines)*"  # what stands for a macro of several lines
-BEGINS = r"[ \t]*(?:(?:override|export|private)[ \t]+)*define(?![\w.-])(?![ \t]*(?:[+?!]|:{1,3})?=)"  # a macro of several lines, and not one that is called so
 LEVEL = re.compile(r"(?!\t)[ \t]*(?:(define)|endef)(?=[ \t]|$)")  # behind a tab it is a line of a recipe, and another word in front hides it
 LINES = re.compile(r"^define (?![:+]?=)(" + NAME + r"*)(.*)", re.A)  # guard: macro-that-is-called-define
 PATTERN = re.compile(r"^([^#\t:=]*%[^:=]*)(::?)(?!=) *(.*)$")
 NO_TARGET = "# Not a target:"
 BEHIND = "# variable set hash-table stats:"  # what follows the last macro
 PARTS = ("# Directories", "# Implicit Rules", "# Files", "# files hash-table stats:")  # lines that it has once, where no macro has them too
-SEARCH = re.compile(r"^vpath (\S+) (.*)$", re.A)
 
 
 @dataclass
@@ -49,10 +47,8 @@ class Base:
     places: Dict[str, List[Tuple[str, int]]] = field(default_factory=dict)
     implicit: Set[str] = field(default_factory=set)
     failed: Set[str] = field(default_factory=set)  # what could not be made
-    unruled: Set[str] = field(default_factory=set)  # names that are no targets: prerequisites alone
     patterns: List[Tuple[List[str], List[str]]] = field(default_factory=list)
     terminal: Set[int] = field(default_factory=set)  # places of patterns with two colons
-    search: List[Tuple[str, List[str]]] = field(default_factory=list)  # patterns of names, and the folders in which make looks for them
     values: Dict[str, str] = field(default_factory=dict)  # the text of macros; `$(lines)*` for one of several lines
     bodies: Dict[str, List[str]] = field(default_factory=dict)  # by macro: its lines, and its values for single targets and patterns
     own: Set[str] = field(default_factory=set)  # macros of single targets and patterns
@@ -60,11 +56,6 @@ class Base:
     parts: List[str] = field(default_factory=list)  # which of its parts have begun
     is_unclear: bool = False  # a macro has lines that look like those of the data base
     is_open: bool = False  # its last macro of several lines has no end, and may hide all else
-
-    @cached_property
-    def found_beside(self) -> Set[str]:
-        """The other targets of rules that a search has found. Asked when all is read."""
-        return {other for one in self.implicit & self.also.keys() for other in self.also[one]}
 
     @cached_property
     def tails(self) -> List[Tuple[int, str, str]]:
@@ -142,7 +133,6 @@ class _Files:
         first, _, second = ((match.group(3) or "") + " ").partition("| ")
         if self.name == ".NOTPARALLEL" and not self.is_other:  # (as a prerequisite alone it says nothing)  # guard: no-target
             base.serial = True
-        base.unruled.update([self.name] if self.is_other else [])  # guard: names-that-no-rule-is-about
         base.prerequisites.setdefault(self.name, []).extend(cut(first))
         base.order_only.setdefault(self.name, set()).update(cut(second))
         if match.group(2) == "::":
@@ -229,15 +219,6 @@ def pattern_rule(base: Base, text: str) -> None:
         base.patterns.append((cut(pattern.group(1)), cut(pattern.group(3).replace("|", " "))))
 
 
-def behind_files(base: Base, text: str, previous: str) -> None:
-    """A line of the part that lists search paths: those of `vpath`, and that of `VPATH`."""
-    found = SEARCH.match(text)  # guard: patterns
-    if found:
-        base.search.append((found.group(1), found.group(2).split(":")))
-    elif previous.startswith("# General ('VPATH' variable) search path"):
-        base.search.append(("%", text[2:].split(":")))
-
-
 def read_base(lines: List[str]) -> Base:
     """What one data base says."""
     base = Base()
@@ -248,8 +229,8 @@ def read_base(lines: List[str]) -> Base:
             base.is_unclear |= text in base.parts  # guard: parts-that-come-twice
             base.parts.append(text)
         if behind:
-            behind_files(base, text, previous)
-        elif macros.depth:
+            continue
+        if macros.depth:
             macros.line(text, previous)
         elif text == PARTS[2]:  # guard: lines-that-begin-like-one-of-its-parts
             inside = True

@@ -11,15 +11,13 @@ from typing import Dict, Iterator, List, NamedTuple, Sequence, Set, Tuple
 
 from record.build.builder import Askers, Builder
 from record.build.work import Tool, Work
-from record.make.ages import age_paths, compare, looked_at_ages, takes_over, works_of
-from record.make.database import Base
+from record.make.ages import NEVER, compare, compared, looked_at_ages, takes_over, works_of
 from record.make.owners import Owners
 from record.trace.events import AGE_SEEN, AGE_TAKEN
 from record.trace.lives import Life
 from record.trace.names import Names
 
 AGES = AGE_SEEN + AGE_TAKEN
-NEVER = 1 << 60
 
 
 class Pair(NamedTuple):
@@ -53,13 +51,7 @@ class Elsewhere:
     def of_makes(self) -> Iterator[Tuple[str, Pair]]:
         """What makes compare."""
         for make in self.owners.makes:
-            for number, one in enumerate(make.words.rounds):
-                base, looks = one.base or Base(), make.first_looks.get(one.start, {})
-                paths = {name: age_paths(self.names, make, one.vpath.get(name, name)) for name in one.nodes}
-                for name, node in one.nodes.items():
-                    plain = [n for n in node.prerequisites if n in paths and n not in base.order_only.get(name, ()) and n not in base.phony]  # guard: prerequisites-behind-bar
-                    for target in paths[name] if plain and name not in base.phony else ():
-                        yield from ((target, Pair(make, number, path, looks.get(name, NEVER))) for n in plain for path in paths[n])
+            yield from ((target, Pair(make, number, path, place)) for number, target, path, place in compared(self.names, make))
 
     def of_ninjas(self) -> Iterator[Tuple[str, Pair]]:
         """What ninjas compare."""
@@ -76,7 +68,7 @@ class Elsewhere:
         begin = min((life.born for work in works for life in work.lives), default=0)
         groups = [[life for life in lives if id(life) not in own and life.died > begin] for lives in self.groups.values()]  # guard: programs
         copies = {path for lives in groups for life in lives for path, _ in takes_over(life)}
-        changed = {*builder.build.writers, *builder.made, *builder.created(), *copies}  # guard: copies
+        changed = {*builder.build.writers, *builder.made, *builder.created(), *copies}
         asked: Dict[str, List[Pair]] = {} if self.is_last(builder) else self.pairs  # guard: second-make
         pairs = [(target, one.prerequisite) for target in sorted(changed & asked.keys()) for one in asked[target]
                  if self.is_later(builder, one, own, begin) and not self.is_new(builder, target, one)]

@@ -1,4 +1,4 @@
-"""Folders that recipes make for themselves, and what is known of folders besides their names: times, modes, links.
+"""Folders that recipes make for themselves, and what else recipes may see of folders: times, modes, links.
 
 Quiet makers, which do not show who was first, do not conflict; each user needs one maker before it. A strict maker, a look at a
 folder that is not there yet, and a removal conflict with all that nothing orders.
@@ -6,28 +6,21 @@ folder that is not there yet, and a removal conflict with all that nothing order
 
 import fnmatch
 import os
-import re
 from dataclasses import dataclass, field
 from functools import lru_cache
-from typing import Dict, FrozenSet, List, NamedTuple, Set
+from typing import Dict, List, NamedTuple, Set
 
 from record.build.builder import Builder, Events
-from record.commands import shelltext
-from record.make.quiet import excused, makes_itself
 from record.trace.events import (
-    ABSENT, CHANGES, CREATED, ENTERED, FOLDER_KEPT, FOLDER_REMOVED, LINKS_CHANGED, LINKS_SEEN, LISTED, LOCKED, LOOKS, MADE_BEFORE,
+    ABSENT, CHANGES, CREATED, ENTERED, FOLDER_KEPT, FOLDER_REMOVED, LINKS_CHANGED, LISTED, LOCKED, LOOKS, MADE_BEFORE,
     MADE_QUIETLY, MAKER_SEEN, MAKES, MODE_CHANGED, MODE_GIVEN, READ, REMOVED, SEEN, STRICT, TIME_CHANGED, TREE_CHANGES, WRITTEN,
 )
-from record.trace.lives import Life
 
 
-
-NO_BITS: FrozenSet[int] = frozenset()  # of a task without processes
 NAME_ASKED = "s"  # a kind of event of this module alone: a decision of make asks for a name
 OWN_LOOKS = SEEN + NAME_ASKED + ABSENT  # at the folder's own name
 USES = SEEN + NAME_ASKED + READ + WRITTEN + ENTERED + LISTED  # what needs the folder
 TOUCHES = READ + SEEN + TREE_CHANGES + MADE_BEFORE + ENTERED + LISTED  # what needs the folders above a name
-SEARCH = 0o100  # without this bit of a folder nobody but root finds what is in it
 
 
 @dataclass
@@ -43,7 +36,6 @@ class Folder:
     absent: Set[int] = field(default_factory=set)
     users: Set[int] = field(default_factory=set)
     first_used: Dict[int, int] = field(default_factory=dict)  # task: when it first used a name below, other than one that is there
-    first_asked: Dict[int, int] = field(default_factory=dict)  # task: when it first made the folder, or asked for it
     scripts: Set[int] = field(default_factory=set)  # tasks with a script that makes it where it is not there
     first_made: Dict[int, int] = field(default_factory=dict)
     created: Set[int] = field(default_factory=set)
@@ -154,8 +146,6 @@ def note(folder: Folder, at: int, kind: str, place: int) -> None:
         folder.first_made[at] = min(place, folder.first_made.get(at, place))
     if kind in OWN_LOOKS:
         folder.looks[at] = min(place, folder.looks.get(at, place))
-    if kind in MADE_QUIETLY + STRICT + MAKER_SEEN + OWN_LOOKS:  # guard: asked-for-behind-their-use
-        folder.first_asked[at] = min(place, folder.first_asked.get(at, place))
 
 
 def add_folders(builder: Builder) -> None:
@@ -172,24 +162,15 @@ def add_folders(builder: Builder) -> None:
 def add_folder(builder: Builder, path: str, folder: Folder) -> None:
     """Names for who makes one folder first, for who sees whether it is there, for its mode, and for who removes it."""
     tasks = builder.build.tasks
-    if folder.created:
-        for at in folder.users | folder.absent | folder.scripts:
-            if at not in folder.strict | folder.quiet and (at in folder.scripts or excused(builder, at, path)):  # guard: test-d-mkdir
-                folder.quiet.add(at)
-                folder.first_made[at] = -1
-    for at in [at for at in folder.users | folder.absent | folder.quiet if makes_itself(builder, at, path)]:  # guard: rule-that-comes-late
+    for at in folder.scripts - folder.strict - folder.quiet if folder.created else ():
         folder.quiet.add(at)
         folder.first_made[at] = -1
-    for at in list(folder.strict):
-        if excused(builder, at, path):  # guard: mkdir-true
-            folder.strict.discard(at)
-            folder.quiet.add(at)
-            folder.looks.pop(at, None)
     makers = folder.strict | folder.quiet
     if was_there(builder, path) and not folder.gone:  # guard: there-before-build
         makers = set()
     note_makers(builder, path, folder, makers)
-    part_modes(builder, path, folder, makers)
+    if makers:
+        part_modes(builder, path, folder)
     for at in folder.strict & makers:  # guard: strict-makers-meet
         mark(builder, path + "/@make", "who makes the folder %s first" % path, makers - {at}, {at})
     for at in (folder.users | folder.absent) - makers:
@@ -223,38 +204,20 @@ def was_there(builder: Builder, path: str) -> bool:
     return builder.before.get(path) == "d" or path in builder.names.above
 
 
-def part_modes(builder: Builder, path: str, folder: Folder, makers: Set[int]) -> None:
+def part_modes(builder: Builder, path: str, folder: Folder) -> None:
     """Tasks that make a folder with other modes, or would do so where it is not there."""
-    name, meaning = path + "/@mode", "the mode of the folder " + path
-    for some in folder.modes.values() if makers else ():
-        for at in some:
-            apart(builder, name, meaning, at, set().union(*folder.modes.values()) - some)
-    found = makers.difference(*folder.modes.values())  # these would have made it by their own bits
-    own = {at: masks(builder, at, path) for at in (makers if found else ())}
-    others = {bits: {at for at in own if bits and own[at] not in (NO_BITS, bits)} for bits in set(own.values())}  # guard: modes-of-those-that-find
-    for at in found:
-        apart(builder, name, meaning, at, others[own[at]])
-
-
-def masks(builder: Builder, at: int, path: str) -> FrozenSet[int]:
-    """The bits without which the processes of a task make names: those that make a folder, else those that ask for it, else all."""
-    lives = [life for work in builder.build.tasks[at].judged for life in work.lives]
-    makers, lookers = ([life for life in lives if any((kind, path) in life.events for kind in kinds)] for kinds in (MAKER_SEEN + MADE_QUIETLY + STRICT, SEEN + ABSENT))
-    return frozenset(bits(life) for life in makers or lookers or lives)
-
-
-def bits(life: Life) -> int:
-    """The bits without which a process makes names; programs such as `install` take no bits away, and set the mode themselves."""
-    is_own = shelltext.base_name(life.argv) in shelltext.SHELLS or shelltext.is_interpreter(life.argv)
-    return life.mask if life.mask or is_own or life.parent is None else life.parent.mask  # guard: programs-that-take-no-bits-away
+    everyone = set().union(*folder.modes.values())
+    for some in folder.modes.values():
+        for at in some if everyone - some else ():
+            builder.note_asked(at, path, everyone - some, "the mode")
 
 
 def shows_first(builder: Builder, path: str, folder: Folder, at: int, makers: Set[int]) -> bool:
     """Whether a maker shows whether the folder was there: it looked first, or made the folder too late for itself."""
     look = folder.looks.get(at)
-    if look is not None and look < folder.first_made[at] and not excused(builder, at, path):  # guard: who-looked-before-it-made
+    if look is not None and look < folder.first_made[at]:  # guard: who-looked-before-it-made
         return True
-    return folder.first_used.get(at, 1 << 60) < folder.first_asked.get(at, 0) and not any(builder.build.is_before(m, at) for m in makers - {at})  # guard: made-behind-their-use
+    return folder.first_used.get(at, 1 << 60) < folder.first_made[at] and not any(builder.build.is_before(m, at) for m in makers - {at})  # guard: made-behind-their-use
 
 
 def seen(builder: Builder, path: str, at: int, makers: Set[int]) -> None:
@@ -316,50 +279,18 @@ def add_times(builder: Builder) -> None:
                 builder.timers.setdefault(where, set()).add(at)
     for where, changers in builder.timers.items():
         for at in wanted[where]:
-            apart(builder, where + "/@time", "the time of the folder " + where, at, changers - {at})
+            builder.note_asked(at, where, changers, "the time")
 
 
 def add_modes(builder: Builder) -> None:
-    """The mode of a folder, and how many folders are in it."""
-    table = each(builder)
-    modes = changed_modes(builder, table)
-    closed = {path for path, given in modes.items() if not all(mode and is_open(mode) for mode in given)}  # guard: folders-that-stay-open
-    links = {p for _, events in table for k, p, _ in events if k == LINKS_SEEN}
-    for at, events in table if modes else ():
-        for kind, path, _ in events:
-            path = path.partition("\0")[0]
-            if kind == MODE_CHANGED and path in modes:
-                mark(builder, path + "/@mode", "the mode of the folder " + path, set(), {at})
-            elif path in modes and kind in (SEEN, ENTERED, LISTED):
-                mark(builder, path + "/@mode", "", {at}, set())
-            elif os.path.dirname(path.rstrip("/")) in (modes if kind in CHANGES else closed if kind in LOOKS else ()):  # guard: modes-of-those-in-which-one-is-made
-                mark(builder, os.path.dirname(path.rstrip("/")) + "/@mode", "", {at}, set())
-    counted: Dict[str, Set[int]] = {}
-    for at, events in table if links else ():
-        for kind, path, _ in events:
-            if kind not in (LINKS_CHANGED, FOLDER_REMOVED) and not (kind == CREATED and path.endswith("/")):
-                continue
-            where = path if kind == LINKS_CHANGED else os.path.dirname(path.rstrip("/"))
-            if where in links:
-                counted.setdefault(where, set()).add(at)
-    for at, events in table if counted else ():
-        for kind, path, _ in events:
-            if kind == LINKS_SEEN and path in counted:  # guard: how-many
-                apart(builder, path + "/@links", "how many names %s has" % path, at, counted[path] - {at})
-
-
-def is_open(mode: str) -> bool:
-    """Whether who has a folder of this mode finds what is in it; an owner may stand behind the mode."""
-    number = mode.partition(" ")[0]
-    return bool(int(number, 8) & SEARCH) if re.fullmatch("-?[0-7]+", number) else False
-
-
-def changed_modes(builder: Builder, table: Events) -> Dict[str, Set[str]]:
-    """The folders whose mode a recipe changes, with the modes that it gives: to give one the mode that it was made with is no change."""
-    given: Dict[str, Set[str]] = {}
-    for kind, text in ((k, p) for _, events in table for k, p, _ in events if k == MODE_CHANGED):
-        path, _, mode = text.partition("\0")
-        given.setdefault(path, set()).add(mode)
-    made, known = gather(builder) if given else {}, builder.names.modes
-    first = {path: known.get(path, set()).union(made[path].modes if path in made else ()) for path in given}  # also those that a make above has made  # guard: modes-of-folders-that-make
-    return {path: modes for path, modes in given.items() if builder.names.before.get(path) == "d" or len(modes) > 1 or first[path] != modes}  # guard: modes-that-makers
+    """Who may see the mode of a folder, or how many names a file has, that others change."""
+    changed: Dict[str, Set[int]] = {}
+    for at, events in each(builder):
+        given = {text for kind, text, _ in events if kind == MODE_GIVEN}
+        for kind, text, _ in events:
+            if kind in MODE_CHANGED + LINKS_CHANGED and text not in given:  # guard: modes-that-makers-give
+                changed.setdefault(text.partition("\0")[0], set()).add(at)
+    for at, events in each(builder) if changed else ():
+        paths = {path.partition("\0")[0].rstrip("/") for kind, path, _ in events if kind in LOOKS + CHANGES + ENTERED + LISTED + MODE_GIVEN + MODE_CHANGED}
+        for path in sorted({*paths, *map(dirname, paths)} & changed.keys()):  # guard: modes-of-those-in-which-one-is-made
+            builder.note_asked(at, path, changed[path] - {at}, "the mode or the links")

@@ -42,7 +42,6 @@ class Make(Tool):
     first_looks: Dict[int, Dict[str, int]] = field(default_factory=dict)  # by start and target: when make first looked at it
     stale: Set[str] = field(default_factory=set)  # makefiles that say something else by now
     callers: Sequence[str] = ()  # the lines of the recipe that called it, as they stand in the makefile
-    pieces: List[Tuple[int, List[Tuple[str, str, int]]]] = field(default_factory=list)  # what it did by itself, where it expands prerequisites late
     left: List[Part] = field(default_factory=list)  # processes that its own calls leave running, as `$(shell a &)`
 
     @cached_property
@@ -88,10 +87,6 @@ class Make(Tool):
     def all_patterns_in(self, folder: str) -> List[str]:
         """The patterns of names for which it looked in a folder."""
         return self.fitting([*self.words.patterns, *self.asked_late], folder)
-
-    def patterns_in(self, folder: str) -> List[str]:
-        """The same, without those for which it looked while it read its makefiles."""
-        return self.fitting(self.asked_late, folder)
 
     @cached_property
     def asked_late(self) -> List[str]:
@@ -347,8 +342,6 @@ class Owners:
                 self.take(work, life)
                 pieces.append((life.born, [(k, p, s) for (k, p), s in work.events.items()], work))
         looks = make.first_looks[start] = self.first_looks(make, names, make.begin(start), end)
-        if any(r.base is not None and ".SECONDEXPANSION" in r.base.prerequisites for _, r in rounds):
-            make.pieces += [(place, events) for place, events, _ in pieces]
         for place, events, ran in pieces:
             at = bisect.bisect_right(births, place)
             before = make.words.rounds[table[at - 1][1]].jobs[table[at - 1][2] - 1] if at else None

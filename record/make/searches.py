@@ -44,7 +44,7 @@ def asked_by(base: Rules, name: str, depth: int) -> Set[str]:
     """The same, by the rules alone."""
     found: Set[str] = set()
     archive, opening, member = name.partition("(")
-    todo, level = [name, *([opening + member] if archive and member.endswith(")") else [])], 0  # guard: members-of-archives
+    todo, level = [name, *([opening + member] if archive and member.endswith(")") else [])], 0
     while todo and level < depth:
         steps = [one for each in todo for one in step(base, each, level == 0)]
         todo, level = list({name for name, is_last in steps if not is_last} - found), level + 1
@@ -59,18 +59,7 @@ def step(base: Rules, name: str, is_first: bool) -> Iterable[Tuple[str, bool]]:
     is_open = is_first and all(target == "%" for _, _, _, target in fits)
     for at, stem, folder, target in fits:
         if is_open or target != "%" or at in base.terminal:
-            yield from ((filled(one, stem, folder), at in base.terminal) for one in base.patterns[at][1])  # guard: names-without-stem
-
-
-def tried(base: Base, name: str, needs: Set[str]) -> Iterator[str]:
-    """The names that a search looks for up to the rule that it takes, the first one of which all prerequisites are among what the name needs: rules with
-    a shorter stem come first."""
-    fits = [(len(stem), at, stem, folder) for at, target, tail in base.tails if name.endswith(tail) for stem, folder in stems(target, name)]
-    for _, at, stem, folder in sorted(fits):
-        asked = [filled(one, stem, folder) for one in base.patterns[at][1]]
-        yield from asked
-        if asked and needs.issuperset(asked):
-            return
+            yield from ((filled(one, stem, folder), at in base.terminal) for one in base.patterns[at][1])
 
 
 def filled(word: str, stem: str, folder: str) -> str:

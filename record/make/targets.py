@@ -10,7 +10,6 @@ from record.make.database import Base
 from record.make.graph import Graph, MakeBuild
 from record.make.owners import Make
 from record.make.programs import are_inside
-from record.make.texts import Texts
 from record.make.words import LATER, numbers_of
 from record.trace.names import Names
 
@@ -26,9 +25,7 @@ class RoundBuilder(Builder):
         self.first_of: Dict[str, int] = {}
         self.listed = make.listed_in(self.graph.round.start)
         self.asked: Dict[str, Set[str]] = {}  # by label of a first look: the names that it is about
-        self.ageless: Set[str] = set()  # labels of targets by whose age nothing is remade
         self.began = -1
-        self.texts = Texts(make, self.graph.base)
         self.works_late = are_inside(self.graph.base, make.folder, names.tops)  # guard: what-make-does-when-recipe-starts
 
     def path_of(self, name: str) -> str:
@@ -40,7 +37,7 @@ class RoundBuilder(Builder):
     def deciding(self, node: Node, own: int) -> List[Node]:
         """The targets that decide whether a target is remade: none where it is phony; where it is absent, and nobody else
         writes it, it is remade whatever the ages of its prerequisites are."""
-        if node.phony or node.label in self.ageless:
+        if node.phony:
             return []
         return [node] + ([] if was_absent(self, node, own) else [self.graph.nodes[p] for p in self.plain(node)])  # guard: cold-targets-depend-on-no-age
 

@@ -2,7 +2,7 @@
 
 import re
 from functools import cached_property
-from typing import Dict, List, Optional, Set
+from typing import Dict, Optional, Set
 
 from record.make.database import Base
 from record.make.owners import Make
@@ -12,8 +12,6 @@ from record.make.words import makefiles
 EXPORTED = re.compile(r"(?m)^(?:[^\t\n#][^\n]*?:)??[ \t]*(?:(?:override|private)[ \t]+)*export\b([^\n]*)")
 ASSIGNS = re.compile(r"[ \t]*(?:(?:override|private)[ \t]+)*(?:define[ \t]+([\w.-]+)|([\w.-]+)[ \t]*(?:[+?!]|:{1,3})?=)")
 GIVEN = re.compile(r"(?:^|[ \t])([\w.-]+)(?:[+?!]|:{1,3})?=")  # a macro that the words of make set
-# A line of a makefile that is a rule: what stands behind its colon, up to a recipe on the same line.
-RULE = re.compile(r"(?m)^(?!\t)[^\n=#]*?:(?![:=])((?:[^\n;#=]*\\\n)*[^\n;#]*)")  # guard: not-those-that-recipes-link
 
 
 class Texts:
@@ -60,10 +58,3 @@ class Texts:
             sets = ASSIGNS.match(line)
             found |= {sets.group(1) or sets.group(2)} if sets else set(line.split())
         return found
-
-    @cached_property
-    def rule_words(self) -> Set[str]:
-        """The words behind the colons of rules, and in macros that are named there."""
-        text = "\n".join(found.group(1) for found in RULE.finditer(self.text))
-        texts: List[str] = [text, *map(self.text_of, self.reached(text))]  # guard: macros
-        return {word for one in texts for word in one.split()}

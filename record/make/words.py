@@ -21,6 +21,7 @@ FAILED = re.compile(r"^ *(?:Failed to remake|Giving up on) target file '(.*)'\.$
 # From this one on `$(shell ..)` gets exported macros, which make works out for it, and make expands all prerequisites a second time when it considers their
 # target, knows rows of some targets, looks for each name of which no rule is about and at all targets of a recipe, and reads folders anew when a command has ended.
 LATER = (4, 4)
+DEFAULTS = ("GNUmakefile", "makefile", "Makefile")  # the makefiles that make looks for where its words name none
 # Lines of which each word counts: one that is none of those above was not read as a whole.
 BROKEN = re.compile(r" *(?:Considering target file|Pruning file|Finished prerequisites of target file|Must remake target|Failed to remake target file|Giving up on target file) '"
                     r"(?!.*'\.$)|(?:Putting|Live|Reaping \w+|Removing) child 0x(?!.*PID \d)")
@@ -126,7 +127,7 @@ class Words:
     @property
     def kept_errors(self) -> str:
         """Where its errors go, and those of its recipes: `file`, `pipe`, or nothing."""
-        return self.output if self.is_joined else self.errors  # guard: errors-that-are-kept-with-output
+        return self.output if self.is_joined else self.errors
 
     def values(self) -> Dict[str, str]:
         """The macros of its data bases; one that differs between them may be anything."""

@@ -14,12 +14,11 @@ from typing import Dict, List, Optional, Set, Tuple
 from record.make.database import Base, cut, read_base
 from record.make.flags import LONG_WITH_WORD, cluster
 from record.make.owners import Make
-from record.make.words import makefiles
+from record.make.words import DEFAULTS, makefiles
 from record.commands.shelltext import first_words
 from record.watch.files import Start
 
 STOP = "race-record: the makefiles are read"
-DEFAULTS = ("GNUmakefile", "makefile", "Makefile")
 SECONDS = 120
 OF_CMAKE = "/compiler_depend.make"
 EXTRA = ".EXTRA_PREREQS"

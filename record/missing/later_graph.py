@@ -8,16 +8,14 @@ import glob
 import os
 import re
 from fnmatch import fnmatchcase
-from typing import Callable, Iterable, Iterator, List, Set, Tuple
+from typing import Callable, Dict, Iterable, Iterator, List, Set, Tuple
 
 from record.build.tasks import Node
 from record.make.asked import MAGIC
-from record.make.considered import is_deep
 from record.make.database import Base
 from record.make.graph import MakeBuild
 from record.make.texts import Texts
-from record.make.memory import filled
-from record.make.references import SECOND, matching, named, read_again, set_by_evals, with_functions
+from record.make.references import SECOND, matching, named, read_again, set_by_evals, with_functions, with_values
 from record.make.searches import filled as placed
 from record.make.searches import DEPTH, Searches
 from record.missing.later_base import phony_of
@@ -46,6 +44,17 @@ def hands_on(texts: List[str], new: Set[str]) -> bool:
             if any(fnmatchcase(name, one.replace("%", "*")) for name in new for one in found.group(1).split()):
                 return True  # guard: prerequisites-that-pattern-fits
     return any(ALL.search(FILTERED.sub("", text)) for text in texts)
+
+
+def with_target(text: str, target: str) -> str:
+    """A text of a target's recipe, with the target and its folder in their places."""
+    text = re.sub(r"\$[({]@D[)}]", lambda _: os.path.dirname(target) or ".", text)
+    return re.sub(r"\$(?:@|[({]@[)}])", lambda _: target, text)
+
+
+def filled(text: str, target: str, values: Dict[str, str]) -> str:
+    """The same, with the macros that have a value in their places too."""
+    return with_values(with_target(text, target), values)
 
 
 def in_order(first: List[str], second: List[str]) -> List[str]:
@@ -188,8 +197,8 @@ class Anew:
         return [name, *(os.path.join(folder, name) for folder in self.searched_folders() if not name.startswith("/"))]  # guard: searches-in-search-paths
 
     def by_other_files(self, node: Node) -> Set[str]:
-        """What the search for an implicit rule looks for by way of other files, and has not found."""
-        if not is_deep(self.first, node):
+        """What the search for an implicit rule looks for by way of other files, and has not found: it did where it found no rule, or one of those."""
+        if node.has_recipe and self.first.intermediate.isdisjoint(node.prerequisites):
             return set()
         found = self.searches.names(node.name, DEPTH) - self.searches.names(node.name, 1)
         return found - {*self.build.graph.round.nodes}

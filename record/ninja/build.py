@@ -7,10 +7,9 @@ from record.build.assumptions import Assumptions
 from record.build.builder import Builder
 from record.build.tasks import Build, Node, Task, befores, drop_lonely, order_tasks, renumber
 from record.build.work import Work
-from record.make.ages import ages_in_archives, inner_ages, looked_at_ages, note_sources
+from record.make.ages import ages_in_archives, compare, compared_inside, looked_at_ages, note_inner, note_sources
 from record.make.elsewhere import add_elsewhere, find_askers
 from record.make.folders import add_folders, apart, parents
-from record.make.inner import add_inner
 from record.make.locks import pass_locks
 from record.ninja.fix import owner_of
 from record.ninja.manifest import Edge
@@ -238,7 +237,7 @@ class NinjaBuilder(Builder):
         created = self.created()
         for at, task in enumerate(self.build.tasks):
             self.add_events(at, self.events(task), created)
-        add_inner(self, created)  # guard: names-that-are-searched
+        note_inner(self, created)  # guard: ages-of-folders-inside
         find_askers(self, created)
         self.add_logs()  # guard: its-log
         add_folders(self)
@@ -246,7 +245,8 @@ class NinjaBuilder(Builder):
         note_sources(self)
         for at, task in enumerate(self.build.tasks):
             for work in task.judged:
-                inner_ages(self, at, work)
+                for first, second in compared_inside(self, work):
+                    compare(self, at, first, second)
                 looked_at_ages(self, at, work)
                 ages_in_archives(self, at, work)
         add_elsewhere(self)
@@ -267,7 +267,7 @@ class NinjaBuilder(Builder):
                 self.timers.setdefault(folder, set()).update(makers)
             for at in sorted(ran):
                 for asked in (text.split("\0") for work in tasks[at].works for kind, text in work.events if kind == FOLDER_ASKED and is_new):
-                    self.note_asked(at, asked[0], asked[1], {folder: {name: makers}})  # guard: its-log-and-time-of-folder
+                    self.note_asked(at, folder, makers if asked[0] == folder else set(), asked[1])  # guard: its-log-and-time-of-folder
                 if any(kind in "RSNl" and found == path for work in tasks[at].works for kind, found in work.events):
                     apart(self, path + "/@output", "which commands stand in the log of ninja", at, ran - {at})
                 elif is_new and self.lists(at, path) and not any(self.build.is_before(maker, at) for maker in makers):  # guard: its-log-among-names

@@ -25,7 +25,6 @@ from dataclasses import dataclass, field
 from pathlib import Path
 from typing import ContextManager, Optional
 
-from record.commands.shelltext import PASSING
 from record.entry import forget_coerced, in_one_step
 from record.ninja.retry import with_jobs
 from record.orders.gate import Gate, Key
@@ -36,6 +35,7 @@ from record.trace.courses import Address
 from record.trace.names import mounts_below
 from record.watch.lay import BIND, LIBC, NAMES, Watch, leave, makes_of, mount
 
+PASSING = ("env", "nice", "ionice", "setsid", "timeout", "flock", "time", "stdbuf")  # programs that run what their words name
 MANY = 100  # jobs: so many recipes wait at the gate at once
 QUIET, TIMES = 20.0, 2.0  # a build hangs where nothing begins or ends for so many seconds, and so many times as long as the recorded one took
 ENDING = 2.0  # seconds that the output of a build has to come, when that has ended

@@ -118,15 +118,6 @@ class Graph:
         """The line of each task, by its build and label."""
         return {(number, row["task"]): row for number, rows in self.rows.items() for row in rows}
 
-    @cached_property
-    def askers(self) -> dict[tuple[str, str], set[str]]:
-        """By build and task that settles which of two names is newer: who asks for that. An empty label stands for who is no task of the build."""
-        found: dict[tuple[str, str], set[str]] = {}
-        for (number, label), row in self.row_of.items():
-            asked = self.builds[number]["askers"]
-            found[number, label] = {asked[path] for path in row["writes"] if path in asked}
-        return found
-
     def looked(self, after: Mapping[Key, set[Key]]) -> list[int]:
         """For each recipe the earlier ones whose order with it somebody may have seen, who looked at ages or at a folder. `after`: which waits for which besides."""
         found = [0] * len(self.tasks)

@@ -1,4 +1,4 @@
-"""Which conflicts of a record are soft: what the two meet on is no file, but an age, a list of a folder, who made it first, or what make keeps of folders from one target to the next."""
+"""Which conflicts of a record are soft: what the two meet on is no file, but a list of a folder, or who made it first; or make itself looks at a file there."""
 
 from __future__ import annotations
 
@@ -12,6 +12,7 @@ from record.orders.gate import Key
 from record.orders.graph import Graph, Pair
 
 HARD = "dyndep"  # what ninja reads of it orders others
+OF_MAKE = ("decision", "look", "first")  # tasks that are looks of make
 
 
 def is_soft(path: str) -> bool:
@@ -25,8 +26,8 @@ def hard_verdict(graph: Graph, number: str, race: str, room: Path) -> Verdict:
     build, text = graph.builds[number], room / "hard-tasks"
     with open(text, "w", encoding="utf-8") as file:
         for row in graph.rows[number]:
-            lists = build["labels"].get(row["task"], {}).get("lists", ())
-            reads = [path for path in row["reads"] if not is_soft(path) and path not in lists]
+            about = build["labels"].get(row["task"], {})
+            reads = [path for path in row["reads"] if not is_soft(path) and path not in about.get("lists", ()) and about.get("kind") not in OF_MAKE]  # guard: looks-of-make-are-soft
             file.write(json.dumps({**row, "reads": reads, "writes": [path for path in row["writes"] if not is_soft(path)]}) + "\n")
     return judge(race, text, build["folder"])
 

@@ -145,8 +145,8 @@ class Trial:
         self.pairs, self.cleared = ([pair for pair in some if not self.is_unseen(pair)] for some in (self.pairs, self.cleared))  # guard: what-is-not-compared-clears-nothing
 
     def is_unseen(self, pair: Pair) -> bool:
-        """Whether what two tasks, or who asks for what they settle, leave is not compared."""
-        return any(self.is_loose(number, {first, second} | self.graph.askers[number, first] & self.graph.askers[number, second]) for number, first, second in self.soft[pair])
+        """Whether what two tasks leave is not compared."""
+        return any(self.is_loose(number, {first, second}) for number, first, second in self.soft[pair])
 
     def is_loose(self, number: str, labels: set[str]) -> bool:
         """Whether two serial builds differ in what some tasks of a build leave, or perhaps in what somebody leaves who is no task."""

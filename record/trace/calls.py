@@ -14,7 +14,7 @@ from record.trace.arguments import TEXT_END, Opening, opening, spelled
 from record.trace.classes import COPIES, DOUBLES, LIMITS, NO_FILES, PAIRS, SHARING, SIGNALLED, SIGNALS, SLEEPS, WAITS, WRITES
 from record.trace.descriptors import CHANGING, OF_KERNEL, READING, requests
 from record.trace.events import (
-    ABSENT, AGE_SEEN, AGE_TAKEN, CREATED, ENTERED, FOLDER_ASKED, FOLDER_KEPT, FOLDER_REMOVED, HELD, LINKS_CHANGED, LINKS_SEEN, LISTED, MADE,
+    ABSENT, AGE_SEEN, AGE_TAKEN, CREATED, ENTERED, FOLDER_ASKED, FOLDER_KEPT, FOLDER_REMOVED, HELD, LINKS_CHANGED, LISTED, MADE,
     MADE_BEFORE, MADE_QUIETLY, MAKE_LISTED, MODE_CHANGED, MODE_GIVEN, READ, REFUSED, REMOVED, SEEN, TIME_CHANGED,
 )
 from record.trace.findwords import find_patterns
@@ -111,8 +111,6 @@ class Calls(Started):
         plain = path if call.name == "stat" or (call.name == "newfstatat" and follow and not path.startswith("/")) else ""
         link = call.name.startswith("readlink") and ok
         found = self.look(life, path, ok or call.error == "EINVAL", follow, READ if link else SEEN, base, plain)
-        if life.traits().looks_at_links:
-            self.put(life, LINKS_SEEN, found.path)
         is_folder = found.inode is not None and found.inode.kind == "d"
         if "access" not in call.name and "readlink" not in call.name and not (is_folder and self.is_own(life, path, found)):  # guard: folders-for-what
             self.note_times(life, found.path, is_folder)
@@ -254,8 +252,6 @@ class Calls(Started):
             return self.open_by_make(life, found.path)
         self.put_look(life, found, True, SEEN if is_folder else READ)
         traits = life.traits()
-        if traits.looks_at_links:
-            self.put(life, LINKS_SEEN, found.path)
         if is_folder or life.is_query:
             return
         if life.is_make:
@@ -309,7 +305,6 @@ class Calls(Started):
             mode = MODE.search(call.args)
             given = self.given_by(life, found.path) or "%o" % (int(mode.group(1), 8) & ~life.mask if mode else -1)
             self.put(life, MODE_GIVEN, found.path + "\0" + given)  # guard: modes-of-several-makers
-            self.names.modes.setdefault(found.path, set()).add(given)
         else:
             self.look(life, path, False, False, base=base)
             if found.missing:

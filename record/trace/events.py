@@ -11,7 +11,6 @@ BY_LIST = "l"  # the same, and the process had listed the folder: the list has s
 ABSENT = "N"  # nothing was there; or a name could not be made, since its folder was absent
 WAY_ABSENT = "P"  # a folder on the way was absent
 ENTERED = "U"  # a folder was entered
-LINKS_SEEN = "h"  # who looked may count its names
 AGE_SEEN = "A"  # who looked sees its age, and may go by it
 FOLDER_ASKED = "g"  # who looked sees a folder's time, its size and the number of its links: FOLDER\0PROGRAM; with one more zero byte by a descriptor
 MAKER_SEEN = "K"  # a script looked at a folder that it makes for itself

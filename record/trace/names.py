@@ -105,7 +105,6 @@ class Names:
         self.above = {"/tmp", "/var/tmp"}  # folders that are there before the build: those of the system, and those above the tops  # guard: those-of-system
         self.links: Set[str] = set()  # names that were links at some time
         self.absent: Set[str] = set()  # names outside of the walked folders that were not there
-        self.modes: Dict[str, Set[str]] = {}  # folders that were made: with which modes
         self.numbers: Dict[Tuple[int, int], str] = {}  # folders that were walked, by device and number
         self.twice: List[Tuple[str, str]] = []  # folders with two names, as far as numbers say so
         self.long: List[str] = []  # folders in which a path is longer than the kernel takes

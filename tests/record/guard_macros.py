@@ -2,7 +2,7 @@
 
 from typing import List
 
-from guard import FALSE_RACE, UNSAID, YES, Guard, guards
+from guard import FALSE_RACE, YES, Guard, guards
 
 GUARDS: List[Guard] = [
     *guards("make/asked.py",
@@ -23,7 +23,5 @@ GUARDS: List[Guard] = [
     ),
     *guards("make/texts.py",
         ("names-that-are-put-together", "known = {*todo}", "texts.Makefiles.what_a_recipe_reaches"),
-        ("not-those-that-recipes-link", r'RULE = re.compile(r"(?m)^(?!\t)[^\n=#]*?:(?![:=])((?:[^\n#=]*\\\n)*[^\n#]*)")', "texts.Makefiles.words_of_rules"),
-        ("macros", "texts: List[str] = [text]", "texts.Makefiles.words_of_rules"),
     ),
 ]

@@ -24,7 +24,7 @@ GUARDS: List[Guard] = [
         ("looks-for-inputs-that-dyndep-file-adds", "pass", "ninja.Ninja.dyndep_input_of_nobody", YES),
         ("its-folders-are-made-quietly", 'work.add("M", above, place)', "ninja.Ninja.folder_of_outputs", WITHHELD),
         ("folder-of-no-statement", 'str("ninja made the folder %s, and no statement needs it" % path)', "ninja_runs.Holes.folder_that_no_statement_needs"),
-        ("names-that-are-searched", "pass", "ninja.Ninja.search_of_a_make_inside", YES),
+        ("ages-of-folders-inside", "pass", "ninja.Ninja.age_of_a_folder_inside", YES),
         ("its-log", "pass", "ninja_runs.Makefiles.log_of_ninja", YES),
         ("outputs-that-dyndep-file-adds", "pass", "ninja.Ninja.dyndep_output_of_another_file", YES),
         ("ninja", "pass", "locks.Others.ninja", FALSE_RACE),

@@ -2,7 +2,7 @@
 
 from typing import List
 
-from guard import UNSAID, YES, Guard, guards
+from guard import FALSE_RACE, UNSAID, YES, Guard, guards
 
 GUARDS: List[Guard] = [
     *guards("orders/exploring.py",
@@ -18,6 +18,8 @@ GUARDS: List[Guard] = [
         ("folders-of-their-own", "pass", "orders.Orders.what_copies_write_elsewhere"),
     ),
     *guards("orders/softness.py",
+        ("looks-of-make-are-soft", "reads = [path for path in row[\"reads\"] if not is_soft(path) and path not in about.get(\"lists\", ())]",
+         "make_build.Makefiles.prerequisite_that_is_written_later", FALSE_RACE),
         ("what-tool-does-itself", "if (one.first, one.second) not in known and first != second:", "orders.Orders.folder_that_ninja_makes_before_a_recipe_begins", YES),
     ),
     *guards("orders/trial.py",

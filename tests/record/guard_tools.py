@@ -2,7 +2,7 @@
 
 from typing import List
 
-from guard import FALSE_RACE, UNSAID, YES, Guard, guards
+from guard import YES, Guard, guards
 
 GUARDS: List[Guard] = [
     *guards("tools/caches.py",

@@ -2,15 +2,13 @@
 
 from typing import List
 
-from guard import FALSE_RACE, LOST_HOLE, WITHHELD, YES, Guard, guards
+from guard import LOST_HOLE, WITHHELD, YES, Guard, guards
 
 GUARDS: List[Guard] = [
     *guards("make/words.py",
         ("targets-that-were-given-up-for-makefile", r"""FAILED = re.compile(r"^ *(?:Failed to remake) target file '(.*)'\.$")""", "words.Makefiles.target_that_is_given_up_for_a_makefile", LOST_HOLE),
         ("each-time", "return found ", "words.Copies.one_for_each_time"),
         ("recipes-that-look", "self.words.patterns.append(pattern)", "words.Patterns.who_looks"),
-        ("errors-that-are-kept-with-output", "return self.errors", "words.Makefiles.folder_made_or_true_in_a_make_with_errors", YES),
-        ("errors-that-are-kept-with-output", "return self.errors or self.output", "words.Makefiles.folder_made_or_true_in_a_make_with_output", FALSE_RACE),
         ("recipe-that-goes-on-in-next-round", "self.stack, self.children = [], {}", "words.Several.recipe_that_goes_on_in_the_next_round"),
         ("jobs-of-one-number-in-order", "if pid not in self.words.jobs:", "owners.Holes.number_of_two_jobs"),
         ("not-whole-hole", "elif False:", "words.Lines.a_line_that_is_not_whole_is_a_hole"),

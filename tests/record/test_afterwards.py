@@ -15,22 +15,21 @@ NEXT = "all: y\ny: %s ; echo ran >> log; touch y\n"
 OUTER = "all:\n\t$(MAKE) -f 1.mk\n\t%s\n.PHONY: all\n"
 TWO = "all: r2\nr2: r1 ; %s && touch r2\nr1: ; $(MAKE) -f 1.mk && touch r1\n"
 NINJA = "rule g\n  command = echo ran >> log; touch $out\n  generator = 1\nbuild y: g x\n"
-SAYS = "which of y and x is newer"
 ASSUMED = "who looks at two files when the build that made them has ended"
 PYTHON = {"look.py": "import os\nprint(os.stat('x').st_size, os.stat('y').st_size)\n"}
 
 AFTERWARDS: Dict[str, Small] = {
     # another make or ninja
-    "make_in_the_same_recipe": Small("race", OUTER % "$(MAKE) -f 2.mk", {"1.mk": FIRST, "2.mk": NEXT % "x"}, says=SAYS),
+    "make_in_the_same_recipe": Small("race", OUTER % "$(MAKE) -f 2.mk", {"1.mk": FIRST, "2.mk": NEXT % "x"}, is_tried=True),
     "make_in_the_same_recipe_ordered": Small("safe", OUTER % "$(MAKE) -f 2.mk", {"1.mk": ROW, "2.mk": NEXT % "x"}),
-    "make_in_a_later_recipe": Small("race", TWO % "$(MAKE) -f 2.mk", {"1.mk": FIRST, "2.mk": NEXT % "x"}, says=SAYS),
+    "make_in_a_later_recipe": Small("race", TWO % "$(MAKE) -f 2.mk", {"1.mk": FIRST, "2.mk": NEXT % "x"}, is_tried=True),
     "make_that_compares_no_age": Small("safe", TWO % "$(MAKE) -f 2.mk", {"1.mk": FIRST, "2.mk": NEXT % "| x"}),
-    "make_whose_target_has_no_recipe": Small("race", TWO % "$(MAKE) -f 2.mk", {"1.mk": FIRST, "2.mk": "all: z\nz: y ; echo ran >> log; touch z\ny: x\n"}, says=SAYS),
+    "make_whose_target_has_no_recipe": Small("safe", TWO % "$(MAKE) -f 2.mk", {"1.mk": FIRST, "2.mk": "all: z\nz: y ; echo ran >> log; touch z\ny: x\n"}, says="who looks at two files"),
     "make_of_phony_targets": Small("safe", TWO % "$(MAKE) -f 2.mk", {"1.mk": FIRST, "2.mk": "all: y\n.PHONY: x y\n" + NEXT.partition("\n")[2] % "x"}),
-    "make_of_a_script": Small("race", FIRST, {"2.mk": NEXT % "x"}, says="  (what runs behind this make)  -           may ask for it"),
+    "make_of_a_script": Small("race", FIRST, {"2.mk": NEXT % "x"}, is_tried=True),
     "make_that_came_first": Small("safe", FIRST, {"1.mk": "all: w\nw: ; touch w\n"}),
-    "makefile_that_is_remade": Small("race", "all: y\ninclude inc\ninc: | x y ; echo 'y: x' > inc\nx: ; touch x\ny: ; sleep 1; touch y\n", says=SAYS),
-    "age_of_a_folder": Small("race", TWO % "$(MAKE) -f 2.mk", {"1.mk": "all: x y\nx: ; touch d/x\ny: ; sleep 1; touch y\n", "2.mk": NEXT % "d", "d/k": ""}, says="which of y and d is newer"),
+    "makefile_that_is_remade": Small("safe", "all: y\ninclude inc\ninc: | x y ; echo 'y: x' > inc\nx: ; touch x\ny: ; sleep 1; touch y\n", says="who looks at two files"),
+    "age_of_a_folder": Small("race", TWO % "$(MAKE) -f 2.mk", {"1.mk": "all: x y\nx: ; touch d/x\ny: ; sleep 1; touch y\n", "2.mk": NEXT % "d", "d/k": ""}, is_tried=True),
     # programs
     "test_in_the_same_recipe": Small("safe", OUTER % "if test y -nt x; then touch log; fi", {"1.mk": FIRST}, says=ASSUMED),
     "test_in_the_same_recipe_ordered": Small("safe", OUTER % "if test y -nt x; then touch log; fi", {"1.mk": ROW}),
@@ -43,7 +42,7 @@ AFTERWARDS: Dict[str, Small] = {
     "query": Small("safe", FIRST, says=ASSUMED),
 }
 OF_NINJA: Dict[str, Small] = {
-    "ninja_of_a_script": Small("race", FIRST, {"build.ninja": NINJA}, says=SAYS),
+    "ninja_of_a_script": Small("race", FIRST, {"build.ninja": NINJA}, is_tried=True),
     "ninja_of_a_script_ordered": Small("safe", ROW, {"build.ninja": NINJA}),
 }
 COMMANDS.update({

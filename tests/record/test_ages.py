@@ -22,16 +22,19 @@ MAKES = {"y.mk": "y/x: z ; @echo made > made\n"}
 
 
 Makefiles = makefiles(__name__, {
+    "age_of_a_folder_in_a_make_inside": Small("safe", "all: in gen\ngen: ; echo n > d/n; touch gen\nin: ; $(MAKE) -f in.mk; touch in\n", {"d/k": "k", "t": "t", "in.mk": "t: d ; touch t log\n"}, "touch -d 2001-01-01 d; touch -d 2002-01-01 t", says="programs that look at a folder"),
+    "age_of_a_folder_behind_a_bar_inside": Small("safe", "all: in gen\ngen: ; echo n > d/n; touch gen\nin: ; $(MAKE) -f in.mk; touch in\n", {"d/k": "k", "t": "t", "in.mk": "t: | d ; touch t log\n"}, "touch -d 2001-01-01 d; touch -d 2002-01-01 t", lacks="programs that look at a folder"),
+    "age_of_a_folder_for_a_new_target_inside": Small("safe", "all: in gen\ngen: ; echo n > d/n; touch gen\nin: ; $(MAKE) -f in.mk; touch in\n", {"d/k": "k", "in.mk": "t: d ; touch t log\n"}),
     # ages of files that somebody else has opened
     "age_of_standard_input_by_its_name": Small("safe", PAIR % "find -L b -newer /dev/stdin < a > c", says=LOOKS),
     "age_that_touch_takes_of_standard_input": Small("safe", "all: d\na: ; touch a\nb: ; touch b\nc: a b ; touch c; touch -r /dev/stdin c < a\nd: c ; test c -nt b; touch d\n", says=LOOKS),
     "input_beside_ages": Small("safe", PAIR % "find b -newer k < a > c", {"k": "k"}),
     "age_that_touch_takes_of_a_text": Small("safe", "all: d\na: ; touch a\nb: ; touch b\nc: a b ; touch -d \"`stat -c %y a`\" c\nd: c ; test c -nt b || true; touch d\n", says=LOOKS),
     # ages that a shell compares by commands that do not stand in its text
-    "ages_by_ar": Small("race", "all: c\nl.a: ; touch x; ar rcU l.a x; rm x\nb: ; touch b\nc: l.a b ; mv b x; ar ruU l.a x; touch c\n"),
+    "ages_by_ar": Small("safe", "all: c\nl.a: ; touch x; ar rcU l.a x; rm x\nb: ; touch b\nc: l.a b ; mv b x; ar ruU l.a x; touch c\n", says="who looks at two files"),
     "ages_by_ar_in_a_folder": Small("safe", "all: c\n\ttest d -nt in.mk || true\nd/x: l/d/f; cat l/d/f > $@\nd/y: ; touch $@\nc: d/x d/y ; (test -e d && cd d && exec ar cru ../l.a x y 2> ../c)\n", {"e/f": "f", "d/k": "k", "l/k": "k"},
-                                    "ln -s ../e l/d"),
-    "ages_by_ar_of_new_members": Small("safe", "all: c\nx y z: ; touch $@\nl.a: x ; ar cru l.a x 2> /dev/null\nc: l.a y z ; ar ru l.a y z 2> /dev/null; touch c\n"),
+                                    "ln -s ../e l/d", lacks="who looks at two files"),
+    "ages_by_ar_of_new_members": Small("safe", "all: c\nx y z: ; touch $@\nl.a: x ; ar cru l.a x 2> /dev/null\nc: l.a y z ; ar ru l.a y z 2> /dev/null; touch c\n", lacks="who looks at two files"),
     # ages
     "ages_for_which_a_recipe_asks": Small("safe", SIDE % "test x -nt y", says=LOOKS),
     # archives that go through a pipe
@@ -41,7 +44,7 @@ Makefiles = makefiles(__name__, {
     "ages_of_an_archive_in_a_later_recipe_in_order": Small("safe", AGES % ("a", "rm y/x; tar cf - x | cat > t", "tar xf t -C y; " + NEWER)),
     "age_of_a_folder_that_is_copied_through_a_pipe": Small("safe", FOLDER % "", says=LOOKS),
     "age_of_a_folder_that_is_copied_through_a_pipe_in_order": Small("safe", FOLDER % "a"),
-    "ages_of_an_archive_that_a_make_compares": Small("race", AGES % ("", ARCHIVES["compressed_by_another_program"], "$(MAKE) -f y.mk; touch d"), MAKES, says="is newer)"),
+    "ages_of_an_archive_that_a_make_compares": Small("safe", AGES % ("", ARCHIVES["compressed_by_another_program"], "$(MAKE) -f y.mk; touch d"), MAKES, says="who looks at two files"),
     "newer_files_through_a_pipe": Small("safe", AGES % ("", KEEPS, "cp y/x d"), says=LOOKS),
     "newer_files_through_a_pipe_in_order": Small("safe", AGES % ("a", KEEPS, "cp y/x d")),
     "newer_files_for_an_archive": Small("safe", UPDATES % "", says=LOOKS),

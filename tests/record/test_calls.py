@@ -10,7 +10,7 @@ import support
 from record.trace.sifting import Skip
 from test_courses import RUN
 from test_replay import TOP, events_of, lives_of, played
-from test_small import LOOKS, Small, makefiles
+from test_small import Small, makefiles
 
 SOCKET = "import socket\nsocket.socket(socket.AF_UNIX).connect_ex('\\0race-test')\n"
 ABSENT = "all: u a\nu: ; %s 2> /dev/null || echo no > u; touch u\na: ; mkdir d; touch a\n"
@@ -36,8 +36,6 @@ int main(void) {
 # A recipe that runs something in a folder, and another one that makes a name there.
 HERE = "all: a b\na: ; cd d && %s > ../a\nb: ; touch d/x b\n"
 IN_FOLDER = {"t": "if [ . -nt s ]; then echo newer; fi\n", "d/s": ""}
-# What a script of bash begins with, so that nobody reads all of its text.
-GETS = 'eval "$(echo x=1)"\n'
 DEEP = "for f in */*/*.c; do echo $f; done\n"
 # A recipe that runs a script, or a text, beside one that makes a name.
 SCRIPT = "all: a b\na: s ; sh s > a\nb: ; %s; touch b\n"
@@ -46,7 +44,7 @@ IS_THERE = "RACE  d  (that the folder"
 # b looks for a file by way of d, which a makes.
 WAY = "all: a b\na: ; mkdir d; touch a\nb: ; cat %s > b || echo none > b\n"
 OWNED = "U := $(shell id -un)\nall: a b\na: ; install -d -o $U -m %s d; touch d/$@ $@\nb: ; install -d -o $U d -m %s; touch d/$@ $@\n"
-FOLDERS = "programs that look at a folder (stat)"
+FOLDERS = "programs that look at a folder"
 LINKS = """#include <fcntl.h>
 #include <stdio.h>
 #include <sys/stat.h>
@@ -70,8 +68,8 @@ Makefiles = makefiles(__name__, {
     "size_of_a_folder": Small("safe", "all: a b\na: ; echo 1 > d/n; touch a\nb: ; stat -c %s d > b\n", {"d/k": "k"}, below="/dev/shm", says="programs that look at a folder"),
     # what programs ask of a folder
     "folder_that_a_shell_enters": Small("safe", BASH + HERE % "cat s", {"d/s": ""}, lacks="programs that look at a folder"),
-    "folder_that_an_unknown_program_asks_for": Small("safe", ASKED % "./l d > b", {"d/k": "", "l.c": LINKS}, "cc -o l l.c", says="such as l of d in b)"),
-    "open_folder_that_an_unknown_program_asks_for": Small("safe", ASKED % "./l d > b", {"d/k": "", "l.c": LINKS.replace("stat(a[1]", "fstat(open(a[1], 0)")}, "cc -o l l.c", says="such as l of d in b)"),
+    "folder_that_an_unknown_program_asks_for": Small("safe", ASKED % "./l d > b", {"d/k": "", "l.c": LINKS}, "cc -o l l.c", says="(1, such as l of"),
+    "open_folder_that_an_unknown_program_asks_for": Small("safe", ASKED % "./l d > b", {"d/k": "", "l.c": LINKS.replace("stat(a[1]", "fstat(open(a[1], 0)")}, "cc -o l l.c", says="(1, such as l of"),
     "folder_that_a_known_program_asks_for": Small("safe", ASKED % "cc -Id -c k.c -o b", {"d/k": "", "k.c": ""}, lacks=FOLDERS),
     "folder_that_nobody_changes": Small("safe", (ASKED % "./l d > b").replace("b:", "b: a"), {"d/k": "", "l.c": LINKS}, "cc -o l l.c", lacks=FOLDERS),
     # what goes past files
@@ -98,8 +96,8 @@ Makefiles = makefiles(__name__, {
     "folder_that_was_a_file_and_is_named": Small("race", SCRIPT % "rm y; mkdir y", {"s": "for f in y/*.c; do echo $f; done\n"}, TREE + "; touch y"),
     "folder_that_a_path_by_way_of_proc_leaves_again": Small("race", WAY % "/proc/self/cwd/d/../f", {"f": ""}, says=IS_THERE),
     # folders that several recipes give an owner
-    "folder_of_one_owner": Small("safe", OWNED % ("755", "755")),
-    "folder_of_one_owner_in_one_more": Small("safe", OWNED.replace(" d;", " d/e;").replace(" d -m", " d/e -m").replace("d/$@", "d/e/$@") % ("755", "755")),
+    "folder_of_one_owner": Small("safe", OWNED % ("755", "755"), lacks="programs that look at a folder"),
+    "folder_of_one_owner_in_one_more": Small("safe", OWNED.replace(" d;", " d/e;").replace(" d -m", " d/e -m").replace("d/$@", "d/e/$@") % ("755", "755"), lacks="programs that look at a folder"),
 })
 
 

@@ -106,7 +106,6 @@ class Lines(unittest.TestCase):
 
 Makefiles = makefiles(__name__, {
     # what make looks for when it first considers a target, though what that needs is made later
-    "search_path_of_a_pattern": Small("race", "vpath %.c v w\nall: g t\ng: ; rm v/x.c; touch g\nt: x.c ; touch t log\n", {"v/x.c": "1", "w/x.c": "2", "t": "t"}, "touch -d 2001-01-01 w/x.c; touch -d 2002-01-01 t"),
     # one job at a time
     "target_that_begins_like_a_remark": Small("no verdict", "all: a \\#\\ b\na: ; touch a\n\\#\\ b: ; touch '# b'\n", says="does not show the recipe of a target that ran: # b"),
     "not_parallel_as_a_prerequisite": Small("race", ROW % ("", "c: .NOTPARALLEL\n")),

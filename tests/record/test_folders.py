@@ -106,12 +106,10 @@ class Folders(unittest.TestCase):
         self.assertEqual(["d/@seen"], self.meet([("M", "d"), ("C", "d/")], [("L", "\0*")]))
         self.assertEqual([], self.meet([("M", "d"), ("C", "d/")], [("L", "\0*.c")]))
 
-    def test_mode_and_a_look(self) -> None:
-        self.assertEqual(["d/@mode"], self.meet([("m", "d")], [("S", "d")], {"d": "d"}))
-
-    def test_number_of_links(self) -> None:
-        self.assertEqual(["d/@links"], self.meet([("M", "d/n"), ("C", "d/n/")], [("h", "d")], {"d": "d"}))
-        self.assertEqual(["x/@links"], self.meet([("H", "x")], [("h", "x")], {"x": "f"}))
+    def test_what_others_change(self) -> None:
+        for first, second, path in (([("m", "d\0mode")], [("S", "d")], "d"), ([("H", "x")], [("R", "x")], "x"), ([("m", "d\0mode")], [("C", "d/n"), ("W", "d/n")], "d")):
+            found = build_of({"a": [], "b": []}, {"a": first, "b": second}, {"d": "d", "x": "f"}).asked
+            self.assertEqual({TOP + "/" + path: ({1}, {0})}, found, path)
 
     def test_scripts_that_make_it(self) -> None:
         self.assertEqual([], self.meet([("T", "d"), ("W", "d/x")], [("K", "d"), ("W", "d/y")]))
@@ -145,16 +143,13 @@ class Ages(unittest.TestCase):
 
 Makefiles = makefiles(__name__, {
     # names that cannot be made, as their folder is not there, or is full
-    "folder_that_is_closed": Small("race", "all: a u\na: ; chmod 600 d; touch a\nu: ; cat d/x > u\n", {"d/x": "x"}),
+    "folder_that_is_closed": Small("safe", "all: a u\na: ; chmod 600 d; touch a\nu: ; cat d/x > u\n", {"d/x": "x"}, says="programs that look at a folder"),
     "folder_that_is_not_closed": Small("safe", "all: a u\na: ; chmod 700 d; touch a\nu: ; cat d/x > u\n", {"d/x": "x"}),
     # folders that several recipes give an owner
-    "folder_of_one_owner_that_was_there": Small("race", OWNED % ("755", "755"), setup="mkdir -m 700 d"),
-    "folder_of_one_owner_whose_mode_is_changed": Small("race", OWNED % ("755", "755; chmod 700 d")),
+    "folder_of_one_owner_whose_mode_is_changed": Small("race", OWNED % ("755", "755; chmod 700 d"), is_tried=True),
     # `.exists` files of Perl's makefiles
     "mode_that_a_make_above_has_set": Small("safe", ABOVE % 755, {"in/Makefile": MODES}),
     "mode_of_a_folder_that_is_found": Small("race", PAIR % "umask 077; test -d out || mkdir -p out"),
-    "mode_of_a_folder_that_is_found_by_no_bits": Small("race", "all: x y\nx: ; umask 022; install -d out; touch x\ny: ; umask 0; test -d out || mkdir -p out; touch y\n"),
-    "mode_of_a_folder_that_is_installed": Small("safe", "all: x y\nx: ; umask 022; install -d out; touch x\ny: ; umask 022; test -d out || mkdir -p out; touch y\n"),
     # folders that a recipe makes, and uses before that
     "folder_made_before_its_use": Small("safe", PAIR % "mkdir -p out; touch out/y"),
     "folder_made_behind_its_use": Small("race", PAIR % "touch out/y; mkdir -p out"),

@@ -11,7 +11,6 @@ TAKES = "a: ; echo '$^$(V)' > a\n"
 LOOPS = "P = k\nF = $(wildcard $(P))\n%s\na: ; echo $(X) > a; rm -f *.q\n"
 # c lists d first; d/a looks for names there, and d/b, which nothing orders with d/a, makes one.
 FIRST = "all: c d/a d/b\ns: ; touch s\nc: s ; echo $(wildcard d/*.q) > c\nd/a: s ; %s > $@\nd/b: c ; touch d/z.q $@\n"
-ASKED = FIRST.replace("touch s", "touch s # $(wildcard $@)")  # the trace shows that make asks the disk
 ASKS = "X := $(wildcard $(P))\na: ; echo $(X) > a\n"
 # `a` starts when `s` has ended, and sets something of make; `b` may start before or after that.
 LATE = "V = 1\n%sall: a b\ns: ; touch s\na: s ; %stouch a\nb: ; %s > b\n"
@@ -25,7 +24,13 @@ MAKES = OTHER_INSIDE % "touch y.x"
 ONCE = "V := $(wildcard e/$(shell echo \\*))\nX = $(eval X := %s)$(X)\nall: a d/z d/y\na d/z: ; touch $@\nd/y: d/y.s ; echo $(X)%s; cp d/y.s d/y\n"
 
 
+MACRO_INSIDE = "all: in gen\ngen: ; echo n > d/n.c; touch gen\nin: ; E=%s $(MAKE) -f in.mk; touch in\n"
+FOLDERS = {"d/k.h": "", "e/k.h": "", "k.c": "k"}
 Makefiles = makefiles(__name__, {
+    "pattern_of_a_rule_by_a_macro_inside": Small("race", INNER % "echo n > d/n.c", {"d/k.c": "k", "in.mk": "C = d/*.c\nout: $(C) ; cat $^ > out\n"}),
+    "pattern_of_a_folder_by_a_macro_inside": Small("race", MACRO_INSIDE % "d", {**FOLDERS, "in.mk": "D := $(wildcard d/*.h $(E)/*.c)\nE := e\nout: ; echo $(D) > out\n"}),
+    "pattern_behind_a_macro_inside": Small("race", MACRO_INSIDE % "d/", {**FOLDERS, "in.mk": "D := $(wildcard d/*.h $(E)*.c)\nE :=\nout: ; echo $(D) > out\n"}),
+    "pattern_in_a_macro_of_words_inside": Small("race", MACRO_INSIDE % "'d/*.c'", {**FOLDERS, "in.mk": "D := $(wildcard d/*.h $(E))\nE := x e/*.c y\nout: ; echo $(D) > out\n"}),
     # what a make inside a recipe asks of a list that it keeps of a folder
     "pattern_of_a_rule_by_a_macro_of_other_names_inside": Small("safe", INNER % "echo n > d/n.h", {"d/k.c": "k", "in.mk": "C = d/*.c k.c\nP = d\nout: $(C) | $(P) ; cat $< > out\n", "k.c": ""}),
     "pattern_of_a_rule_by_a_macro_of_two_values_inside": Small("race", INNER % "echo n > d/n.h", {"d/k.c": "k", "d/k.h": "k", "in.mk": "C = d/*.h\nout: $(C) ; cat $^ > out\nC = d/*.c\n"}),
@@ -53,8 +58,6 @@ Makefiles = makefiles(__name__, {
     "loop_that_a_macro_puts_together": Small("race", INSIDE, {"in.mk": LOOPS % "L = each\nX := $(call for$(L),P,*.x,$$(F))"}),
     "loop_that_is_not_called": Small("safe", INSIDE, {"in.mk": LOOPS % "f = $1\nX := $(call f,let) $(foreach Q,k,$(Q))"}),
     "macro_that_gets_a_pattern_in_the_next_line": Small("race", INSIDE, {"in.mk": "P \\\n = *.x\nX := $(wildcard $(P))\nP = k\na: ; echo $(X) > a\n"}),
-    "loop_over_its_target_that_goes_on": Small("race", ASKED % "echo $(foreach \\\n @,d/*.q,$(wildcard $@))", {"d/k": ""}),
-    "loop_over_its_target_in_lines_of_a_macro": Small("race", "define T\n$(foreach\n@,d/*.q,$(wildcard $@))\nendef\n" + ASKED % "echo $(T)", {"d/k": ""}),
     "loop_that_names_no_other_macro": Small("safe", INSIDE, {"in.mk": "P = z\nX := $(foreach \\\n Q,k,$(Q))\nY := $(wildcard $(P))\na: ; echo $(Y) > a; rm -f *.q\n"}),
     # what a macro has before a makefile sets it, and what a command gives it
     "macro_that_a_command_gives_a_pattern": Small("race", INSIDE, {"in.mk": "P != cat f\n%sP := k\n" % ASKS, "f": "*.x\n"}),

@@ -8,16 +8,10 @@ from test_small import COMMANDS, Small, makefiles
 
 SETUP = "sed -i '1i#!/bin/sh' t; chmod +x t bin2/tool"
 TOOLS = {"t": "echo new > $1\n", "bin2/tool": "#!/bin/sh\necho old > $1\n", "bin/k": ""}
-# `a` starts when `s` has ended, and sets something of make; `b` may start before or after that.
-LATE = "V = 1\n%sall: a b\ns: ; touch s\na: s ; %stouch a\nb: ; %s > b\n"
-SETS = "$(eval V = 2)"
-SHOWS = 'echo "$$W"'
 LOAD = "%sall: c b a\nc: ; touch c\nb: ; echo \"$$X\" > b\na: ; %s; touch a\nx:\n"
 PATH = "export PATH := %s:$(PATH)\nall: c b a\nc: ; touch c\nb: ; cp y b\na: ; ln -s /bin/mv bin/cp; touch a\n"
 SET = "all: s a b\ns: ; touch s\na: s ; %s\nb: ; %s\n"
-OTHER_SETS = "$(eval X := set)touch a"
 KEEPS = "all: ; %s -s -f in.mk %s\n"
-TWO = "all: a b\na b: ; @%s; touch $@\n"
 # A recipe that shows a macro, and one that may change it.
 OTHER_SHOWS = "all: s a b\ns: ; touch s\nb: ; echo '%s' > b\n"
 LOOP = "$(foreach x,a b,$(eval $(call T,$(x))))\n"
@@ -30,8 +24,8 @@ Makefiles = makefiles(__name__, {
     "make_with_its_output_closed": Small("safe", "all: sub\nsub: ; $(MAKE) -f in.mk >&-\n", {"in.mk": "a: ; @touch a\n"}),
     "make_with_its_errors_closed": Small("safe", "all: sub\nsub: ; $(MAKE) -f in.mk 2>&-\n", {"in.mk": "a: ; @touch a\n"}),
     # what make looks for when it first considers a target, though what that needs is made later
-    "search_by_a_name_without_a_stem": Small("race", "all: gen sub/z.t\n%.t: %.b sub/flag ; cp $^ $@\n%.t: %.b ; cp $< $@\ngen: ; rm sub/flag; touch gen\n", {"sub/z.b": "b", "sub/flag": "f"}),
-    "search_for_a_member": Small("race", "all: g l.a(sub/x.o)\n(%): % ; ar rcD $@ $<\n%.o: %.a ; cp $< $@\n%.o: %.b ; cp $< $@\ng: ; rm sub/x.a; touch g\n", {"sub/x.a": "a", "sub/x.b": "b"}),
+    "search_by_a_name_without_a_stem": Small("race", "all: gen sub/z.t\n%.t: %.b sub/flag ; cp $^ $@\n%.t: %.b ; cp $< $@\ngen: ; rm sub/flag; touch gen\n", {"sub/z.b": "b", "sub/flag": "f"}, is_tried=True),
+    "search_for_a_member": Small("race", "all: g l.a(sub/x.o)\n(%): % ; ar rcD $@ $<\n%.o: %.a ; cp $< $@\n%.o: %.b ; cp $< $@\ng: ; rm sub/x.a; touch g\n", {"sub/x.a": "a", "sub/x.b": "b"}, is_tried=True),
     # names with blanks
     "name_with_a_blank_behind_a_bar": Small("race", "all: g x\ng: ; touch a g\nx: a | a\\ b ; touch log x\na\\ b: ; touch 'a b'\n", {"a": "a", "x": "x"}, "touch -d 2001-01-01 a; touch -d 2002-01-01 x"),
     # programs that make itself looks for before a line of a recipe
@@ -50,7 +44,6 @@ Makefiles = makefiles(__name__, {
     "macros_that_set_others_in_a_script": Small("safe", "set = $(eval $1 := 1)\n$(call set,X)\n" + SET % ("echo '$(X)' > a", "echo '$(X)' > b"), {"build.sh": "make all\n"}),
     # folders that are made, where something shows who made them
     "folder_made_by_a_line_in_a_make_with_errors": Small("race", KEEPS % ("$(MAKE)", "2> log"), {"in.mk": "all: a b\na b:\n\t@-mkdir d\n\t@touch $@\n"}),
-    "folder_made_or_true_in_a_make_for_a_program": Small("safe", KEEPS % ("$(MAKE)", "2>&1 | cat > log"), {"in.mk": TWO % "mkdir d || true"}, says="what a make prints does the same"),
     # macros
     "names_of_macros_that_nobody_sets": Small("safe", "of = PHONY\n" + OTHER_SHOWS % "$(filter X,$(MY_$(of)))" + "a: s ; $(eval X := set)touch a\n"),
     # what is worked out once
@@ -63,10 +56,6 @@ COMMANDS["macros_that_set_others_in_a_script"] = ["sh", "build.sh"]
 
 class Searches(unittest.TestCase):
     """What the data base says of searches."""
-
-    def test_search_paths(self) -> None:
-        lines = ["# files hash-table stats:", "# VPATH Search Paths", "", "vpath %.c v:w", "", "# General ('VPATH' variable) search path:", "# x:y"]
-        self.assertEqual([("%.c", ["v", "w"]), ("%", ["x", "y"])], read_base(lines).search)
 
     def test_names_that_are_kept(self) -> None:
         rules = ("%.o: %.c flag", "%.c: %.y", "lib%.a: %.o", "%_test: %_test.o", "%_test.c: %.t", "obj/%.o: src/%.c", "%: %.o", "%:: RCS/%", "(%): %")

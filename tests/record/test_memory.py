@@ -15,12 +15,20 @@ BESIDE = "all: dist a.o%s\n%%.o: %%.c gen/g.h ; cp $< $@\ngen/g.h: tool ; mkdir 
 TOOL = {"a.c": "", "tool.in": "echo 1\n"}
 # Patterns that nobody knows, a folder that make lists while recipes run, and a macro that works out its value once: the makefile of git has these.
 ONCE = "V := $(wildcard e/$(shell echo \\*))\nX = $(eval X := %s)$(X)\nall: a d/z d/y\na d/z: ; touch $@\nd/y: d/y.s ; echo $(X)%s; cp d/y.s d/y\n"
+# Make lists gen for a.o, when x1 is there with one job; it opens gen for a.o, when the recipe that makes it has ended with one job; the last recipe asks for names there.
+LISTS = "z: gen/x1 a.o ; echo $(wildcard gen/x*) > z\n%%.o: %%.c gen/%%.h ; cp $< $@\ngen/x1: ; sleep 0.1; touch $@\n%s"
+OPENS = "z: first a.o gen/x1 ; echo $(wildcard gen/x*) > z\n%.o: %.c gen/g.h ; cp $< $@\nfirst: ; sleep 0.1; mkdir -p gen; touch gen/x0 first\ngen/g.h gen/x1: | first ; touch $@\n"
+HEADER = {"a.c": "", "gen/a.h": ""}
 Makefiles = makefiles(__name__, {
+    # what make keeps of a folder
+    "list_of_a_search": Small("race", LISTS % "", HEADER, later="safe", is_tried=True),
+    "list_of_a_search_that_is_said": Small("safe", LISTS % "", HEADER, says="what make keeps of the folders"),
+    "list_of_a_search_before_all_recipes": Small("safe", LISTS.replace("gen/x1 a.o", "a.o gen/x1") % "", HEADER, lacks="what make keeps of the folders", later="safe"),
+    "folder_that_a_search_opens": Small("race", OPENS, {"a.c": ""}, later="safe", is_tried=True),
     # what a make inside a recipe asks of a list that it keeps of a folder
     "pattern_of_a_loop_over_targets": Small("race", "F = $(wildcard $@)\nall: a b\na: ; touch d/n.c a\nb: ; echo $(foreach @,d/*.c,$(F)) > b\n", {"d/m.c": ""}),
     "pattern_of_another_folder_in_a_recipe": Small("safe", "all: a b\na: ; touch d/n.c a\nb: ; echo $(wildcard d/*.h e/*.c) > b\n", FOLDERS),
     # what goes on in the next line
-    "loop_that_call_calls_in_a_recipe": Small("race", "P = d/k\nF = $(wildcard $(P))\n" + ASKED % "echo $(call foreach,P,d/*.q,$$(F))", {"d/k": ""}, says="RACE  d/z.q"),
     # where a recipe looks for names
     "wildcard_of_a_macro_in_a_loop": Small("race", LATER % "b.q: c ; echo $(foreach D,d2,$(wildcard $(D)/*.x)) > b.q", setup=OTHER_FOLDERS),
     "wildcard_of_a_macro_of_a_pattern": Small("race", LATER % "%.q: D = d2\n%.q: c ; echo $(wildcard $(D)/*.x) > b.q", setup=OTHER_FOLDERS),
@@ -32,17 +40,12 @@ Makefiles = makefiles(__name__, {
     "wildcard_of_prerequisites_in_a_search_path": Small("safe", "VPATH = v\n" + WITH_K.replace("d/k", "d/q") % "echo $(wildcard $^)", {"d/k": "", "v/d/q": ""}),
     "wildcard_of_prerequisites_in_a_search_path_that_is_a_pattern": Small("race", "VPATH = [d]\n" + WITH_K.replace("d/k", "z.q") % "echo $(wildcard $^)", {"[d]/z.q": "", "d/k": ""}),
     "wildcard_of_newer_prerequisites": Small("safe", WITH_K % "echo $(wildcard $? $(<))", {"d/k": ""}),
-    "wildcard_of_folders_of_its_prerequisites": Small("race", WITH_K % "echo $(wildcard $(^D:%=%/*.q))", {"d/k": ""}),
-    "wildcard_of_its_prerequisites_and_a_pattern": Small("race", WITH_K % "echo $(wildcard $^ d/*.q)", {"d/k": ""}),
     "wildcard_of_a_name": Small("safe", "N = d/k\n" + FIRST % "echo $(wildcard $(N))", {"d/k": ""}),
     "wildcard_of_a_name_that_another_makes": Small("race", FIRST % "echo $(wildcard d/z.q)", {"d/k": ""}),
     "wildcard_of_a_name_in_a_branch_that_is_not_taken": Small("safe", WITH_K % "echo $(if $(wildcard $^),yes,$(wildcard $@))", {"d/k": ""}),
     "wildcard_of_a_name_that_another_recipe_has_asked": Small("safe", ASKED % "echo $(if $(N),$(wildcard $@))", {"d/k": ""}),
     "wildcard_of_a_pattern_in_a_branch_that_is_not_taken": Small("safe", WITH_K % "echo $(if $(wildcard $^),yes,$(wildcard d/*.q))", {"d/k": ""}),
     "wildcard_of_names_that_are_not_asked": Small("safe", WITH_K % "echo $(if $(N),$(wildcard $@))", {"d/k": ""}),
-    "wildcard_of_a_name_and_a_pattern": Small("race", FIRST % "echo $(wildcard d/k d/*.q)", {"d/k": ""}),
-    "wildcard_of_a_pattern_in_a_macro": Small("race", "N = d/[z].q\n" + FIRST % "echo $(wildcard $(N))", {"d/k": ""}),
-    "wildcard_of_a_macro_that_may_be_a_pattern": Small("race", "N = d/k\n" + FIRST.replace("s: ;", "s: ; $(eval N := d/*.q)") % "echo $(wildcard $(N))", {"d/k": ""}),
     "wildcard_of_a_folder_that_is_a_pattern": Small("race", FIRST % "echo $(wildcard ?/z.q)", {"d/k": ""}),
     "wildcard_that_was_asked_when_the_makefile_was_read": Small("safe", "HOME := $(CURDIR)/v\nT := $(wildcard ~/*.q)\n" + FIRST % "echo $(wildcard $@) $(T)", {"d/k": ""}),
     # a loop over the names of macros

@@ -74,8 +74,7 @@ class NoVerdict(unittest.TestCase):
             lines = report(written([]), [Judged("001", about, Verdict(1, races[:count], count, ["b: a"]))], Path("/r"))
             self.assertIn("  fix: b: a          (checked: ends this race)", lines)
             self.assertTrue(any(line.endswith(says) for line in lines), lines)
-        self.assertIn("  advice: name g in a rule, and a library not as -lNAME; where a recipe asks for it by $(wildcard ..), let the shell list it (ls): "
-                      "make looks for it when it first considers the target, and keeps what it found", lines)
+        self.assertIn("  advice: let one recipe alone write it; make asks whether it is there before that recipe has run", lines)
 
     def test_calls_with_many_words(self) -> None:
         """Each build is named by its call, which may hand on many macros."""

@@ -34,7 +34,7 @@ Makefiles = makefiles(__name__, {
     "names_with_the_time": Small("safe", "all: a b\n" + TIMED, says="recipes that put the time into the name"),
     "names_with_the_time_in_order": Small("safe", "all: a b\nb: a\n" + TIMED, lacks="recipes that put the time into the name"),
     # ages
-    "ages_of_several_files": Small("race", "all: c\nx y z: ; touch $@\nc: x y z ; $(MAKE) -f in.mk\n", {"in.mk": "c: x y z ; touch c\nx: y z ; touch $@\ny: z ; touch $@\n"}, says="  and 2 more by ages that c may compare\n"),
+    "ages_of_several_files": Small("race", "all: c\nx y z: ; touch $@\nc: x y z ; $(MAKE) -f in.mk\n", {"in.mk": "c: x y z ; touch c\nx: y z ; touch $@\ny: z ; touch $@\n"}, is_tried=True),
     # a run in which nothing was to be done
     "nothing_to_do": Small("no verdict", "all: a\na: ; touch a\n", setup=UP_TO_DATE, says=IDLE),
     # a path that the kernel does not take

@@ -17,10 +17,8 @@ ORDER = ".PHONY: a b\nall: c\na b: ; touch d/s/$@\nr: a b ; %s; touch r\nc: r ; 
 LINKED = "all: a u\na: ; ln x y; touch a\nu: ; %s > u; touch u\n"
 OTHER_ORDER = "all: c\nd: ; mkdir d\na: | d ; touch d/a a\nb: | d ; touch d/b b\nc: a b ; %s\n"
 SIZE = "all: a b\na: ; touch d/x a\nb: ; %s > b\n"
-LONG = "# ...............................................................\n" * 5000
 PAIR = "all: c\na: ; touch a\nb: ; touch b\nc: a b ; %s\n"
 BASH = "SHELL = /bin/bash\n"
-OTHER_PAIR = "all: c\na: ; touch a\nb: ; touch b\nc: a b ; "
 KEEPS = "all: ; %s -s -f in.mk %s\n"
 TWO = "all: a b\na b: ; @%s; touch $@\n"
 # A recipe that lists names, and a later one that makes another name.
@@ -29,7 +27,6 @@ OTHER_LISTS = "all: b a\na: ; touch z.i a\nb: ; %s > b\n"
 FOLDER = "all: a b\na: ; %s\nb: ; mkdir -p d; touch b\n"
 TEXT = "all: a b\na: ; %s > a\nb: ; %s; touch b\n"
 TREE = "mkdir -p d/e; touch d/e/x.c"
-BESIDE = "all: ; %s; touch all\n"
 OWNED = "U := $(shell id -un)\nall: a b\na: ; install -d -o $U -m %s d; touch d/$@ $@\nb: ; install -d -o $U d -m %s; touch d/$@ $@\n"
 
 
@@ -95,17 +92,6 @@ class Folders(unittest.TestCase):
                               ("mkdir -p --verbose d", False), ("install -d d", True), ("install -v -d d", False), ("install a d", False)):
             self.assertEqual(wanted, shelltext.is_quiet_mkdir(words.split()), words)
 
-    def test_forms_that_are_excused(self) -> None:
-        for text, wanted in (("mkdir d || true", True), ("mkdir d 2>/dev/null || :", True), ("mkdir d || test -d d", True), ("test -d d || mkdir -p d", True),
-                             ("[ -d d ] || mkdir -p d; echo x", True), ("mkdir d", False), ("mkdir d || echo second", False), ("mkdir e || true", False),
-                             ("test -d d && echo there; mkdir d || true; ls d", False), ("test -d d || mkdir d", False),
-                             ("test -d d || install -d d", True), ("[ -e d ] || install -d d/e", True), ("test -d d || install -d d; stat d", False),
-                             ("if test ! -d d; then mkdir -p d; fi", True), ("if [ ! -d d ] ; then mkdir -p d ; fi; x", True), ("if ! [ -d d ]; then install -d d; fi", True),
-                             ("if test ! -d d; then mkdir d; fi", False), ("if test ! -d d; then mkdir -p d; echo first; fi", False),
-                             ("if test -d d; then mkdir -p d; fi", False), ("if test ! -d d; then mkdir -p d; else echo second; fi", False),
-                             ("[ ! -d d ] && mkdir -p d", False)):
-            self.assertEqual(wanted, shelltext.is_excused(sh(text), "/w/d"), text)
-
     def test_scripts_that_make_folders(self) -> None:
         for words, folder, wanted in ((["sh", "../install-sh", "-d", "a/b"], "/w/a/b", True), (["sh", "install-sh", "-c", "-d", "a/b"], "/w/a", True),
                                       (["sh", "install-sh", "-d", "a"], "/w/c", False), (["sh", "install-sh", "a", "b"], "/w/b", False),
@@ -119,17 +105,6 @@ class Folders(unittest.TestCase):
             self.assertTrue(shelltext.Traits(words).makes_folders or not wanted, words)
 
 
-class Looks(unittest.TestCase):
-    """Programs that see more than contents."""
-
-    def test_numbers_of_names(self) -> None:
-        for words, wanted in (("stat -c %h x", True), ("stat x", True), ("stat -c %s x", False), ("ls -l", True), ("ls", False), ("tar cf x d", True), ("tar -cf x -C d x", True), ("tar --exclude -x cf x d", True), ("tar xzf x", False), ("tar -C d --strip-components=1 -xf x", False), ("tar --extract -f x", False),
-                              ("find . -links 2", True), ("find . -name x", False), ("cat x", False)):
-            self.assertEqual(wanted, shelltext.looks_at_links(words.split()), words)
-        for argv, wanted in ((["python3", "-c", "os.stat('x')"], True), (["perl", "-e", "lstat 'x'"], True), (["python3", "-c", "print()"], False)):
-            self.assertEqual(wanted, shelltext.looks_at_links(argv), argv)
-
-
 Makefiles = makefiles(__name__, {
     # orders of names that are handed on
     "order_of_a_folder_that_is_copied": Small("race", ORDER % "cp -r d e", setup="mkdir -p d/s", is_tried=True),
@@ -138,8 +113,8 @@ Makefiles = makefiles(__name__, {
     "folder_that_is_told": Small("race", "all: a b\na b: ; mkdir -p --verb d > $@\n"),
     "folder_that_an_install_tells": Small("race", "all: a b\na b: ; install -d --verb d > $@\n"),
     # how many names a file has
-    "names_that_gzip_counts": Small("race", LINKED % "gzip -k x || echo refused", {"x": "x"}),
-    "names_that_ls_shows_by_a_long_word": Small("race", LINKED % "ls --format=long x", {"x": "x"}),
+    "names_that_gzip_counts": Small("race", LINKED % "gzip -k x || echo refused", {"x": "x"}, is_tried=True),
+    "names_that_ls_shows_by_a_long_word": Small("race", LINKED % "ls --format=long x", {"x": "x"}, is_tried=True),
     "names_that_a_script_counts": Small("safe", LINKED % "python3 n.py", {"x": "x", "n.py": "import os\nprint(os.lstat('x').st_nlink)\n"}, says="do not count the names of a file"),
     # the order in which a folder shows its names, and its size
     "order_that_ls_shows": Small("race", OTHER_ORDER % "ls -1U d > c", is_tried=True),
@@ -155,11 +130,11 @@ Makefiles = makefiles(__name__, {
     # ages
     # folders that are made
     "folder_made_or_true_for_a_program": Small("race", "all: a b\na b: ; python3 t/m.py; touch $@\n", {"t/m.py": "import subprocess\nsubprocess.run('mkdir d || true', shell=True)\n"}),
-    "folder_made_or_true_behind_env": Small("safe", "all: a b\na b: ; env X=1 sh -c 'mkdir d || true'; touch $@\n"),
+    "folder_made_or_true_behind_env": Small("safe", "all: a b\na b: ; env X=1 sh -c 'mkdir d || true'; touch $@\n", is_tried=True),
     # ages of files that somebody else has opened
     "age_of_standard_input": Small("safe", PAIR % "stat -c %Y - < a > c; stat -c %Y b >> c", says=LOOKS),
     # folders that are made, where something shows who made them
-    "folder_tested_or_made_in_a_make_with_errors": Small("safe", KEEPS % ("$(MAKE)", "> log 2>&1"), {"in.mk": TWO % "test -d d || mkdir -p d"}),
+    "folder_tested_or_made_in_a_make_with_errors": Small("safe", KEEPS % ("$(MAKE)", "> log 2>&1"), {"in.mk": TWO % "test -d d || mkdir -p d"}, is_tried=True),
     # patterns
     "brackets_with_a_quote": Small("race", OTHER_LISTS % "echo [x'yz'].i", {"y.i": ""}),
     "brackets_with_a_blank": Small("race", OTHER_LISTS % "echo y.i [x\\ z].i", {"y.i": ""}),
@@ -167,7 +142,7 @@ Makefiles = makefiles(__name__, {
     # folders
     "folder_whose_errors_a_macro_gets": Small("race", FOLDER % "x=$$(mkdir d 2>&1 >/dev/null || true); echo \"$$x\" > a"),
     "folder_whose_errors_a_file_gets": Small("race", FOLDER % "(mkdir d >/dev/null || true) 2> log; cp log a"),
-    "folder_whose_errors_nobody_gets": Small("safe", FOLDER % "x=$$(mkdir d >/dev/null 2>&1 || true); echo \"$$x\" > a; cat a 2> log"),
+    "folder_whose_errors_nobody_gets": Small("safe", FOLDER % "x=$$(mkdir d >/dev/null 2>&1 || true); echo \"$$x\" > a; cat a 2> log", is_tried=True),
     # ages of the folder that a script is in
     "script_that_a_shell_takes_in": Small("safe", "all: a b\na: ; . ./v; echo $$x > a\nb: ; touch b\n", {"v": "x=1\n"}),
     # the same of a script
@@ -175,7 +150,7 @@ Makefiles = makefiles(__name__, {
     "link_beside_folders_behind_a_quote": Small("race", TEXT % ("echo ''*/e/*.c", "ln -s d y"), {}, TREE),
     # a process in the background that has ended before another one begins
     # folders that several recipes give an owner
-    "folder_of_one_owner_and_two_modes": Small("race", OWNED % ("755", "700")),
+    "folder_of_one_owner_and_two_modes": Small("safe", OWNED % ("755", "700"), says="programs that look at a folder"),
 })
 
 

@@ -30,9 +30,7 @@ class Small:
     is_tried: bool = False  # built in other orders too
 
 
-LOOKS = "who looks at two files does not go by which of them is newer"
-# A library, a program that needs it, and a macro of several lines that a recipe prints.
-PRINTS = "all: libx.a p\nlibx.a: ; touch libx.a\np: m libx.a ; echo \"$$TEXT\" > p\nm: ; touch m\n"
+LOOKS = "who looks at two files, as make does, comes to the same"
 SMALL: Dict[str, Small] = {
     # devices, and folders that look like theirs
     "devices_are_no_files": Small("safe", "all: a b\na b: ; touch /dev/null; echo $@ > /dev/null; cat /dev/null > $@\n"),
@@ -63,19 +61,16 @@ SMALL: Dict[str, Small] = {
     # macros of make
     "file_behind_another_mark_of_recipes": Small("race", ".RECIPEPREFIX = >\n.PHONY: e\nall: s e u\ns:\n> touch s\ne: s\n> $(file >x,w)\nu:\n> cat x > u || true\n"),
     # what make keeps of what it saw
-    "listing_that_make_keeps": Small("race", "all: a b c\na: ; echo 1 > d/n; touch a\nb: a ; echo '$(wildcard d/*)' > b\nc: ; echo '$(wildcard d/*)' > c\n", {"d/k": "k"}),
+    "listing_that_make_keeps": Small("race", "all: a b c\na: ; echo 1 > d/n; touch a\nb: a ; echo '$(wildcard d/*)' > b\nc: ; echo '$(wildcard d/*)' > c\n", {"d/k": "k"}, is_tried=True),
     "listing_that_nobody_else_asks_for": Small("safe", "all: a b c\na: ; echo 1 > d/n; touch a\nb: a ; echo '$(wildcard d/*)' > b\nc: ; echo > c\n", {"d/k": "k"}),
-    "library_by_its_short_name": Small("race", "all: libx.a p\nlibx.a: ; touch libx.a\np: m -lx ; echo $^ > p\nm: ; touch m\n", says="not as -lNAME"),
-    "library_by_a_macro": Small("race", "LIBS = -lx\nall: libx.a p\nlibx.a: ; touch libx.a\np: m $(LIBS) ; echo $^ > p\nm: ; touch m\n"),
-    "library_in_a_text_that_makes_a_rule": Small("race", "define TEXT\np: -l$(N)\nendef\nexport TEXT\nN = x\n" + PRINTS.replace("m libx.a ;", "m ;") + "$(eval $(TEXT))\n"),
-    "library_in_a_text_by_a_name_that_is_put_together": Small("race", "define TEXT\np: -l$(N)\nendef\nexport TEXT\nN = x\nT = TEX\n" + PRINTS.replace("m libx.a ;", "m ;") + "$(eval $($(T)T))\n"),
+    "library_by_its_short_name": Small("race", "all: libx.a p\nlibx.a: ; touch libx.a\np: m -lx ; echo $^ > p\nm: ; touch m\n", is_tried=True),
     "library_that_a_recipe_links": Small("safe", "LIBS = -lx\nall: libx.a p\nlibx.a: ; touch libx.a\np: m libx.a ; echo $(LIBS) > p\nm: ; touch m\n"),
     "target_of_several_that_runs_first": Small("safe", "all: c a b\na b &: s ; echo $@ | tee a > b\nc: a ; cp a c\ns: ; touch s\n"),
     "target_of_several_behind_nothing": Small("safe", "all: a b\na b &: ; echo $@ | tee a > b\n"),
     "targets_of_one_recipe_by_their_names": Small("safe", "all: c a b\na b &: s ; echo x | tee a > b\nc: a ; cp a c\ns: ; touch s\n"),
     "library_in_a_search_path": Small("safe", "vpath %.a d\nall: d/libx.a p\nd/libx.a: ; echo x > $@\np: -lx ; cat $^ > $@\n", {"d/k": "k"}),
     "library_by_its_short_name_that_was_there": Small("safe", "p: -lx ; cat $^ > $@\n", {"libx.a": "x"}),
-    "listing_that_make_keeps_of_a_new_folder": Small("race", "all: a b c\na: ; mkdir d/n; touch a\nb: a ; echo '$(wildcard d/*)' > b\nc: ; echo '$(wildcard d/*)' > c\n", {"d/k": "k"}),
+    "listing_that_make_keeps_of_a_new_folder": Small("race", "all: a b c\na: ; mkdir d/n; touch a\nb: a ; echo '$(wildcard d/*)' > b\nc: ; echo '$(wildcard d/*)' > c\n", {"d/k": "k"}, is_tried=True),
     "listing_that_all_wait_for": Small("safe", "all: a b c\na: ; echo a > d/n; touch a\nb c: a ; echo '$(wildcard d/*)' > $@\n", {"d/k": "k"}),
     "listings_of_two_folders": Small("safe", "all: d/b e/c\nd/n: ; echo 1 > d/n\nd/b: d/n\nd/b e/c: ; echo '$(wildcard $(@D)/n*)' > $@\n", {"d/k": "k", "e/n1": "n"}),
     "listing_by_another_pattern": Small("safe", "L = $(wildcard d/*.c)\nall: a b c\na: ; echo a > d/n.o; touch a\nb: a ; echo '$L' > b\nc: ; echo '$(L:.c=.o)' > c\n", {"d/k.c": "k"}),
@@ -94,11 +89,10 @@ SMALL: Dict[str, Small] = {
     "make_by_its_path": Small("race", "all: a b\na: ; echo a > a\nb: ; $(MAKE) -f in.mk\n", {"in.mk": "b: ; cp a b\n"}),
     "script_of_make": Small("race", "", {"rules": "#!%s -f\nall: a b\na: ; echo a > a\nb: ; cp a b\n" % shutil.which("make")}, "chmod +x rules"),
     # modes of folders that several make
-    "folder_of_two_masks": Small("race", "all: a b\na: ; umask 077; mkdir -p d; touch a\nb: ; mkdir -p d; touch b\n"),
+    "folder_of_two_masks": Small("safe", "all: a b\na: ; umask 077; mkdir -p d; touch a\nb: ; mkdir -p d; touch b\n", says="programs that look at a folder"),
     "folder_of_the_mode_that_it_is_given": Small("safe", "all: a b\na: ; umask 022; mkdir -p d; chmod 755 d; touch a\nb: ; umask 022; mkdir -p d/e; touch b\n"),
-    "folder_of_another_mode_in_which_one_is_made": Small("race", "all: a b\na: ; chmod 755 d; touch a\nb: ; mkdir d/e; touch b\n", setup="mkdir -m 700 d"),
-    "folder_of_the_mode_that_only_one_gives_it": Small("race", "all: a b\na: ; umask 077; mkdir -p d; chmod 755 d; touch a\nb: ; umask 077; mkdir -p d/e; touch b\n"),
-    "folder_tested_or_made_below": Small("safe", "all: a b c\na: ; mkdir -p d/e; touch d/e/a a\nb c: ; test -d d/e || mkdir -p d/e; touch d/e/$@ $@\n"),
+    "folder_of_another_mode_in_which_one_is_made": Small("safe", "all: a b\na: ; chmod 755 d; touch a\nb: ; mkdir d/e; touch b\n", setup="mkdir -m 700 d", says="programs that look at a folder"),
+    "folder_of_the_mode_that_only_one_gives_it": Small("safe", "all: a b\na: ; umask 077; mkdir -p d; chmod 755 d; touch a\nb: ; umask 077; mkdir -p d/e; touch b\n", says="programs that look at a folder"),
     "folders_made_by_mkpath": Small("safe", "all: d/a d/e/b d/e/c\nd/a d/e/b d/e/c: ; umask 022; perl -MExtUtils::Command -e mkpath -- $(@D); chmod 755 $(@D); touch $@\n"),
     "folders_made_by_pm_to_blib": Small("safe", "all: d/auto/A/a d/a\nd/a: ; perl -MExtUtils::Install -e \"pm_to_blib({@ARGV}, 'd/auto', q[], '755')\" -- A.pm d/A.pm; touch $@\n"
                                         "d/auto/A/a: ; perl -MExtUtils::Command -e mkpath -- $(@D); touch $@\n", {"A.pm": "package A;\nuse AutoLoader;\n1;\n__END__\n"}, setup="umask 022"),
@@ -111,7 +105,7 @@ SMALL: Dict[str, Small] = {
     "folder_that_is_listed_later": Small("safe", "all: a b\na: ; mkdir -p p/q; ls p > a\nb: ; mkdir -p p/q; touch b\n", {"p/k": ""}),
     "folder_that_is_listed_for_modules_first": Small("safe", "all: a b\na b: ; python3 -S gen.py $@\n", {
         "gen.py": "import email, os, sys\nos.makedirs('out', exist_ok=True)\nopen('out/' + sys.argv[1], 'w').close()\nopen(sys.argv[1], 'w').close()\n"}, is_tried=True),
-    "folder_of_two_modes": Small("race", "all: a b\na: ; mkdir -p -m 700 d; touch a\nb: ; mkdir -p d; touch b\n"),
+    "folder_of_two_modes": Small("safe", "all: a b\na: ; mkdir -p -m 700 d; touch a\nb: ; mkdir -p d; touch b\n", says="programs that look at a folder"),
     "folder_of_one_mode": Small("safe", "all: a b\na: ; umask 022; mkdir -p -m 755 d; touch a\nb: ; umask 022; mkdir -p d; touch b\n"),
     # ages that are taken over
     "age_that_touch_takes_over": Small("safe", "all: c\na b: ; touch $@\nr: a b ; touch r; touch -r a r\nc: r ; test r -nt b || true; touch c\n", says=LOOKS),
@@ -119,7 +113,7 @@ SMALL: Dict[str, Small] = {
     "age_of_a_file_that_is_moved": Small("safe", "all: c\na b: ; touch $@\nr: a b ; mv a x; touch r\nc: r ; test x -nt b || true; touch c\n", says=LOOKS),
     "age_of_a_second_name": Small("safe", "all: c\na b: ; touch $@\nr: a b ; ln a x; touch r\nc: r ; test x -nt b || true; touch c\n", says=LOOKS),
     "age_out_of_an_archive": Small("safe", "all: c\na b: ; touch $@\np: a b ; tar cf p a\nr: p ; mkdir o; tar xf p -C o; touch r\nc: r ; test o/a -nt b || true; touch c\n", says=LOOKS),
-    "age_for_an_inner_make": Small("race", "all: c\na b: ; touch $@\nr: a b ; cp -p a x; touch r\nc: r ; $(MAKE) -f in.mk; touch c\n", {"in.mk": "x: b ; echo made > log\n"}),
+    "age_for_an_inner_make": Small("race", "all: c\na b: ; touch $@\nr: a b ; cp -p a x; touch r\nc: r ; $(MAKE) -f in.mk; touch c\n", {"in.mk": "x: b ; echo made > log\n"}, is_tried=True),
     "age_that_touch_sets_to_now": Small("safe", "all: c\na b: ; touch $@\nr: a b ; test -f a; cp a r; touch r\nc: r ; test r -nt b || true; touch c\n"),
     "age_of_a_copy_that_is_new": Small("safe", "all: c\na b: ; touch $@\nr: a b ; cp a r\nc: r ; test r -nt b || true; touch c\n"),
     "age_of_a_folder_and_a_source": Small("safe", "all: c\na b: ; touch d/$@ $@\nc: a b ; test d -nt s || true; touch c\n", {"s": ""}, setup="mkdir d"),
@@ -135,7 +129,7 @@ SMALL: Dict[str, Small] = {
     # archives, intermediate files, patterns
     "members_of_one_archive": Small("race", "all: l.a(x.o) l.a(y.o)\n(%): % ; ar rcD l.a $<\n%.o: %.c ; cp $< $@\n", {"x.c": "x", "y.c": "y"}),
     "archive_beside_another_target": Small("safe", "all: l.a(x.o) u\nl.a(x.o): x.o ; ar rcD l.a x.o\nu: ; touch u\n", {"x.o": "x"}),
-    "archive_members_in_order": Small("safe", "all: l.a(x.o) l.a(y.o)\nl.a(x.o): x.o ; ar rcD l.a x.o\nl.a(y.o): y.o l.a(x.o) ; ar rcD l.a y.o\n", {"x.o": "x", "y.o": "y"}),
+    "archive_members_in_order": Small("safe", "all: l.a(x.o) l.a(y.o)\nl.a(x.o): x.o ; ar rcD l.a x.o\nl.a(y.o): y.o l.a(x.o) ; ar rcD l.a y.o\n", {"x.o": "x", "y.o": "y"}, is_tried=True),
     "archive_of_one_recipe": Small("safe", "l.a: x.o y.o ; ar rcD l.a $^\n%.o: %.c ; cp $< $@\n", {"x.c": "x", "y.c": "y"}),
     "intermediate_file_that_is_read": Small("race", "all: x.t u\n%.t: %.i ; cp $< $@\n%.i: %.s ; cp $< $@\nu: ; cat x.i > u || true\n", {"x.s": "s"}),
     "intermediate_file_that_make_removes": Small("safe", ".PHONY: p\nall: x.t p\n%.t: %.i ; cp $< $@\n%.i: %.s ; cp $< $@\np: ; $(if $(wildcard q),)\n", {"x.s": "s"}),
@@ -155,43 +149,38 @@ SMALL: Dict[str, Small] = {
     "double_colon_of_two_users": Small("race", "all: y u v\ny: ; touch y\nx:: ; echo 1 > one\nx:: ; echo 2 > two\nu: x ; touch u\nv: x ; cat two > v\n", says="advice: write the rules of x as one"),
     "double_colon_that_is_a_goal": Small("race", "x:: ; echo 1 > one\nx:: ; echo 2 > two\nu: x ; cat two > u\n", lacks="(checked"),
     "double_colon_that_reads": Small("race", "all: gen x\ngen: ; echo > gen\nx:: ; touch one\nx:: ; cat gen > two\n", says="fix: x:: gen ; cat gen > two          (in place of Makefile:4, checked: ends this race)"),
-    "double_colon_ages": Small("safe", "all: p dc\np: ; touch p\ndc:: ; echo 1 >> dc\ndc:: p ; echo 2 >> dc\n", {"dc": "dc"}, OLD + "dc"),
+    "double_colon_ages": Small("safe", "all: p dc\np: ; touch p\ndc:: ; echo 1 >> dc\ndc:: p ; echo 2 >> dc\n", {"dc": "dc"}, OLD + "dc", lacks="who looks at two files"),
     # the search for implicit rules
-    "search_sees_a_name_that_goes": Small("race", "all: gen sub/z.t\n%.t: %.a ; cp $< $@\n%.t: %.b ; cp $< $@\ngen: ; rm sub/z.a; touch gen\n", {"sub/z.a": "a", "sub/z.b": "b"}),
-    "search_in_an_early_listing": Small("safe", "all: gen z.t\n%.t: %.a ; cp $< $@\n%.t: %.b ; cp $< $@\ngen: ; echo a > z.a; touch gen\n", {"z.b": "b"}, says="search for implicit rules", later="race"),
+    "search_sees_a_name_that_goes": Small("race", "all: gen sub/z.t\n%.t: %.a ; cp $< $@\n%.t: %.b ; cp $< $@\ngen: ; rm sub/z.a; touch gen\n", {"sub/z.a": "a", "sub/z.b": "b"}, is_tried=True),
     # folders
     "folder_there_already": Small("safe", "all: a b\na: ; mkdir -p d; echo a > d/a\nb: ; echo b > d/b\n", setup="mkdir d"),
-    "folder_whose_rule_comes_late": Small("safe", "all: a b\na: ; mkdir -p d; touch d/a\nb: | d ; touch d/b\nd: ; mkdir -p $@\n"),
     "folder_whose_rule_comes_late_and_does_more": Small("race", "all: a b\na: ; mkdir -p d; touch d/a\nb: | d ; touch d/b\nd: ; mkdir -p $@; touch log\n"),
     "folder_whose_rule_comes_late_for_others": Small("race", "all: a b\na: ; mkdir -p d; touch d/a\nb: ; touch d/b\n.PHONY: all\nall: d\nd: ; mkdir -p $@\n"),
     "folder_whose_rule_comes_late_for_a_loud_maker": Small("race", "all: a b\na: ; mkdir d; touch d/a\nb: | d ; touch d/b\nd: ; mkdir -p $@\n"),
-    "folder_whose_age_is_asked_for": Small("race", "all: a b\na: ; touch d/a\nb: d ; touch d/b\nd: ; mkdir -p $@\n", {"b": "b"}, "mkdir d; touch -d 2001-01-01 d; touch -d 2002-01-01 b"),
+    "folder_whose_age_is_asked_for": Small("safe", "all: a b\na: ; touch d/a\nb: d ; touch d/b\nd: ; mkdir -p $@\n", {"b": "b"}, "mkdir d; touch -d 2001-01-01 d; touch -d 2002-01-01 b", says="programs that look at a folder"),
     "folder_removed": Small("race", "all: b a\na: ; rmdir d\nb: ; test -d d && echo yes > b || echo no > b\n", setup="mkdir d"),
     "folder_behind_a_bar": Small("safe", "all: gen u\ngen: ; echo x > d/n; touch gen\nu: s | d ; cat s > u\nd: ; mkdir d\n", {"s": "s", "u": "u"}, "mkdir d; " + OLD + "u"),
     "folder_made_by_two_who_fail": Small("race", "all: a b\na b: ; mkdir d || echo second > $@\n"),
-    "folder_made_or_true": Small("safe", "all: a b\na b: ; mkdir d 2>/dev/null || true; echo $@ > d/$@\n"),
-    "folder_made_by_a_line_that_may_fail": Small("safe", "D = d\nall: a b\na:\n\t-mkdir d\n\techo $@ > d/$@\nb:\n\t@-$(MKDIR) $(D)\n\techo $@ > d/$@\nMKDIR = mkdir\n"),
+    "folder_made_or_true": Small("safe", "all: a b\na b: ; mkdir d 2>/dev/null || true; echo $@ > d/$@\n", is_tried=True),
+    "folder_made_by_a_line_that_may_fail": Small("safe", "D = d\nall: a b\na:\n\t-mkdir d\n\techo $@ > d/$@\nb:\n\t@-$(MKDIR) $(D)\n\techo $@ > d/$@\nMKDIR = mkdir\n", is_tried=True),
     "folder_made_by_a_line_that_may_not_fail": Small("race", "all: a b\na:\n\t-mkdir e\n\tmkdir d\n\techo $@ > d/$@\nb:\n\t-mkdir d\n\techo $@ > d/$@\n"),
-    "folder_tested_or_installed": Small("safe", "all: a b\na: ; test -d d || install -d d; echo $@ > d/$@\nb: ; if [ ! -d d ]; then mkdir -p d; fi; echo $@ > d/$@\n"),
     "folder_made_or_true_and_said": Small("race", "all: a b\na b: ; (mkdir d || true; echo $@) > $@ 2>&1\n"),
     "folder_made_or_true_and_said_by_a_shell": Small("race", "all: a b\na b: ; exec 2> $@; mkdir d || true\n"),
-    "folder_made_or_true_beside_errors": Small("safe", "all: a b\na b: ; mkdir d 2>/dev/null || true; echo $@ > $@ 2>&1\n"),
     "folder_tested_and_another_made": Small("race", "all: a b\na: ; mkdir -p d; touch a\nb: ; test -d d || mkdir -p e; touch b\n"),
-    "folder_tested_and_one_below_made": Small("safe", "all: a b\na b: ; test -d d || mkdir -p d/e; touch $@\n"),
     "folder_looked_at_first": Small("race", "all: a b\na b: ; test -d d && echo there > $@; mkdir -p d\n"),
-    "folder_tested_or_made": Small("safe", "all: a b\na b: ; test -d d || mkdir -p d; echo $@ > d/$@\n"),
+    "folder_tested_or_made": Small("safe", "all: a b\na b: ; test -d d || mkdir -p d; echo $@ > d/$@\n", is_tried=True),
     "folder_that_cannot_be_removed": Small("race", "all: a b\na: ; echo x > d/f\nb: ; rmdir d || true\n", setup="mkdir d"),
-    "folder_links_counted": Small("race", "all: a b\na: ; mkdir d/n\nb: ; stat -c %h d > b\n", setup="mkdir d"),
+    "folder_links_counted": Small("race", "all: a b\na: ; mkdir d/n\nb: ; stat -c %h d > b\n", setup="mkdir d", is_tried=True),
     # names
-    "links_of_a_file_counted": Small("race", "all: a b\na: ; ln x y\nb: ; stat -c %h x > b\n", {"x": "x"}),
-    "links_counted_by_a_text_of_python": Small("race", "all: a b\na: ; ln x y\nb: ; python3 -c 'import os; print(os.lstat(\"x\").st_nlink)' > b\n", {"x": "x"}),
+    "links_of_a_file_counted": Small("safe", "all: a b\na: ; ln x y\nb: ; stat -c %h x > b\n", {"x": "x"}, says="programs that look at a folder"),
+    "links_counted_by_a_text_of_python": Small("race", "all: a b\na: ; ln x y\nb: ; python3 -c 'import os; print(os.lstat(\"x\").st_nlink)' > b\n", {"x": "x"}, is_tried=True),
     "link_on_the_way": Small("race", "all: a b\na: ; ln -sfn e l\nb: ; cat l/x > b\n", {"d/x": "d", "e/x": "e"}, "ln -s d l"),
     "link_that_a_recipe_makes": Small("safe", "all: a b c\na: ; echo a > a\nb: a ; ln -sf a b\nc: b ; cat b > c\n"),
     "link_to_a_file_that_was_there": Small(
         "safe", "all: a b c\na: d ; cat d > a\nb: a ; ln -sf a b\nc: b ; cat b > c\n", {"a": "old\n", "d": "new\n"}, "touch -d 2020-01-01 a"),
     "link_that_make_looks_at_again": Small("safe", "all: b d\na: ; echo a > a\nb: a ; ln -sf a b\nc: ; echo c > c\nd: c ; cp c d\n"),
     "link_of_a_target_that_is_kept": Small("race", "all: gen t\nt: p ; touch t x\ngen: ; ln -sf e p; touch gen\n", {"d": "d", "e": "e", "t": "t"}, "ln -s d p; touch -d 2001-01-01 e; touch -d 2002-01-01 t"),
-    "age_that_nobody_asks_for": Small("safe", "all: a b\na: ; touch s a\nb: s ; touch b\n", {"s": "s"}),
+    "age_that_nobody_asks_for": Small("safe", "all: a b\na: ; touch s a\nb: s ; touch b\n", {"s": "s"}, is_tried=True),
     "age_that_somebody_asks_for": Small("race", "all: a c\na: ; touch s a\nc: s | a ; touch c\n", {"s": "s", "c": "c"}, OLD + "s; touch -d 2002-01-01 c"),
     "file_that_is_replaced": Small("race", "all: a b\na: ; rm s; echo s > s; touch a\nb: s ; touch b\n", {"s": "s"}),
     "file_that_becomes_a_link": Small("race", "all: a b\na: ; ln -sf q s; touch a\nb: s ; touch b\n", {"s": "s", "q": "q"}),
@@ -223,15 +212,6 @@ SMALL: Dict[str, Small] = {
     # looks
     "look_behind_a_recipe": Small("race", "all: t u\nt: p ; touch t\np: ; echo p > p\nu: ; cat p > u || true\n", {"t": "t"}, OLD + "t"),
     "first_look_at_a_target": Small("race", "all: q g t\nq: ; touch q\ng: q ; echo g > t\nt: q | g ; echo t > t\n"),
-    "first_look_at_a_target_that_goes": Small("race", "all: q g t\nq: ; touch q\ng: q ; echo g > t; rm t; touch g\nt: q | g ; echo t > t\n"),
-    "first_look_at_a_target_that_gets_older": Small("race", "all: q g t\nq: ; touch q\ng: q ; echo g > t; touch -d 2001-01-01 t; touch g\nt: q | g ; echo t > t\n"),
-    "first_look_at_a_target_that_is_moved_there": Small("safe", "all: g p t\ng: ; echo g > u; mv u t; touch g\np: g ; sleep .02; touch p\nt: p | g ; echo t > t\n"),
-    "first_look_at_a_target_that_is_moved_there_late": Small("race", "all: g t\ng: ; echo g > u; sleep .02; touch g; sleep .02; echo g > t; mv u t\nt: g ; echo t > t\n"),
-    "first_look_at_a_target_that_is_moved_there_from_before": Small("race", "all: q g t\nq: ; touch q\ng: q ; echo g > t; mv u t; touch g\nt: q | g ; echo t > t\n", {"u": "u"}),
-    "first_look_at_a_target_that_is_moved_there_from_outside": Small("race", "all: q g t\nq: ; touch q\ng: q ; echo g > t; mv ../u t; touch g\nt: q | g ; echo t > t\n", {"../u": "u"}),
-    "first_look_at_a_target_that_is_moved_there_from_another": Small("race", "all: q g t\nu: ; touch u; sleep .02\nq: u ; touch q\ng: q ; echo g > t; mv u t; touch g\nt: q | g ; echo t > t\n"),
-    "first_look_at_a_target_that_is_moved_there_older": Small("race", "all: q g t\nq: ; touch q\ng: q ; echo g > t; touch -d 2001-01-01 u; mv u t; touch g\nt: q | g ; echo t > t\n"),
-    "first_look_at_a_target_that_is_moved_there_in_a_folder": Small("race", "all: q g t\nq: ; touch q\ng: q ; echo g > t; mv d e; mv e/u t; touch g\nt: q | g ; echo t > t\n", {"d/u": "u"}),
     "look_of_a_rule_that_makes_both": Small("race", "all: u\na b: ; touch a b\nu: a b ; touch u\n", says="fix: a b &: ; touch a b          (in place of Makefile:2)\n"),
     "look_of_a_target_that_another_recipe_makes": Small("race", "all: u\na: ; touch a b\nb: ; touch b\nu: a b ; touch u\n", says="advice: let one recipe alone write it", lacks="fix:"),
     "fix_by_what_leaves_no_file": Small("race", "all: l u\nl: ; touch f\nu: ; cp f u\n", says="fix: u: | l          (checked"),
@@ -246,7 +226,7 @@ SMALL: Dict[str, Small] = {
     "vpath_prerequisite": Small("race", "vpath %.v v\nall: gen t\ngen: ; echo x > v/a.v; touch gen\nt: a.v ; touch t\n", {"v/a.v": "a", "t": "t"}),
     "race_among_makefiles": Small("race", "include a.d b.d\nall: z\nz: ; touch z\nb.d: ; touch b.d c.d\na.d: ; cat c.d > a.d\n", later="no verdict"),
     # ages
-    "ages_in_an_inner_make": Small("race", "all: in\na: ; touch x\nb: ; touch y\nin: a b ; $(MAKE) -f in.mk\n", {"in.mk": "y: x ; echo made >> log\n"}),
+    "ages_in_an_inner_make": Small("safe", "all: in\na: ; touch x\nb: ; touch y\nin: a b ; $(MAKE) -f in.mk\n", {"in.mk": "y: x ; echo made >> log\n"}, says="who looks at two files"),
     "age_of_a_folder": Small("safe", "all: c\na: ; touch d/n\nb: ; touch y\nc: a b ; test d -nt y && echo newer > c || echo older > c\n", setup="mkdir d", says=LOOKS),
     # acts of make between two jobs
     "act_before_the_next_target": Small("safe", ".PHONY: e\nall: g e u\ng: ; touch g\ne: g ; $(file >x,w)\nu: ; touch u\n"),

@@ -31,6 +31,3 @@ class Makefiles(unittest.TestCase):
         for text, values in open_ones:
             found: Optional[Set[str]] = self.of(text, cast(Dict[str, str], values)).exported
             self.assertIsNone(found, text)
-
-    def test_words_of_rules(self) -> None:
-        self.assertEqual({"-lx", "$(L)", "y"}, self.of("a: $(L) y ; cc -lz\nb:= 1\n", {"L": "-lx"}).rule_words)

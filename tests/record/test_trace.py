@@ -32,7 +32,7 @@ Makefiles = makefiles(__name__, {
     "folder_that_an_earlier_make_has_removed": Small("race", "all: a b\na: ; mkdir -p d; touch d/a a\nb: ; touch d/b b || true\nclean: ; rmdir d\n", setup="mkdir d"),
     "folder_that_the_make_above_has_made": Small("safe", "in: pre ; $(MAKE) -f 2.mk; touch in\npre: ; mkdir d; touch pre\n", {"2.mk": "all: a b\na: ; mkdir -p d; touch d/a a\nb: ; touch d/b b\n"}),
     # a make that begins again knows nothing of what it has listed
-    "listing_of_a_make_that_begins_again": Small("race", "-include x.d\nall: a b c\na: ; echo 1 > d/n; touch a\nb: a ; echo '$(wildcard d/*)' > b\nc: ; echo '$(wildcard d/*)' > c\nx.d: ; echo '# $(wildcard d/*)' > x.d\n", {"d/k": "k"}),
+    "listing_of_a_make_that_begins_again": Small("race", "-include x.d\nall: a b c\na: ; echo 1 > d/n; touch a\nb: a ; echo '$(wildcard d/*)' > b\nc: ; echo '$(wildcard d/*)' > c\nx.d: ; echo '# $(wildcard d/*)' > x.d\n", {"d/k": "k"}, is_tried=True),
     "search_of_a_make_that_begins_again": Small("safe", "-include x.d\nall: z.t g\n" + TWO_RULES + "g: ; echo a > d/z.a; touch g\nx.d: ; touch x.d\n", {"z.b": "b", "d/k": "k"}),
     # processes that the trace does not show
     "program_that_traces_another": Small("no verdict", "all: ; strace -o t true || true; touch all\n", says="a program traces another one (a debugger)"),

@@ -107,7 +107,7 @@ Makefiles = makefiles(__name__, {
     "makefile_that_is_written_once": Small("safe", "all: u gen\ngen: ; touch d/n.c gen\nu: ; " + LISTS % "k" + "\n", {"d/k.c": ""}),
     # folders that are made, where something shows who made them
     "folder_made_or_true_in_a_make_with_errors": Small("race", KEEPS % ("$(MAKE)", "> log 2>&1"), {"in.mk": TWO % "mkdir d || true"}),
-    "folder_made_or_true_in_a_make_with_output": Small("safe", KEEPS % ("$(MAKE)", "> log"), {"in.mk": TWO % "mkdir d || true"}),
+    "folder_made_or_true_in_a_make_with_output": Small("safe", KEEPS % ("$(MAKE)", "> log"), {"in.mk": TWO % "mkdir d || true"}, is_tried=True),
 })
 
 

@@ -81,4 +81,4 @@ class Patches(Reporting):
         text, found = self.patched(tasks, {"u": ("Makefile", 2)}, {"Makefile": "u:\n\tcc\n"},
                                    labels={"g": {"target": "g"}, "u": {"target": "u", "file": "Makefile", "line": 2}, "z.t@first": {"target": "z.t", "kind": "first"}})
         self.assertEqual("u:\n\tcc\nu: g\n", found["Makefile"])
-        self.assertTrue(text.startswith("# by hand: z.a: Advice: name z.a in a rule"), text)
+        self.assertTrue(text.startswith("# by hand: z.a: Advice: let one recipe alone write it"), text)

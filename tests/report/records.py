@@ -76,7 +76,6 @@ def kinds(folder: Path) -> Path:
         task("m1.o", (), (), ("lib.a",)), task("m2.o", (), (), ("lib.a",)),
         task("parse.c", (), (), ("parse.h",)), task("use.o", (), ("parse.h",), ()),
         task("out", (), (), ("out/",)), task("list", (), ("out/",), ()),
-        task("age", (), (), ("t/@age/1",)), task("old", (), (), ("t/@age/1",)),
         task("say", (), (), ("Makefile/@output",)), task("tell", (), ("Makefile/@output",), ()),
         task("gen%.h", (), (), ("gen%.h",)), task("with'quote.o", (), ("gen%.h",), ()),
         task("a.h", (), (), ("a.h", "b.h")), task("b.h", (), (), ("b.h",)),
@@ -85,7 +84,7 @@ def kinds(folder: Path) -> Path:
     ]
     places = {it["task"]: ("sub dir/Makefile", at + 1) for at, it in enumerate(tasks) if at % 5} | dict.fromkeys(("a.h", "b.h"), ("Makefile", 3))
     record = write(folder, tasks, places, meanings={
-        "t/@age/1": "which of t and its source is newer", "Makefile/@output": "the order of what make prints"})
+        "Makefile/@output": "the order of what make prints"})
     for label in ("cat", "sort"):
         labelled(record, label, target="all", command=f"{label} in")
     labelled(record, "serve", left=True)

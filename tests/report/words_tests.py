@@ -84,16 +84,3 @@ class Words(Reporting):
     def test_the_reason_comes_first(self) -> None:
         text = self.shown(records.header(self.room / "r", holes=("a hole",)), "text")[1]
         self.assertLess(text.index("  - a hole"), text.index("RACE 1"))
-
-    def test_who_asks(self) -> None:
-        """Two recipes settle an age for which a third one asks, or what runs behind make."""
-        tasks = [records.task("x", (), (), ("x/@age/0/1",)), records.task("y", (), (), ("x/@age/0/1",)), records.task("z", ("x", "y"))]
-        record = records.write(self.room / "r", tasks, {"z": ("Makefile", 9)}, meanings={"x/@age/0/1": "which of x and y is newer"})
-        for asker, says in (("z", ("z", "Makefile:9")), ("", ())):
-            records.changed(record, askers={"x/@age/0/1": asker})
-            for form in FORMS:
-                text = self.shown(record, form)[1]
-                self.assertIn("which of x and y is newer", text, form)
-                self.assertNotIn("@age", text, form)
-                self.assertEqual(bool(says), "z may ask for it" in text or '"asker": {' in text or ">z</th>" in text or "z  Makefile:9  may ask" in text, (form, text))
-        self.assertIn("(what runs behind this make)  -  ", self.shown(record, "text")[1])
