@@ -18,7 +18,7 @@ def unasked(makes: List[Make], ninjas: List[Ninja]) -> List[str]:
     for make in makes:
         for one in make.words.rounds:
             there.update(((make.folder, name), None) for name in written(one.base or Base()))
-            asked.update((make.folder, name) for name in one.nodes)
+            asked.update((make.folder, name) for name in (*one.nodes, *one.vpath.values()))
             asked.update((make.folder, name) for name in others_of(one.base or Base(), set(one.nodes)))
     for ninja in ninjas:
         if ninja.stages:

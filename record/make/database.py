@@ -3,7 +3,7 @@
 import re
 from dataclasses import dataclass, field
 from functools import cached_property
-from typing import Dict, List, Set, Tuple
+from typing import Any, Dict, List, Set, Tuple
 
 from record.make.references import NAME
 
@@ -56,6 +56,12 @@ class Base:
     parts: List[str] = field(default_factory=list)  # which of its parts have begun
     is_unclear: bool = False  # a macro has lines that look like those of the data base
     is_open: bool = False  # its last macro of several lines has no end, and may hide all else
+
+    def call(self, name: str, path: str) -> None:
+        """What make has found in another folder stands here by its path there: its rule has this name, too."""
+        every: Tuple[Dict[str, List[Any]], ...] = (self.recipes, self.places, self.double)
+        for known in every:
+            known.update({name: known[path]} if path in known else {})
 
     @cached_property
     def tails(self) -> List[Tuple[int, str, str]]:

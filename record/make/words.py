@@ -160,12 +160,13 @@ class _Reader:
         self.name = ""  # the makefile that it reads
         self.is_said = False  # make has printed something since it began a process
         self.made = ""  # the target whose recipe it expands
+        self.found: Dict[str, str] = {}  # by path: the target that make has found there
 
     def begin(self, stage: str) -> None:
         """A round begins: make remakes its makefiles, or its goals. With several jobs a recipe of the round before may still run."""
         self.round = Round(stage, len(self.words.read) - 1)
         self.words.rounds.append(self.round)
-        self.stack = []  # guard: recipe-that-goes-on-in-next-round
+        self.stack, self.found = [], {}  # guard: recipe-that-goes-on-in-next-round
 
     def child(self, what: str, pointer: str, name: str, pid: int) -> None:
         """A line about a job: it starts, goes on with its next line, or has ended. Make names it by a pointer, which a later job may have too."""
@@ -189,7 +190,7 @@ class _Reader:
     def considered(self, depth: int, name: str) -> None:
         """Make considers a target: it is a prerequisite of the last one that is less deep, or a goal."""
         assert self.round is not None
-        self.made = ""
+        self.made, name = "", self.found.get(name, name)  # guard: targets-in-search-paths
         while self.stack and self.stack[-1][0] >= depth:
             self.stack.pop()
         nodes = self.round.nodes
@@ -275,7 +276,9 @@ class _Reader:
             if seen is not None and seen.done < 0:
                 seen.done = self.clock
         elif vpath:
-            self.round.vpath[vpath.group(1)] = vpath.group(2)
+            name, path = vpath.groups()
+            self.round.vpath[name] = path
+            self.found.update({path: name} if path not in self.round.nodes else {})
         elif must:
             self.made = must.group(1)
             self.round.must.setdefault(self.made, len(self.round.jobs))
@@ -310,6 +313,8 @@ def take_base(words: Words, lines: List[str]) -> None:
         unread = next((job.target for job in one.jobs if one.base is None and job.target not in found.recipes), None)
         words.holes += ["the data base of a make does not show the recipe of a target that ran: " + unread] if unread is not None else []  # guard: recipes-that-it-does-not-show
         one.base = one.base or found
+        for name, path in one.vpath.items():
+            found.call(name, path)  # guard: names-of-rules
 
 
 def failures(words: Words) -> Iterator[str]:

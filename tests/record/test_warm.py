@@ -35,6 +35,11 @@ class Warm(unittest.TestCase):
     def test_one_after_the_other(self) -> None:
         self.assertEqual(0, self.status(BOTH + KEPT.replace(": s", ": first") + "first: s ; cp s first\n", "first kept", "stay so (2, such"))
 
+    def test_target_in_a_search_path(self) -> None:
+        rules = "VPATH = o\nall: a b\na: kept ; cp o/kept a\nb: %s ; cat o/kept > b\nkept: s ; cp s o/kept\n"
+        self.assertEqual(2, self.status(rules % "", "o/kept", "\n  o/kept\n"))
+        self.assertEqual(0, self.status(rules % "kept", "o/kept", "stay so (1, such"))
+
     def test_recipe_that_does_not_wait(self) -> None:
         self.assertEqual(2, self.status("all: c\n" + BOTH + KEPT + "all: c\nc: ; touch c\n"))
 
