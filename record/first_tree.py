@@ -7,7 +7,7 @@ What an earlier build left may order recipes, or stand for what they wait for, a
 used such a name:
 
 - in a git work tree: a name that was there, that somebody looked at before anybody wrote it, and that git does not track; a folder, where a recipe uses it
-  that neither makes it nor waits for one that does;
+  that neither makes it nor waits for one that does; so it is in `.git`, except what a clone has, and what git itself uses;
 - elsewhere, and in a folder that CMake or Meson configured: such a file that a recipe of this build writes, or cannot make since it is there, and such a folder
   that one makes;
 - in a tree that `--fresh` made: a new file that a recipe writes, as it is no source, and may be all that its folder holds;
@@ -16,8 +16,10 @@ used such a name:
 
 import os
 import re
+import shlex
 import subprocess
 import sys
+import tempfile
 from dataclasses import dataclass, field
 from functools import cached_property
 from itertools import combinations
@@ -68,9 +70,9 @@ class FirstTree:
         return path in self.tracked
 
     def is_own(self, path: str) -> bool:
-        """Whether a path is in the work tree, and neither in git's own folder nor among the new files."""
+        """Whether a path is in the work tree, and not among the new files."""
         below = os.path.relpath(path, self.top) if self.top else ".."
-        return below.partition("/")[0] not in (".", "..", ".git") and below not in self.new_names
+        return below.partition("/")[0] not in (".", "..") and below not in self.new_names
 
     def is_new(self, path: str) -> bool:
         """Whether a path is a new file, or a folder of new files."""
@@ -113,7 +115,15 @@ def tree_of(folder: str) -> FirstTree:
     top = os.path.realpath(top)
     files = [os.path.join(top, name) for name in git(top, "ls-files", "-z", "--recurse-submodules").split("\0") if name]
     changed = [line for line in git(top, "status", "--porcelain", "-z", "-uno").split("\0") if line]
-    return FirstTree(folder, top, git(top, "rev-parse", "--short", "HEAD").strip(), len(changed), tracked=frozenset(with_folders(files, top)))
+    return FirstTree(folder, top, git(top, "rev-parse", "--short", "HEAD").strip(), len(changed), tracked=frozenset(with_folders([*files, *in_clone(top)], top)))
+
+
+def in_clone(top: str) -> Iterator[str]:
+    """What git's own folder has in a new clone, as paths of this one."""
+    yield os.path.join(top, ".git", "index")  # of what is checked out
+    with tempfile.TemporaryDirectory(prefix="race-git-") as room:
+        git(top, "clone", "-q", "--shared", "--no-checkout", "--upload-pack", shlex.join([*GIT, "upload-pack"]), top, room)
+        yield from (os.path.join(top, os.path.relpath(folder, room), name) for folder, _, files in os.walk(room) for name in files)  # guard: what-a-clone-has
 
 
 def with_folders(files: Iterable[str], top: str) -> Iterator[str]:
@@ -153,8 +163,14 @@ def left_behind(tree: FirstTree, before: Dict[str, str], lives: "List[Life]", bu
     written = by_any & shared | by_recipes & changed | early & made  # guard: what-one-recipe-changes
     written |= {path for path in changed & before.keys() if tree.is_new(path)}  # guard: new-files-that-recipes-write
     own = {path for path in by_any | by_recipes | early if tree.is_own(path) and not (path + "/").startswith(tops)}
-    found = {path for path in written | own if not tree.has(path)}
+    found = {path for path in written | own if not tree.has(path)} - kept_by_git(lives)
     return {path for path in found if not (path + "/").startswith(kept + "/") and (path not in texts or has_rules(texts[path]))}  # guard: what-earlier-build-left
+
+
+def kept_by_git(lives: "Iterable[Life]") -> Set[str]:
+    """What git uses in its own folder."""
+    found = {path.partition("\0")[0] for life in lives if os.path.basename(life.program) == "git" for _, path in life.events if "/.git/" in path + "/"}
+    return found | {os.path.dirname(path) for path in found}  # guard: what-git-uses
 
 
 def locks(lives: "Iterable[Life]") -> Set[str]:

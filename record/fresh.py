@@ -94,7 +94,7 @@ def copy_work_tree(top: str, copy: str, out: Set[str]) -> List[str]:
         files.append(source)
     own = os.path.join(top, ".git")
     if os.path.isdir(own):
-        shutil.copytree(own, os.path.join(copy, ".git"), symlinks=True, copy_function=copy_object)
+        shutil.copytree(own, os.path.join(copy, ".git"), symlinks=True, copy_function=copy_object, ignore=without(out))
     elif os.path.exists(own):
         shutil.copy2(own, os.path.join(copy, ".git"))
     for place, _, _ in os.walk(copy, topdown=False):

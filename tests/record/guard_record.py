@@ -80,6 +80,8 @@ GUARDS: List[Guard] = [
     ),
     *guards("first_tree.py",
         ("what-make-lists", "pass", "first_tree.Left.folder_that_make_lists"),
+        ("what-a-clone-has", "pass", "first_tree.Left.what_a_clone_has", WITHHELD),
+        ("what-git-uses", "return set()", "first_tree.Left.what_git_uses", WITHHELD),
         ("what-earlier-build-left", "return set()", "first_tree.Left.dependency_file"),
         ("what-one-recipe-changes", "written = (by_any | by_recipes) & shared", "first_tree.Left.cache_of_one_recipe", LOST_HOLE),
         ("what-lists-show", "yield from ()", "first_tree.Left.name_that_a_list_shows", LOST_HOLE),

@@ -21,6 +21,7 @@ DEPFILES = {
                 "clean: ; rm -f main.o prog gen.h\n-include main.d\n",
 }
 MOVED = {"Makefile": "all: s u\ns: src ; cp src h.t; cmp -s h.t h && rm h.t || mv h.t h; touch s\nu: ; cat h > u\nclean: ; rm -f s u\n", "src": "1\n"}
+HOOK = {"Makefile": "all: p u\np: ; test -f .git/h || echo > .git/h; touch p\nu: ; cat .git/h > u\nclean: ; rm -f p u\n", ".gitignore": "p\nu\n"}
 SAFE = {"Makefile": "all: b\nb: a ; cat a > b\na: src ; cat src > a\nclean: ; rm -f a b\n", "src": "1\n"}
 
 
@@ -58,6 +59,19 @@ class Left(unittest.TestCase):
         outcome = self.recorded(MOVED, "echo 1 > h; " + GIT)
         self.assertEqual(0, outcome.status, outcome.text())
         self.assertRegex(outcome.text(), r"\n      for a checkout of [0-9a-f]{7,}\n")
+
+    def test_what_a_recipe_leaves_beside_git(self) -> None:
+        self.warm(HOOK, GIT + "; make -s; make -s clean", ".git/h")
+        self.warm({**HOOK, "Makefile": "all: u\nu: ; cp src .git/own/u; touch u\n", "src": ""}, GIT + "; mkdir .git/own", ".git/own")
+
+    def test_what_a_clone_has(self) -> None:
+        outcome = self.recorded({"Makefile": "all: v w\nv: .git/HEAD .git/index .git/logs/HEAD ; cp .git/HEAD v\nw: ; cat .git/packed-refs > w\n"}, GIT + "; git pack-refs --all")
+        self.assertEqual(0, outcome.status, outcome.text())
+
+    def test_what_git_uses(self) -> None:
+        files = {"Makefile": "all: v\nv: ; git describe --tags > v; git -c user.name=x -c user.email=x@y commit -qm x --allow-empty\n"}
+        outcome = self.recorded(files, GIT + "; git tag one")
+        self.assertEqual(0, outcome.status, outcome.text())
 
     def test_cache_of_one_recipe(self) -> None:
         files = {"Makefile": "all: a b\na: ; if test -f c; then cp c a; else cat b > a; fi; cp a c\nb: ; echo > b\nclean: ; rm -f a b\n"}
@@ -131,6 +145,10 @@ class Fresh(unittest.TestCase):
     def test_checkout(self) -> None:
         outcome = self.fresh({**MOVED, ".gitignore": "h\ns\nu\n"}, GIT + "; make -s; make -s clean")
         self.assertEqual((1, ["h"]), (outcome.status, support.races_of(outcome.text())), outcome.text())
+
+    def test_what_a_recipe_leaves_beside_git(self) -> None:
+        outcome = self.fresh(HOOK, GIT + "; make -s; make -s clean")
+        self.assertEqual((1, [".git/h"]), (outcome.status, support.races_of(outcome.text())), outcome.text())
 
     def test_new_files_are_named(self) -> None:
         outcome = self.fresh({**SAFE, ".gitignore": "a\nb\n"}, GIT + "; make -s; echo > new; echo 2 > src")
