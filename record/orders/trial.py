@@ -159,12 +159,14 @@ class Trial:
                 if not any(it.fullmatch(name) for it in self.passing[number])]
 
     def ended(self, built: Built) -> Optional[Ended]:
-        """How a build ended, where that is otherwise than the serial one."""
+        """How a build ended, where that is otherwise than the serial one. Recipes that the recorded build did not run come and go, such as those of CMake's tries."""
         names = self.names(built)
         path = next((os.path.join(self.room.tops[number], name) for number, name in names), "")
         if built.status != 0:
             return Ended(built.status, built.message(), path)
-        both = (("does not run", {*self.order} - {*built.began}), ("runs, and does not in a serial build", {*built.began} - {*self.order}))
+        order, began, known = {*self.order}, {*built.began}, {*self.graph.keys}
+        more = began - order if order <= known else began & known - order  # guard: recipes-that-the-record-has
+        both = (("does not run", order & known - began), ("runs, and does not in a serial build", more))
         text = ["the recipe of %s %s" % (key[-1][1], how) for how, keys in both for key in sorted(keys) if target_of(key) not in self.markers]
         text += [str(difference(name, Path(self.room.tops[number]), self.room.trees(built.plan)[number])) for number, name in names]
         return Ended(0, text[:SHOWN], path) if text else None

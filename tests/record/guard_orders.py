@@ -24,6 +24,7 @@ GUARDS: List[Guard] = [
     ),
     *guards("orders/trial.py",
         ("what-differs-once", "pass", "orders.Orders.what_differs_once"),
+        ("recipes-that-the-record-has", "more = began - order", "orders.Orders.case_targets_with_drawn_names"),
         ("looks-are-tried", "self.looked = [0] * len(self.graph.tasks)", "orders.Orders.case_one_order_of_three"),
         ("builds-that-need-other-machines", "raise CannotTry(again.message())", "orders.Orders.build_that_needs_a_server_of_this_machine"),
         ("no-more-than-there-may-be", "some = left[:AT_ONCE]", "orders.Orders.as_many_as_may_be"),

@@ -38,6 +38,7 @@ CASES: Dict[str, Tuple[str, Dict[str, str], int, Tuple[str, ...]]] = {
     "macro that another recipe sets": ("all: s a b\ns: ; @touch s\na: s ; $(eval X := set)@touch a\nb: ; @echo x$(X) > b\n", {}, 1, (
         "RACE  with several jobs, whatever the order of recipes is:", "  b: line 1 is `x`, and `xset` after a serial build")),
     "macro that make expands in one order": ("all: s a b\ns: ; @touch s\na: s ; $(eval X := set)@touch a\nb: s ; @echo x$(X) > b\n", {}, 0, ("in other orders left the same 4 files",)),
+    "targets with drawn names": ("all: a b\na: ; @$(MAKE) -s -f in.mk t$$(mktemp -u XXXXXX); echo > a\nb: ; @echo b > b\n", {"in.mk": "t%: ; @echo $@ > /dev/null\n"}, 0, ("in other orders left the same 4 files",)),
     "make in a recipe": ("all: d/a sub\nd/a: ; @echo a > d/a\nsub: ; @$(MAKE) -s -C s\n\t@touch sub\n", {"d/k": "", "s/Makefile": "list: ; @ls ../d > list\n"}, 1, (
         "  seen where sub runs before d/a:", "    s/list: line 1 is `k`, and `a` after a serial build")),
     "look whose answer is not compared": ("all: c\n" + AB + "c: a b ; @test a -nt b && echo newer > c; date +%N >> c\n", {}, 0, ("ages (1, such as", "other orders are not compared there")),
