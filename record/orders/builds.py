@@ -100,6 +100,7 @@ class Room:
     words: Sequence[str]
     record: Callable[[Path, Plan], int]
     has_net: bool = False  # builds have the ports of this machine, and reach others
+    is_each: bool = False  # all lines of a recipe wait at the gate
 
     def bound(self, seconds: float) -> None:
         """Keeps how long the recorded build took."""
@@ -182,12 +183,12 @@ class Room:
         """Where the command runs."""
         return self.tops[0]
 
-    def run(self, plan: Plan) -> Built:
-        """One build, in this process."""
+    def run(self, plan: Plan, gate: Gate | Ends | None = None) -> Built:
+        """One build, in this process. `gate`: in the place of that which a plan means."""
         place = self.place(plan)
         for number, tree in enumerate(self.trees(plan)):
             copy(self.fresh(number), tree)
-        gate: Gate | Ends = Ends(plan.ends) if plan.ends else Gate(place, plan.places, plan.after, plan.is_flipped)
+        gate = gate or (Ends(plan.ends) if plan.ends else Gate(place, plan.places, plan.after, plan.is_flipped))
         began = time.monotonic()
         with gate.listen() as listener, output_to(place / "output") as output:
             before = {*children_of(os.getpid())}
@@ -233,12 +234,17 @@ class Room:
         status = self.record(self.place(plan), plan) if plan.is_recorded else self.build(plan)
         (self.place(plan) / "status").write_text(str(status))
 
-    def build(self, plan: Plan) -> int:
-        """A build that is not recorded."""
-        watch = Watch(str(self.place(plan)), str(self.place(plan) / "gate"))
-        watch.prepare(makes_of(os.environ.get("PATH", os.defpath)))
+    def environment(self) -> dict[str, str]:
+        """The environment of a build."""
         env = dict(os.environ)
         forget_coerced(env)
+        return env
+
+    def build(self, plan: Plan) -> int:
+        """A build that is not recorded."""
+        watch = Watch(str(self.place(plan)), str(self.place(plan) / "gate"), self.is_each)
+        watch.prepare(makes_of(os.environ.get("PATH", os.defpath)))
+        env = self.environment()
         words, env = with_many(self.words, env, plan.jobs)
         return subprocess.run([*self.setup, *(SLOWLY if plan.is_slow else ()), *words], env=watch.environment(env), preexec_fn=watch.lay, check=False).returncode
 
@@ -260,15 +266,15 @@ def output_to(file: Path) -> Iterator[int]:
 
 
 def with_many(words: Sequence[str], env: Mapping[str, str], jobs: int) -> tuple[list[str], dict[str, str]]:
-    """A command and its environment, so that all makes and ninjas in it have so many jobs, except makes that a ninja runs (watch/hold.c); with one job makes
-    stay as they are."""
+    """A command and its environment, so that all makes and ninjas in it have so many jobs, whatever the load is, except makes that a ninja runs (watch/hold.c);
+    with one job makes stay as they are."""
     words = with_jobs([*words], jobs)
     if jobs == 1:
         return words, dict(env)
     name = os.path.basename(words[0])
     if name in NAMES or name in PASSING and any(os.path.basename(word) in NAMES for word in words):  # guard: makes-that-another-program-runs
-        return [*words, "-j%d" % jobs], dict(env)
-    return words, {**env, "MAKEFLAGS": env.get("MAKEFLAGS") or " -j%d" % jobs, "CMAKE_BUILD_PARALLEL_LEVEL": str(jobs)}
+        return [*words, "-j%d" % jobs, "-l"], dict(env)
+    return words, {**env, "MAKEFLAGS": env.get("MAKEFLAGS") or " -j%d -l" % jobs, "CMAKE_BUILD_PARALLEL_LEVEL": str(jobs)}
 
 
 @dataclass

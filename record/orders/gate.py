@@ -16,7 +16,6 @@ import time
 from collections.abc import Callable, Mapping
 from dataclasses import dataclass, field
 from pathlib import Path
-from typing import Optional
 
 from record.build.text import shown
 from record.orders.processes import Stalled, born, folder_of, is_quiet, parent_of, words_of
@@ -64,6 +63,7 @@ class Gate:
     read: dict[Path, int] = field(default_factory=dict)  # how much was read of the file of each make
     since: float = 0.0  # when something happened last
     stalled: Stalled = field(default_factory=Stalled)
+    choose: selectors.BaseSelector = field(init=False, repr=False)  # by descriptor: what is done when it is ready
 
     def listen(self) -> socket.socket:
         """The socket at which processes wait."""
@@ -106,11 +106,15 @@ class Gate:
             pid = above
         return ()
 
+    def folder_of(self, make: int) -> str:
+        """Where a make or ninja works."""
+        return folder_of(make)
+
     def bare(self, pid: int) -> tuple[int, str, Key]:
         """Of a process that waits: its make or ninja, the target or the sum, and its recipe, as the next of that name."""
         make = parent_of(pid)
         name = self.targets.get(pid) or held_command(pid)
-        above, folder = self.outer(make), shown(folder_of(make))
+        above, folder = self.outer(make), shown(self.folder_of(make))
         return make, name, (*above, (folder, name, self.counts.get((*above, (folder, name, 0)), 0) + 1))
 
     def is_over(self, key: Key) -> bool:
@@ -119,14 +123,22 @@ class Gate:
         pid = next((at for at, one in self.owners.items() if one == key), 0)
         return found is not None and (found in self.ended or pid not in self.targets and words_of(pid)[0] in "ZX")
 
-    def turn(self, root: int) -> Optional[int]:
-        """Lets a recipe begin, if nothing else can happen; what is ready when its first process has ended."""
-        if not self.waiting or not (is_quiet(root, self.waiting) or self.stalled.is_so(root, ())):
-            return None
+    def is_idle(self, root: int) -> bool:
+        """Whether nothing else can happen in the build."""
+        return is_quiet(root, self.waiting) or self.stalled.is_so(root, ())
+
+    def may_begin(self, key: Key) -> bool:
+        """Whether a recipe waits for no other one besides."""
+        return all(map(self.is_over, self.after.get(key, ())))
+
+    def turn(self, root: int) -> bool:
+        """Lets a recipe begin, if nothing else can happen; whether one does."""
+        if not self.waiting or not self.is_idle(root):
+            return False
         self.hear_makes()
         rows = {pid: self.bare(pid) for pid in self.waiting}
         further = [pid for pid, (make, name, _) in rows.items() if (make, name) in self.open]
-        free = [pid for pid, (_, _, key) in rows.items() if all(map(self.is_over, self.after.get(key, ())))]  # guard: fixes-hold
+        free = [pid for pid, (_, _, key) in rows.items() if self.may_begin(key)]  # guard: fixes-hold
         pid = max(further or free or rows, key=lambda one: (self.places.get(rows[one][2], LAST), *(at if self.is_flipped else -at for at in born(one))))  # guard: last-that-came
         make, name, key = rows[pid]
         if (make, name) not in self.open:
@@ -136,27 +148,35 @@ class Gate:
         self.owners[pid] = self.open[make, name]
         wait_for_tick()
         end = os.pidfd_open(pid)
-        go_on(self.waiting.pop(pid))
-        return end
+        self.choose.register(end, selectors.EVENT_READ, lambda: self.leave(end))
+        self.let_go(pid, self.waiting.pop(pid))
+        return True
+
+    def let_go(self, pid: int, channel: socket.socket) -> None:
+        """Answers a process that waits."""
+        try:
+            channel.sendall(b"g")
+        except OSError:
+            pass
+        channel.close()
+
+    def leave(self, descriptor: int) -> None:
+        """Is told no more of what a descriptor is about: a process that has ended."""
+        self.choose.unregister(descriptor)
+        os.close(descriptor)
 
     def serve(self, root: int, listener: socket.socket, has_ended: Callable[[], bool], limit: Callable[[], float]) -> bool:
         """Answers until the build has ended; false where nothing began or ended in it for so many seconds."""
         self.since, pause = time.monotonic(), LEAST
-        with selectors.DefaultSelector() as choose:
-            choose.register(listener, selectors.EVENT_READ)
+        with selectors.DefaultSelector() as self.choose:
+            self.choose.register(listener, selectors.EVENT_READ, lambda: self.come(listener))
             while not has_ended():
-                found = choose.select(pause)
+                found = self.choose.select(pause)
                 for key, _ in found:
-                    if key.fileobj is listener:
-                        self.come(listener)
-                    else:
-                        choose.unregister(key.fileobj)
-                        os.close(key.fd)
-                began = None if found else self.turn(root)
-                if began is not None:
-                    choose.register(began, selectors.EVENT_READ)
-                if found or began is not None:
-                    self.since, pause = time.monotonic(), LEAST if found else MOST  # the end of what begins is heard
+                    key.data()
+                began = not found and self.turn(root)
+                if found or began:
+                    self.since, pause = time.monotonic(), MOST if began else LEAST  # the end of what begins is heard
                 elif pause == MOST and time.monotonic() - self.since > limit():
                     return False
                 else:
@@ -169,12 +189,3 @@ def wait_for_tick() -> None:
     now = time.clock_gettime_ns(CLOCK_OF_FILES)
     while time.clock_gettime_ns(CLOCK_OF_FILES) == now:
         time.sleep(LEAST / 2)
-
-
-def go_on(channel: socket.socket) -> None:
-    """Answers a process that waits."""
-    try:
-        channel.sendall(b"g")
-    except OSError:
-        pass
-    channel.close()

@@ -220,10 +220,14 @@ class Graph:
 
     def alone(self, pair: Pair) -> dict[Key, float]:
         """The serial order, with the second of two tasks before the first, and what it needs before both."""
-        first, second = pair
-        need = self.tasks[second].before
-        between = range(first + 1, second)
-        order = [*range(first), *(at for at in between if need >> at & 1), second, first, *(at for at in between if not need >> at & 1), *range(second + 1, len(self.tasks))]
+        return self.beside(*reversed(pair))
+
+    def beside(self, one: int, other: int) -> dict[Key, float]:
+        """The serial order, with two tasks one right behind the other, where the earlier one stands, each with what runs inside of it; what they need comes before both."""
+        first, second = sorted((one, other))
+        need, inside = self.tasks[second].before, [{at, *(of for of, task in enumerate(self.tasks) if task.around >> at & 1)} for at in (one, other)]
+        rest = [at for at in range(first, len(self.tasks)) if at not in inside[0] | inside[1]]
+        order = [*range(first), *(at for at in rest if at < second and need >> at & 1), *sorted(inside[0]), *sorted(inside[1]), *(at for at in rest if not (at < second and need >> at & 1))]
         return placed([self.tasks[at].key for at in order])
 
     def adjacent(self, first: int, second: int) -> dict[Key, float]:

@@ -1,35 +1,25 @@
 """Holds processes at their end, in a build in a copy: so it is tried out whether another one really waits for them.
 
-The kernel reports each process that is to end, and waits for an answer (seccomp_unotify(2)). So nothing is at work in the process, which has all that it
-had, and strace records the build beside it. A process that is held ends when that which started it has ended; when nothing else can happen in the build, so
-that somebody waits for it, or for its pipes; and when it was held for long, as somebody looks at it again and again.
+The kernel reports each process that is to end, and waits for an answer (reported.py). A process that is held ends when that which started it has ended;
+when nothing else can happen in the build, so that somebody waits for it, or for its pipes; and when it was held for long, as somebody looks at it again
+and again.
 """
 
 from __future__ import annotations
 
-import ctypes
-import fcntl
 import os
 import re
-import select
 import socket
-import struct
 import time
 from collections.abc import Callable
-from contextlib import suppress
 from dataclasses import dataclass, field
 
 from record.orders.gate import Key
 from record.orders.processes import Stalled, born, children_of, parent_of, shown
+from record.orders.reported import filter_of, go_on, is_reported, receive, report
 from record.trace.courses import Address
-from record.watch.lay import LIBC
 
-CALLS = {"x86_64": (0xC000003E, 231, 317), "aarch64": (0xC00000B7, 94, 277)}  # by machine: its calls, exit_group, and seccomp
-LOAD, EQUAL, RETURN, REPORT, ALLOW = 0x20, 0x15, 0x06, 0x7FC00000, 0x7FFF0000  # of a program that looks at calls
-NO_NEW_RIGHTS, FILTER, LISTENED, UNTIL_KILLED = 38, 1, 8, 32  # for prctl, and for seccomp: no signal but one that kills ends the waiting
-RECEIVE, ANSWER = 0xC0502100, 0xC0182101  # for ioctl
-REPORTED, ANSWERED = struct.Struct("=QI68x"), struct.Struct("=QqiI")
-GOES_ON = 1
+ENDS = {"x86_64": 231, "aarch64": 94}  # by machine: the number of exit_group
 LEAST, MOST = 0.001, 0.032  # seconds from one look at the processes to the next
 LONG, OFTEN = 10.0, 3  # seconds that one is held at most; where so many were held so long, none is any more
 TRACER = re.compile(r"^TracerPid:\t(\d+)$", re.M)
@@ -42,26 +32,6 @@ class Held:
     number: int
     above: int
     since: float
-
-
-def report_ends() -> int:
-    """From here on the kernel reports the end of this process, and of each that it starts; the descriptor by which it does."""
-    if os.uname().machine not in CALLS:
-        raise OSError("no numbers of calls are known of this machine")
-    system, ends, seccomp = CALLS[os.uname().machine]
-    rows = ((LOAD, 0, 0, 4), (EQUAL, 0, 3, system), (LOAD, 0, 0, 0), (EQUAL, 0, 1, ends), (RETURN, 0, 0, REPORT), (RETURN, 0, 0, ALLOW))
-    code = ctypes.create_string_buffer(b"".join(struct.pack("=HBBI", *row) for row in rows))
-    program = struct.pack("@HP", len(rows), ctypes.addressof(code))
-    LIBC.prctl(NO_NEW_RIGHTS, 1, 0, 0, 0)  # as strace does
-    found: int = LIBC.syscall(seccomp, FILTER, LISTENED | UNTIL_KILLED, program)
-    if found < 0:
-        raise OSError(ctypes.get_errno(), "the kernel reports no ends")
-    return found
-
-
-def is_reported(listener: int, seconds: float) -> bool:
-    """Whether the kernel reports a process, at once or in so many seconds."""
-    return bool(select.select([listener], [], [], seconds)[0])
 
 
 @dataclass
@@ -82,7 +52,7 @@ class Ends:
 
     def enter(self) -> None:
         """What the build begins with."""
-        descriptor = report_ends()
+        descriptor = report(filter_of([ENDS.get(os.uname().machine, 0)]))
         socket.send_fds(self.other, [b"d"], [descriptor])
         os.close(descriptor)
 
@@ -100,18 +70,15 @@ class Ends:
 
     def hear(self, listener: int) -> None:
         """The kernel reports a process."""
-        report = bytearray(REPORTED.size)
-        with suppress(OSError):  # it was killed
-            fcntl.ioctl(listener, RECEIVE, report)
-            number, pid = REPORTED.unpack(report)
-            self.held[pid] = Held(number, parent_of(pid), time.monotonic())
-            if self.long >= OFTEN or self.address(pid) not in self.targets:
-                self.let_end(listener, pid)
+        call = receive(listener)
+        if call is not None:
+            self.held[call.pid] = Held(call.number, parent_of(call.pid), time.monotonic())
+            if self.long >= OFTEN or self.address(call.pid) not in self.targets:
+                self.let_end(listener, call.pid)
 
     def let_end(self, listener: int, pid: int) -> None:
         """A process goes on to its end."""
-        with suppress(OSError):  # it was killed
-            fcntl.ioctl(listener, ANSWER, bytearray(ANSWERED.pack(self.held.pop(pid).number, 0, 0, GOES_ON)))
+        go_on(listener, self.held.pop(pid).number)
 
     def look(self, listener: int, root: int) -> None:
         """Lets those end that are held no longer. Where nothing can happen, that comes first whose parent has no other child."""

@@ -1,18 +1,24 @@
 /* Where a build is tried in another order: the first process of each recipe waits until the gate lets it begin.
 
    The gate is a socket beside this library. Where there is one, make or ninja starts a copy of itself in the place of a recipe's first
-   process: that connects to the gate, waits for a byte, and then becomes the process. So it has its number, its files and its
-   environment. All others, such as those of $(shell ..) and of a recipe's further lines, begin at once. */
+   process: that connects to the gate, waits for an answer, and then becomes the process. So it has its number, its files and its
+   environment. All others, such as those of $(shell ..) and of a recipe's further lines, begin at once; further lines wait, too, where
+   there is a file `each`. The answer may be a filter of calls: the kernel reports these, of the process and of all below it, at a descriptor
+   whose number goes back to the gate. */
 
 #define _GNU_SOURCE
 #include <dlfcn.h>
 #include <errno.h>
+#include <linux/filter.h>
+#include <linux/seccomp.h>
 #include <spawn.h>
 #include <stdio.h>
 #include <stdlib.h>
 #include <string.h>
+#include <sys/prctl.h>
 #include <sys/socket.h>
 #include <sys/stat.h>
+#include <sys/syscall.h>
 #include <sys/un.h>
 #include <unistd.h>
 
@@ -21,7 +27,7 @@
 #define JOBS "MAKEFLAGS"                                        /* that of the gate begins with a blank: how many jobs makes have */
 
 static char gate[sizeof((struct sockaddr_un *)0)->sun_path], holder[4096]; /* empty where no recipe waits */
-static int is_ninja;
+static int is_ninja, is_each; /* is_each: all lines of a recipe wait */
 static int is_making;   /* make has said that it is at work on targets */
 static int is_later;    /* what make starts next is a further line of a recipe */
 static int is_function; /* what make starts next is of a function: it reads what that prints */
@@ -32,13 +38,31 @@ __attribute__((visibility("hidden"))) void hold_after(const char *words) {
   is_later = !strncmp(words, "Reaping ", 8);
 }
 
+static ssize_t answer_of(int channel, void *answer, size_t room) {
+  ssize_t size;
+  while ((size = read(channel, answer, room)) < 0 && errno == EINTR) {}
+  return size;
+}
+
+static void be_reported(int channel, struct sock_filter *rows, size_t count) {
+  enum { UNTIL_KILLED = 32 }; /* no signal but one that kills ends the waiting: Linux 5.19 */
+  struct sock_fprog program = {count, rows};
+  prctl(PR_SET_NO_NEW_PRIVS, 1, 0, 0, 0);
+  int reports = syscall(SYS_seccomp, SECCOMP_SET_MODE_FILTER, SECCOMP_FILTER_FLAG_NEW_LISTENER | UNTIL_KILLED, &program);
+  if (reports < 0) reports = syscall(SYS_seccomp, SECCOMP_SET_MODE_FILTER, SECCOMP_FILTER_FLAG_NEW_LISTENER, &program);
+  if (write(channel, &reports, sizeof reports) > 0) answer_of(channel, rows, 1);
+  if (reports >= 0) close(reports);
+}
+
 static void wait_at_gate(void) {
   struct sockaddr_un address = {.sun_family = AF_UNIX};
-  char answer;
+  struct sock_filter rows[64];
   int channel = socket(AF_UNIX, SOCK_STREAM | SOCK_CLOEXEC, 0);
   strcpy(address.sun_path, gate);
-  if (channel >= 0 && !connect(channel, (struct sockaddr *)&address, sizeof address))
-    while (read(channel, &answer, 1) < 0 && errno == EINTR) {}
+  if (channel >= 0 && !connect(channel, (struct sockaddr *)&address, sizeof address)) {
+    ssize_t size = answer_of(channel, rows, sizeof rows);
+    if (size >= (ssize_t)sizeof *rows) be_reported(channel, rows, size / sizeof *rows);
+  }
   close(channel);
 }
 
@@ -59,6 +83,9 @@ __attribute__((constructor(101))) static void find_gate(int argc, char **argv) {
   }
   is_ninja = !strncmp(program_invocation_short_name, "ninja", 5) || !strncmp(program_invocation_short_name, "samu", 4);
   if (access(gate, F_OK) || access(holder, X_OK)) *gate = 0;
+  char each[sizeof holder];
+  snprintf(each, sizeof each, "%.*seach", length, here.dli_fname);
+  is_each = !access(each, F_OK);
 }
 
 int posix_spawn_file_actions_adddup2(posix_spawn_file_actions_t *files, int from, int to) {
@@ -68,7 +95,7 @@ int posix_spawn_file_actions_adddup2(posix_spawn_file_actions_t *files, int from
 }
 
 static int waits(const char *path) {
-  int is_first = is_ninja || (is_making && !is_later && !is_function);
+  int is_first = is_ninja || (is_making && (!is_later || is_each) && !is_function);
   is_function = 0;
   return *gate && is_first && !access(path, X_OK);
 }

@@ -60,7 +60,7 @@ class Waits(unittest.TestCase):
         self.assertEqual((0, True), (found.status, "may have been luck" in found.text()), found.text())
 
     def test_kernel_that_reports_no_ends(self) -> None:
-        with mock.patch("record.orders.holding.report_ends", side_effect=OSError("no")), support.Project({"Makefile": ALL % "cp in o & sleep 1; cat o > p", "in": "1\n"}) as project:
+        with mock.patch("record.orders.holding.report", side_effect=OSError("no")), support.Project({"Makefile": ALL % "cp in o & sleep 1; cat o > p", "in": "1\n"}) as project:
             found = project.record(once=False)
         self.assertEqual((0, True), (found.status, LUCK in found.text()), found.text())
         self.assertIn("build in other orders left the same", found.text())
