@@ -7,24 +7,29 @@ import contextlib
 import os
 import subprocess
 import sys
+import tempfile
 from collections.abc import Iterator, Sequence
 from pathlib import Path
 
 from confirm.races import CannotConfirm, Chosen, chosen, tools_of, written_outside
 from confirm.reach import Tasks
-from confirm.room import Room, furnish, new_room, settle, tools
+from confirm.room import Room, new_room, settle
 from confirm.search import Finding, search
 from confirm.text import body, heading, summary
 from confirm.tree import take_back
-from confirm.trial import Trial
+from confirm.trial import PARALLEL, SERIAL, Trial
 from record import RELEASE
 from record.build.text import shown
 from record.folder import NotWhole, reading
 from record.judge import find_race, no_race
-from record.main import SERIAL_FAILED, Missing
+from record.main import SERIAL_FAILED, Missing, version_of
 from record.messages import printable, reason
+from record.orders.builds import TAKES_LEFT, Plan
+from record.orders.graph import Graph
 from record.orders.trees import CannotCopy, copy, remove
 from record.pages import after_no_verdict
+from record.watch.lay import LIBC
+from record.watch.library import NotBuilt, put_library
 from report.asking import judge
 from report.model import BadRecord, Report, read_json
 from report.plain import counted
@@ -43,7 +48,7 @@ status: 0 not confirmed: no difference was seen, which is no yes; 1 confirmed: a
 """
 
 
-KEPT = ("serial", "parallel")
+KEPT = (SERIAL, PARALLEL)
 MOST = 10  # builds, where nobody says how many schedules are to be tried
 
 
@@ -93,21 +98,19 @@ def note(text: str) -> None:
 
 
 @contextlib.contextmanager
-def prepared(args: argparse.Namespace, folder: str, used: set[str], compiler: str) -> Iterator[Room]:
+def prepared(args: argparse.Namespace, folder: str, words: Sequence[str]) -> Iterator[Room]:
     """A room with a copy of the project as it was before the build; it is gone at the end."""
-    room = Room(new_room(folder, note), folder, "ninja" in used)
+    room = Room(new_room(folder, note), [folder], [], words, lambda *_: 1, has_net=True, is_each=True)
     try:
-        furnish(room, compiler)
-        copy(Path(folder), room.fresh)
-        inner = os.path.relpath(os.path.realpath(args.record), folder)
-        if inner != "." and not inner.startswith(".."):
-            remove(room.fresh / inner)
+        room.top.chmod(0o711)  # makes of other users find the library
+        room.take(os.path.realpath(args.record))
         settle(room)
         if args.prepare:
             prepare(room, args.prepare)
         else:
             with reading(args.record):
-                room.taken = take_back(room.fresh, folder, args.record)
+                room.taken = take_back(room.fresh(0), folder, args.record)
+        LIBC.prctl(TAKES_LEFT, 1)
         yield room
     finally:
         remove(room.top)
@@ -115,21 +118,22 @@ def prepared(args: argparse.Namespace, folder: str, used: set[str], compiler: st
 
 def prepare(room: Room, command: str) -> None:
     """Runs the user's command in the copy."""
-    room.renew()
-    done = subprocess.run(["sh", "-c", command], env=room.environment(), preexec_fn=room.enter(), stdin=subprocess.DEVNULL,
+    plan = Plan("prepared", {})
+    copy(room.fresh(0), room.trees(plan)[0])
+    done = subprocess.run(["sh", "-c", command], env=room.environment(), preexec_fn=lambda: room.enter(plan), stdin=subprocess.DEVNULL,
                           capture_output=True, text=True, errors="replace", check=False)
     if done.returncode:
         raise CannotConfirm(f"`{command}` of --prepare ended with status {done.returncode} in the copy: {' '.join(done.stderr.split())[:200]}")
-    remove(room.fresh)
-    room.tree.rename(room.fresh)
+    remove(room.fresh(0))
+    room.trees(plan)[0].rename(room.fresh(0))
 
 
-def keep(room: Room, to: Path) -> None:
+def keep(trial: Trial, to: Path) -> None:
     """Leaves what the serial and the last parallel build left."""
     to.mkdir(parents=True, exist_ok=True)
-    for name, tree in zip(KEPT, (room.top / "serial", room.tree)):
-        if tree.exists():
-            copy(tree, to / name)
+    for name in KEPT:
+        if trial.tree(name).exists():
+            copy(trial.tree(name), to / name)
 
 
 def show(lines: Iterator[str]) -> None:
@@ -144,7 +148,7 @@ def try_all(args: argparse.Namespace, report: Report, races: Sequence[Chosen], r
     with reading(args.record):
         tasks = Tasks.of(args.record, room.folder)
     is_parallel = any(it.startswith(SERIAL_FAILED) for it in read_json(args.record / "record.json").get("notes", []))
-    trial = Trial(room, report.words, tasks, report.races, say, is_parallel, 0 if args.runs else MOST)
+    trial = Trial(room, Graph(args.record), tasks, report.races, say, is_parallel, 0 if args.runs else MOST)
     findings: list[Finding] = []
     trial.begin()
     for race in races:
@@ -160,7 +164,7 @@ def try_all(args: argparse.Namespace, report: Report, races: Sequence[Chosen], r
         show(body(findings[-1], args.record, trial.unstable, args.prepare))
         show(iter([""]))
     if args.keep:
-        keep(room, args.keep)
+        keep(trial, args.keep)
         show(iter([f"Kept: diff -r {args.keep}/serial {args.keep}/parallel"]))
     return findings
 
@@ -207,7 +211,10 @@ def run(args: argparse.Namespace) -> int:
     """Reads the record, tries the races that are asked for; the status."""
     with reading(args.record):
         used = tools_of(args.record)
-    compiler = tools("make" in used)
+    if "make" in used:
+        version_of("make", r"GNU Make (\d+)\.(\d+)", (4, 2), "make")
+    with tempfile.TemporaryDirectory(prefix="race-confirm-") as room:
+        put_library(Path(room, "library"))
     if args.keep:
         check_keep(args.keep)
     program = find_race(args.race)
@@ -221,7 +228,7 @@ def run(args: argparse.Namespace) -> int:
             raise CannotConfirm(f"there is no verdict on this record: {report.holes[0]}{others(len(report.holes) - 1)}\n{after_no_verdict()}")
         show(iter(["The record has no race: there is nothing to confirm."]))
         return 0
-    with prepared(args, folder, used, compiler) as room:
+    with prepared(args, folder, report.words) as room:
         findings = try_all(args, report, races, room)
     if len(findings) > 1:
         show(iter([summary(findings)]))
@@ -241,7 +248,7 @@ def main(words: Sequence[str] | None = None) -> int:
         return 2
     except KeyboardInterrupt:
         print("race-confirm: stopped; the temporary folder is gone", file=sys.stderr)
-    except (Missing, BadRecord, NotWhole) as error:
+    except (Missing, NotBuilt, BadRecord, NotWhole) as error:
         print(f"race-confirm: {error}", file=sys.stderr)
     except OSError as error:
         print(f"race-confirm: {reason(error)}; nothing is confirmed", file=sys.stderr)

@@ -11,11 +11,11 @@ from pathlib import Path
 from typing import Any
 
 from record.build.text import file_of
+from record.orders.gate import Key
+from record.orders.graph import Graph
 from report.model import Race, Report, read_json
 
 SIDES = ("first", "second")
-# Signs that a target's name may have, and that a makefile takes with a backslash before them.
-ESCAPED = " \t:#%*?[]~\\"
 
 
 class CannotConfirm(Exception):
@@ -24,23 +24,16 @@ class CannotConfirm(Exception):
 
 @dataclass(frozen=True)
 class Held:
-    """One side of a race: whose recipe it is, the target, the folder in which its make or ninja works, and of a command of
-    ninja what it is known by."""
+    """One side of a race: whose recipe it is, the target, the folder in which its make or ninja works, and how the gate knows the recipe."""
 
     side: str
     target: str
     folder: str
     is_recipe: bool
-    sum: str = ""
+    key: Key = ()
+    task: int = 0  # its place in the serial order
     is_part: bool = False  # a process of it, and not the whole recipe
-
-    def in_makefile(self) -> str:
-        """The target as a line of a makefile names it."""
-        if self.is_part:
-            raise CannotConfirm(f"a process of the recipe of {self.target} races by itself, and only whole recipes can be held")
-        if any(sign in "=;|&\n" for sign in self.target):
-            raise CannotConfirm(f"no line of a makefile can name the target {self.target}: it has one of = ; | & in its name, so its recipe cannot be held")
-        return "".join("\\" + it if it in ESCAPED else "$$" if it == "$" else it for it in self.target)
+    is_twice: bool = False  # another statement of ninja has its command
 
 
 @dataclass(frozen=True)
@@ -51,7 +44,6 @@ class Chosen:
     race: Race
     path: str
     sides: tuple[Held, Held]
-    tool: str = "make"
 
     def other(self, side: str) -> Held:
         """The other one of the two."""
@@ -69,9 +61,10 @@ def names(race: Race) -> set[str]:
 
 def chosen(report: Report, record: Path, words: Sequence[str]) -> Iterator[Chosen]:
     """The races that the words mean: one by its number, or all that have each of the names; all without words."""
+    graph = Graph(record)
     for number, race in enumerate(report.races, 1):
         if list(words) == [str(number)] or set(words) <= names(race):
-            yield choice(number, race, record)
+            yield choice(number, race, graph)
 
 
 def tasks_of(record: Path, number: str) -> Iterator[dict[str, Any]]:
@@ -101,18 +94,20 @@ def written_outside(record: Path, folder: str) -> Iterator[str]:
             yield whole
 
 
-def choice(number: int, race: Race, record: Path) -> Chosen:
+def choice(number: int, race: Race, graph: Graph) -> Chosen:
     """A race with what its build says of it."""
-    about = read_json(record / "builds" / race.build / "build.json")
+    about = graph.builds[race.build]
     folder, sides = about["folder"], []
-    sums = Counter(it.get("sum", "") for it in about["labels"].values())
+    sums = Counter(it.get("sum") for it in about["labels"].values())
     for side, recipe in zip(SIDES, (race.first.recipe, race.second.recipe)):
         label = about["labels"].get(recipe.label, {})
-        kind, sum_ = label.get("kind", ""), label.get("sum", "")
-        sides.append(Held(side, recipe.target, folder, kind in ("recipe", "part"), sum_ if sums[sum_] == 1 else "", kind == "part"))
+        kind, sum_ = label.get("kind", ""), label.get("sum")
+        own = (it.key for it in graph.tasks if it.build == race.build and it.key is not None and it.key[-1][:2] == (folder, sum_ or recipe.target))
+        key = graph.tasks[graph.at[race.build, recipe.label]].key or next(own, None) or ()  # all rules with two colons of a target are one recipe
+        sides.append(Held(side, recipe.target, folder, kind in ("recipe", "part"), key, graph.at[race.build, recipe.label], kind == "part", sum_ is not None and sums[sum_] > 1))
     path = file_in(about, race.path)
     whole = os.path.normpath(os.path.join(folder, path))
-    return Chosen(number, race, whole + "/" * path.endswith("/"), (sides[0], sides[1]), about.get("tool", "make"))
+    return Chosen(number, race, whole + "/" * path.endswith("/"), (sides[0], sides[1]))
 
 
 def tools_of(record: Path) -> set[str]:

@@ -6,7 +6,6 @@ from collections.abc import Iterator
 from dataclasses import dataclass, field
 
 from confirm.failed import STATUS
-from confirm.holding import Built
 from confirm.races import CannotConfirm, Chosen
 from confirm.reach import Reach
 from confirm.schedules import Schedule, serial_order, tries
@@ -46,7 +45,7 @@ class Search:
 
     trial: Trial
     finding: Finding
-    serial: Built
+    serial: Left
     reach: Reach
     usual: set[str] | None = None
 
@@ -57,13 +56,13 @@ class Search:
 
     def run(self, runs: int, only: int) -> None:
         """Tries at most so many schedules, or one alone, until one of them leaves something else, twice."""
-        for number, schedule in numbered(tries(self.serial.points, self.race), only):
+        for number, schedule in numbered(tries(self.serial.gate.points, self.race), only):
             if self.finding.builds >= runs:
                 self.finding.is_cut = True
                 break
-            left, found = self.trial.held(self.race, schedule, self.serial)
+            left, found = self.trial.held(self.race, schedule)
             self.finding.builds += 1
-            self.finding.reached += left.built.is_reached
+            self.finding.reached += left.gate.is_reached
             self.finding.stuck += left.status is None
             harm = self.harm(left, found) if found else set()
             if harm and (again := self.again(schedule, harm)):
@@ -83,11 +82,11 @@ class Search:
 
     def in_order(self) -> set[str]:
         """What a parallel build leaves otherwise where the two run in the order of the serial build: others do that."""
-        order = serial_order(self.serial.points, self.race)
+        order = serial_order(self.serial.gate.points, self.race)
         if order is None:
             return set()
         self.finding.has_order = True
-        left, found = self.trial.held(self.race, order, self.serial)
+        left, found = self.trial.held(self.race, order)
         self.note(left, found)
         if STATUS in found:
             raise clouded({STATUS})
@@ -95,7 +94,7 @@ class Search:
 
     def again(self, schedule: Schedule, harm: set[str]) -> tuple[Left, set[str]] | None:
         """The same schedule once more: what does harm both times."""
-        left, found = self.trial.held(self.race, schedule, self.serial)
+        left, found = self.trial.held(self.race, schedule)
         both = harm & self.reach.blame(found - (self.usual or set()), left.files, left.built.output).harm
         return (left, both) if both else None
 
@@ -122,7 +121,9 @@ def search(trial: Trial, race: Chosen, runs: int, only: int = 0) -> Finding:
     try:
         if race.sides[0].target == race.sides[1].target and race.sides[0].folder == race.sides[1].folder:
             raise CannotConfirm("both recipes have the same target, so neither can be held alone: fix the race without it")
-        if race.tool == "ninja" and (same := [it.target for it in race.sides if not it.sum]):
+        if part := [it.target for it in race.sides if it.is_part]:
+            raise CannotConfirm(f"a process of the recipe of {part[0]} races by itself, and only whole recipes can be held")
+        if same := [it.target for it in race.sides if it.is_twice]:
             raise CannotConfirm(f"another build statement has the command of {same[0]}, so it cannot be held alone: give it a command of its own")
         serial = trial.marked(race)
         Search(trial, finding, serial, Reach(trial.tasks, race.race, trial.races)).run(runs, only)

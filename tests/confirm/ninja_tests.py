@@ -7,10 +7,7 @@ import shutil
 import unittest
 from collections.abc import Callable, Mapping
 from pathlib import Path
-from typing import Any
 from unittest import mock
-
-from confirm.gate import Command, Gate
 
 HEAD = "rule sh\n  command = $c\nrule cc\n  command = cc -I. -c $in -o $out -MD -MF $out.d\n  depfile = $out.d\n  deps = gcc\n"
 GEN = "build g: sh\n  c = echo 1 > g\n"
@@ -127,31 +124,3 @@ class NinjaTests:
         assert os.system(f"cmake -G Ninja -S '{self.project}' -B '{self.project}/b' > /dev/null") == 0
         self.record("cmake", "--build", "b")
         self.check(1, "CONFIRMED  all of ", "fix: add_dependencies(user header)")  # (which of the two is first differs with the version of CMake)
-
-    def test_gate(self) -> None:
-        """The order of the serial build is kept; what is held does not count, and what does not come is not waited for again."""
-        done: list[str] = []
-        gate = Gate(["s1", "s2", "s3", "s4"], watch=lambda *_: None)
-        channel: Any = mock.Mock()
-        with mock.patch("confirm.gate.os.pidfd_open", return_value=0), mock.patch("confirm.gate.is_asleep", return_value=True):
-            for sum_ in ("s2", "s1"):
-                gate.come(channel, 1, 7, sum_)
-            gate.turn(set())
-            self.assertEqual(["s1"], gate.begun)
-            gate.turn(set())
-            self.assertEqual(["s1"], gate.begun)
-            gate.turn({"s1"})
-            self.assertEqual(["s1", "s2"], gate.begun)
-            gate.come(channel, 1, 7, "s4")
-            gate.ended(next(it for it in gate.running if it.sum == "s2"))
-            gate.turn({"s1"})
-            self.assertEqual(["s1", "s2"], gate.begun)
-            gate.changed -= 1
-            gate.turn({"s1"})
-            self.assertEqual(["s1", "s2", "s4"], gate.begun)
-            self.assertEqual([0, 1, 2, 3], sorted(gate.settled))
-            gate.come(channel, 2, 8, "s3")
-            gate.turn({"s1"})
-            self.assertEqual("s3", gate.begun[-1])
-        self.assertEqual([], done)
-        self.assertEqual([7, 7, 8], [it.ninja for it in gate.running if isinstance(it, Command)])

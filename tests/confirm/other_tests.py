@@ -17,17 +17,17 @@ from record.fixes import Remedy
 from record.kinds import LOG
 from report.model import Race, Recipe, Side
 
-HARMLESS = "a: ; echo same > shared; %s\nb: ; echo same > shared; touch b\n"
-# While a waits for b, the recipe that stands between the two runs before a: that is the other race.
-READER = {"Makefile": "all: a y b\n" + HARMLESS % "echo 1 > a" + "y: ; cat a > y || echo none > y\n"}
-FAILS = {"Makefile": "all: a y b\n" + HARMLESS % "echo 1 > a" + "y: ; cat a > y\n"}
-WRITER = {"Makefile": "all: a y b\n" + HARMLESS % "cat conf > a || echo none > a" + "y: ; echo 1 > conf; touch y\n"}
+HARMLESS = "a: ; echo same > shared; touch a\nb: ; echo same > shared; %s\n"
+# Where a meets b, the recipe that stands between the two runs behind b: that is the other race.
+READER = {"Makefile": "all: a y b\n" + HARMLESS % "echo 1 > b" + "y: ; cat b > y || echo none > y\n"}
+FAILS = {"Makefile": "all: a y b\n" + HARMLESS % "echo 1 > b" + "y: ; test ! -f b && touch y\n"}
+WRITER = {"Makefile": "all: a y b\n" + HARMLESS % "cat conf > b || echo none > b" + "y: ; echo 1 > conf; touch y\n"}
 # Both races change what is made of all: it says nothing about the harmless one.
-JOINED = {"Makefile": "all: late\nlate: a y b ; cat a y b > late\n" + HARMLESS % "echo 1 > a" + "y: ; cat a > y || echo none > y\n"}
+JOINED = {"Makefile": "all: late\nlate: a y b ; cat a y b > late\n" + HARMLESS % "echo 1 > b" + "y: ; cat b > y || echo none > y\n"}
 BELOW = {"Makefile": "all: one copy\none: ; $(MAKE) -C sub\ncopy: one ; cat sub/late > copy\n",
          "sub/Makefile": "all: late\nlate: a b ; cat a b > late\na: ; cat g > a || echo none > a\nb: ; echo 1 > g; touch b\n"}
 OF_NINJA = "rule sh\n  command = $c\n" + "".join(f"build {name}: sh\n  c = {text}\n" for name, text in (
-    ("a", "echo same > shared; echo 1 > a"), ("y", "cat a > y || echo none > y"), ("b", "echo same > shared; touch b")))
+    ("a", "echo same > shared; touch a"), ("y", "cat b > y || echo none > y"), ("b", "echo same > shared; echo 1 > b")))
 THREE = {"Makefile": "all: a b c\n" + "".join(f"{it}: ; echo {it} > t; mv t {it}\n" for it in "abc")}
 # While the recipe of a is held beside make alone, that of y runs before it.
 LOOKED = {"Makefile": "all: a y x\na: ; cat conf > a || echo none > a; echo 1 > x\ny: ; echo 1 > conf; touch y\nx: in ; test -f x || echo 1 > x\n", "in": ""}
@@ -70,21 +70,21 @@ class OtherTests:
 
     def test_reader_between_the_two(self) -> None:
         self.beside(READER, 0, "NOT CONFIRMED in 3 tries: what differs comes from other recipes.\n",
-                    "  Another race shows, race 1:\n    y: line 1 is `none`, and `1` after a serial build\n")
-        self.check(1, "CONFIRMED  all of y before a:\n", words=("1",))
+                    "  Another race shows, race 2:\n    y: line 1 is `1`, and `none` after a serial build\n")
+        self.check(1, "CONFIRMED  all of b before y:\n", words=("2",))
 
     def test_reader_that_fails_between_the_two(self) -> None:
         self.beside(FAILS, 2, "CANNOT BE CONFIRMED  parallel builds differ also where the two run in the order of the serial build (its status)",
-                    "  Another race shows, race 1:\n    the build fails with status 2; the serial build ends with 0\n", "*** [Makefile:4: y] Error 1")
+                    "  Another race shows, race 2:\n    the build fails with status 2; the serial build ends with 0\n", "*** [Makefile:4: y] Error 1")
 
     def test_writer_between_the_two(self) -> None:
-        self.beside(WRITER, 2, "in the order of the serial build (a): another race may do that", "Another race shows, race 1:\n")
+        self.beside(WRITER, 2, "in the order of the serial build (b): another race may do that", "Another race shows, race 2:\n")
 
     def test_what_is_made_of_both(self) -> None:
-        self.beside(JOINED, 0, "NOT CONFIRMED in ", "  Another race shows, race 1:\n    late: line 2 is `none`")
+        self.beside(JOINED, 0, "NOT CONFIRMED in ", "  Another race shows, race 2:\n    late: line 1 is `1`")
 
     def test_reader_between_commands_of_ninja(self) -> None:
-        self.beside({"build.ninja": OF_NINJA}, 0, "NOT CONFIRMED in ", "  Another race shows, race 1:\n    y: line 1 is `none`")
+        self.beside({"build.ninja": OF_NINJA}, 0, "NOT CONFIRMED in ", "  Another race shows, race 2:\n    y: line 1 is `1`")
 
     def test_three_that_share_a_temporary(self) -> None:
         self.files(THREE)
@@ -103,12 +103,12 @@ class OtherTests:
         self.check(1, "CONFIRMED  all of b before a:\n", "  sub/a: line 1 is `1`, and `none`", "  copy: line 1 is `1`", words=("g",))
 
     def test_make_by_its_whole_path(self) -> None:
-        if os.geteuid() != 0 or not can_enter(self.project, str(self.project)):
+        if os.geteuid() != 0 or not can_enter():
             self.skipTest("the recorder may not have mounts of its own")
         self.files({"in.mk": READER["Makefile"], "build": f"#!/bin/sh\nexec {os.path.realpath(str(shutil.which('make')))} -f in.mk\n"})
         (self.project / "build").chmod(0o755)
         self.record("./build")
-        self.check(1, "CONFIRMED  all of y before a:\n", words=("1",))
+        self.check(1, "CONFIRMED  all of b before y:\n", words=("2",))
 
 
 def task(label: str, after: str = "", reads: str = "", writes: str = "", kind: str = "recipe") -> tuple[dict, dict]:

@@ -7,8 +7,8 @@ import tempfile
 import unittest
 from pathlib import Path
 
-from confirm.races import CannotConfirm, Held
 from confirm.schedules import Points, inner
+from confirm.uses import is_it
 from record.orders.trees import Difference, difference, passing
 
 
@@ -25,12 +25,8 @@ class Parts(unittest.TestCase):
         self.assertEqual(wanted, [str(it) for it in inner(points.all)])
         self.assertEqual("before `sh` begins, time 2", str(points.add("first", "start", "-", "sh")))
 
-    def test_targets_in_makefiles(self) -> None:
-        self.assertEqual("a\\ b\\:\\%$$c", Held("first", "a b:%$c", "/", True).in_makefile())
-        with self.assertRaises(CannotConfirm):
-            Held("first", "a=b", "/", True).in_makefile()
-        with self.assertRaises(CannotConfirm):
-            Held("first", "a", "/", True, "", True).in_makefile()
+    def test_file_of_the_race(self) -> None:
+        self.assertEqual([True, False, True, True, False], [is_it(*it) for it in (("/p/f", "/p/f"), ("/p/f/x", "/p/f"), ("/p/d", "/p/d/"), ("/p/d/x", "/p/d/"), ("/p/dx", "/p/d/"))])
 
     def test_names_that_differ_from_run_to_run(self) -> None:
         found = passing({"out/tmp.abcd", "d1x/y", "a"}, {"out/tmp.acde", "d2x/y", "bc"})

@@ -13,8 +13,8 @@ from dataclasses import dataclass
 from pathlib import Path
 from typing import Dict, Iterator, List, Set, Tuple
 
-from confirm.holding import is_idle
 from record.judge import judge
+from record.orders.processes import below, children_of, words_of
 
 # What stands for $N TARGET: it counts the steps of each target, and waits at some.
 HOLD = """#!/bin/sh
@@ -99,6 +99,12 @@ class Watch:
                 os.write(pipes[way], b"\n" * 100)  # for all that wait in this way, and that would later
         for pipe in pipes.values():
             os.close(pipe)
+
+
+def is_idle(root: int, held: int) -> bool:
+    """Whether all of a build waits: its processes sleep, and no more of them have no child than are held."""
+    found = [pid for pid in below(root) if words_of(pid)[0] not in "ZX"]
+    return all(words_of(pid)[0] in "SD" for pid in found) and sum(not children_of(pid) for pid in found) <= held
 
 
 def pairs(record: Path) -> Iterator[Tuple[Side, Side]]:
