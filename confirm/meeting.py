@@ -7,8 +7,6 @@ what runs inside of the two; it goes on when the other one has ended, or when no
 from __future__ import annotations
 
 import os
-import select
-import selectors
 import socket
 import struct
 from collections.abc import Collection, Iterator
@@ -20,7 +18,7 @@ from confirm.schedules import Point, Points, Schedule
 from confirm.uses import FILTER, program_of, use_of
 from record.orders.gate import Gate, Key
 from record.orders.processes import is_quiet
-from record.orders.reported import Call, go_on, receive
+from record.orders.reported import Call, go_on
 from record.watch.lay import LIBC
 
 GET_DESCRIPTOR = 438  # the number of pidfd_getfd, on all machines
@@ -92,21 +90,16 @@ class Meeting(Gate):
         if listener < 0:
             self.points.add(side, "start", "-", program_of(pid))
         else:
-            self.choose.register(listener, selectors.EVENT_READ, partial(self.hear, listener, side))
+            self.expect(listener, partial(self.take, listener, side))
 
-    def hear(self, listener: int, side: str) -> None:
-        """The kernel reports a call, or that no process is left."""
-        ready = select.poll()
-        ready.register(listener, select.POLLIN)
-        if not any(events & select.POLLIN for _, events in ready.poll(0)):
-            self.leave(listener)
-        elif call := receive(listener):
-            found = [*self.points_of(side, call)]
-            if self.schedule and self.schedule.at in found and not self.has_come:
-                self.has_come = True
-                self.held[call.pid] = listener, call.number
-            else:
-                go_on(listener, call.number)
+    def take(self, listener: int, side: str, call: Call) -> None:
+        """The kernel reports a call: it happens, or is where the recipe is held."""
+        found = [*self.points_of(side, call)]
+        if self.schedule and self.schedule.at in found and not self.has_come:
+            self.has_come = True
+            self.held[call.pid] = listener, call.number
+        else:
+            go_on(listener, call.number)
 
     def points_of(self, side: str, call: Call) -> Iterator[Point]:
         """Where a recipe stands at a call: behind the last one of its process, and before this one."""

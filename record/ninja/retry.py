@@ -7,11 +7,9 @@ import json
 import os
 import re
 import shlex
-import shutil
 from pathlib import Path
-from typing import TYPE_CHECKING, Dict, List, Optional, Set
+from typing import TYPE_CHECKING, Dict, List, Set
 
-from record.commands.shelltext import first_words
 from record.ninja.log import Kept
 from record.trace.names import Names
 
@@ -23,63 +21,23 @@ if TYPE_CHECKING:
 TRIES = 3
 JOBS = 4
 HINTS = 5
-CLEAN = "--clean-first"
 OWN = (".ninja_log", ".ninja_deps", ".ninja_lock")
 
 
-def with_jobs(words: List[str], jobs: int, folder: str = "") -> List[str]:
+def with_jobs(words: List[str], jobs: int) -> List[str]:
     """The words of a command that surely runs ninja, with a number of commands at once; of any other as they are."""
     name = os.path.basename(words[0])
     own = ["-j%d" % jobs]
     if re.fullmatch(r"ninja(-build)?|samu", name) or name == "meson" and words[1:2] == ["compile"]:
         split = words.index("--") if "--" in words else len(words)
         return words[:split] + own + words[split:]
-    if name == "cmake" and words[1:2] == ["--build"] and len(words) > 2 and cached(os.path.join(folder, words[2]), "CMAKE_GENERATOR").startswith("Ninja"):
+    if name == "cmake" and words[1:2] == ["--build"] and len(words) > 2 and cached(words[2], "CMAKE_GENERATOR").startswith("Ninja"):
         if "--" not in words:
             return words + own
         split = words.index("--")
         has_own = any(re.match(r"-j|--jobs", w) for w in words[split:])
         return words[:split] + own + words[split:] + (own if has_own else [])
     return words
-
-
-def by_name(words: List[str], real: str, folder: str = "") -> List[str]:
-    """A command that runs make by its whole path, so that it runs make by name: that path itself, a script of make, such as debian/rules,
-    and `cmake --build` where CMake made makefiles. Any other as it is."""
-    if "/" in words[0] and os.path.realpath(os.path.join(folder, words[0])) == os.path.realpath(real):
-        return ["make", *words[1:]]
-    script = words[0] if "/" in words[0] else shutil.which(words[0]) or words[0]
-    first = first_words(os.path.join(folder, script))
-    if first and os.path.realpath(first[0]) == os.path.realpath(real):
-        return ["make", *([" ".join(first[1:])] if first[1:] else []), script, *words[1:]]
-    is_cmake = os.path.basename(words[0]) == "cmake" and words[1:2] == ["--build"] and len(words) > 2
-    if is_cmake and cached(os.path.join(folder, words[2]), "CMAKE_GENERATOR") == "Unix Makefiles":
-        found = words_of_cmake(words[3:])
-        if found is not None:
-            clean = "make -f Makefile clean && " if CLEAN in found else ""
-            return ["sh", "-c", 'cd "$0" && %sexec make -f Makefile "$@"' % clean, words[2], *(word for word in found if word != CLEAN)]
-    return words
-
-
-def words_of_cmake(words: List[str]) -> Optional[List[str]]:
-    """What make gets of the words behind `cmake --build DIR`, and CLEAN where it runs `make clean` first; None where they ask for more than that."""
-    found: List[str] = []
-    split = words.index("--") if "--" in words else len(words)
-    kind = ""
-    for word in words[:split]:
-        name, equals, value = word.partition("=")
-        if word in ("-v", "--verbose", CLEAN):
-            kind, found = "", found + [word if word == CLEAN else "VERBOSE=1"]
-        elif name in ("-t", "--target", "--config", "-j", "--parallel"):
-            kind = name
-            found += [value] if equals and name == "--target" else []
-        elif re.fullmatch(r"-j\d+", word) or kind in ("-j", "--parallel") and word.isdigit() or kind == "--config":
-            kind = ""
-        elif kind in ("-t", "--target") and not word.startswith("-"):
-            found.append(word)
-        else:
-            return None
-    return found + words[split + 1:]
 
 
 def named_folders(words: List[str]) -> List[str]:

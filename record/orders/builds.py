@@ -183,12 +183,12 @@ class Room:
         """Where the command runs."""
         return self.tops[0]
 
-    def run(self, plan: Plan, gate: Gate | Ends | None = None) -> Built:
+    def run(self, plan: Plan, gate: Optional[Gate] = None) -> Built:
         """One build, in this process. `gate`: in the place of that which a plan means."""
         place = self.place(plan)
         for number, tree in enumerate(self.trees(plan)):
             copy(self.fresh(number), tree)
-        gate = gate or (Ends(plan.ends) if plan.ends else Gate(place, plan.places, plan.after, plan.is_flipped))
+        gate = gate or (Ends(place, {}, ends=plan.ends) if plan.ends else Gate(place, plan.places, plan.after, plan.is_flipped))
         began = time.monotonic()
         with gate.listen() as listener, output_to(place / "output") as output:
             before = {*children_of(os.getpid())}
@@ -214,7 +214,7 @@ class Room:
             status = 1
         return Built(plan, status, time.monotonic() - began, gate.began, (place / "output").read_text(errors="replace"), [held_by(tree) for tree in self.trees(plan)])
 
-    def become(self, plan: Plan, gate: Gate | Ends, output: int, heard: Callable[[], ContextManager[object]]) -> None:
+    def become(self, plan: Plan, gate: Gate, output: int, heard: Callable[[], ContextManager[object]]) -> None:
         """Builds in a process of its own, and ends it."""
         try:
             with heard():
@@ -224,7 +224,7 @@ class Room:
         finally:
             os._exit(0)
 
-    def build_in_place(self, plan: Plan, gate: Gate | Ends, output: int) -> None:
+    def build_in_place(self, plan: Plan, gate: Gate, output: int) -> None:
         """Builds in this process, and writes the status."""
         os.setsid()
         for stream, file in ((0, os.open(os.devnull, os.O_RDONLY)), (1, output), (2, output)):

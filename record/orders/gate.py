@@ -19,6 +19,7 @@ from pathlib import Path
 
 from record.build.text import shown
 from record.orders.processes import Stalled, born, folder_of, is_quiet, parent_of, words_of
+from record.orders.reported import Call, is_reported, receive
 
 Key = tuple[tuple[str, str, int], ...]  # a recipe: from the outermost make or ninja on its folder, the target, and which of those of that name it is
 OF_CHILD = re.compile(rb"(?:Putting|Live) child \S+ \((.*)\) PID (\d+)|Removing child \S+ (?:\(.*\) )?PID (\d+)")
@@ -159,6 +160,16 @@ class Gate:
         except OSError:
             pass
         channel.close()
+
+    def expect(self, reports: int, take: Callable[[Call], object]) -> None:
+        """Takes each call that the kernel reports by a descriptor, until no process is left."""
+        def hear() -> None:
+            if not is_reported(reports):
+                self.leave(reports)
+            elif call := receive(reports):
+                take(call)
+
+        self.choose.register(reports, selectors.EVENT_READ, hear)
 
     def leave(self, descriptor: int) -> None:
         """Is told no more of what a descriptor is about: a process that has ended."""

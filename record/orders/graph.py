@@ -230,12 +230,6 @@ class Graph:
         order = [*range(first), *(at for at in rest if at < second and need >> at & 1), *sorted(inside[0]), *sorted(inside[1]), *(at for at in rest if not (at < second and need >> at & 1))]
         return placed([self.tasks[at].key for at in order])
 
-    def adjacent(self, first: int, second: int) -> dict[Key, float]:
-        """An order in which two tasks come one right behind the other, as early as they can."""
-        need = self.tasks[first].before | self.tasks[second].before
-        order = [*numbers(need), first, second, *(at for at in range(len(self.tasks)) if not need >> at & 1 and at not in (first, second))]
-        return placed([self.tasks[at].key for at in order])
-
     def is_ordered(self, one: int, other: int) -> bool:
         """Whether two tasks have one order in all builds."""
         first, second = sorted((one, other))

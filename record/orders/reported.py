@@ -6,7 +6,6 @@ So nothing is at work in the process: it has all that it had, and strace may rec
 from __future__ import annotations
 
 import ctypes
-import errno
 import fcntl
 import os
 import select
@@ -56,9 +55,11 @@ def report(program: bytes) -> int:
     return found
 
 
-def is_reported(listener: int, seconds: float) -> bool:
-    """Whether the kernel reports a call, at once or in so many seconds."""
-    return bool(select.select([listener], [], [], seconds)[0])
+def is_reported(listener: int) -> bool:
+    """Whether the kernel reports a call now."""
+    ready = select.poll()
+    ready.register(listener, select.POLLIN)
+    return any(events & select.POLLIN for _, events in ready.poll(0))
 
 
 def receive(listener: int) -> Optional[Call]:
@@ -66,9 +67,7 @@ def receive(listener: int) -> Optional[Call]:
     found = bytearray(REPORTED.size)
     try:
         fcntl.ioctl(listener, RECEIVE, found)
-    except OSError as fault:
-        if fault.errno not in (errno.ENOENT, errno.EINTR):
-            raise
+    except OSError:
         return None
     number, pid, _, call, _, _, *given = REPORTED.unpack(found)
     return Call(number, pid, call, given)

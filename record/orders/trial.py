@@ -257,7 +257,7 @@ class Trial:
             keys = self.graph.tasks[min(first, second)].key, self.graph.tasks[max(first, second)].key
             if not self.goes_on or {*keys} in ({one.first, one.second} for one in self.shown) or any(one in self.after.get(other, ()) for one, other in (keys, keys[::-1]) if one and other):
                 continue
-            plan = Plan("overlap", self.graph.adjacent(first, second), after=self.after, is_slow=True)
+            plan = Plan("overlap", self.graph.beside(first, second), after=self.after, is_slow=True)
             (_, ended), = self.make(plan)
             if ended is None:
                 left.discard((min(first, second), max(first, second)))

@@ -14,7 +14,7 @@ from pathlib import Path
 from typing import Dict, Iterator, List, Set, Tuple
 
 from record.judge import judge
-from record.orders.processes import below, children_of, words_of
+from record.orders import processes
 
 # What stands for $N TARGET: it counts the steps of each target, and waits at some.
 HOLD = """#!/bin/sh
@@ -103,8 +103,8 @@ class Watch:
 
 def is_idle(root: int, held: int) -> bool:
     """Whether all of a build waits: its processes sleep, and no more of them have no child than are held."""
-    found = [pid for pid in below(root) if words_of(pid)[0] not in "ZX"]
-    return all(words_of(pid)[0] in "SD" for pid in found) and sum(not children_of(pid) for pid in found) <= held
+    found = [pid for pid in processes.below(root) if processes.words_of(pid)[0] not in "ZX"]
+    return all(processes.words_of(pid)[0] in "SD" for pid in found) and sum(not processes.children_of(pid) for pid in found) <= held
 
 
 def pairs(record: Path) -> Iterator[Tuple[Side, Side]]:

@@ -28,7 +28,7 @@ class Holding(unittest.TestCase):
         """Runs a script; the programs that ended, in this order, and `first` where the shell has waited for the first one."""
         room = Path(tempfile.mkdtemp(prefix="race-ends-"))
         self.addCleanup(shutil.rmtree, room)
-        held = Ends(frozenset({(0,)}))
+        held = Ends(Path(), {}, ends=frozenset({(0,)}))
         with held.listen() as listener:
             root = os.fork()
             if root == 0:
@@ -103,7 +103,7 @@ class Looking(unittest.TestCase):
     """When one that is held may end."""
 
     def test_build_in_which_nothing_ends(self) -> None:
-        held = Ends(frozenset())
+        held = Ends(Path(), {})
         with held.listen() as listener:
             root = os.fork()
             if root == 0:
@@ -118,16 +118,17 @@ class Looking(unittest.TestCase):
 
     def test_end_of_which_nobody_has_heard(self) -> None:
         """Its parent is to end, and the kernel has reported that since."""
-        held = Ends(frozenset())
+        held = Ends(Path(), {})
         parent = subprocess.Popen(["sleep", "9"])
         here, there = socket.socketpair()
         with here, there, mock.patch.object(Stalled, "is_so", return_value=True), mock.patch.object(Ends, "let_end") as let_end:
             held.held[parent.pid] = Held(1, os.getpid(), holding.time.monotonic())
             there.send(b"x")
-            held.look(here.fileno(), os.getpid())
+            held.reports = here.fileno()
+            held.turn(os.getpid())
             self.assertFalse(let_end.called)
             here.recv(1)
-            held.look(here.fileno(), os.getpid())
+            held.turn(os.getpid())
             self.assertTrue(let_end.called)
         parent.kill()
         parent.wait()

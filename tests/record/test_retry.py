@@ -1,7 +1,6 @@
 """Words with a number of jobs, logs of ninja, what a failed build leaves, and fixes in the words of a generator."""
 
 import os
-import shutil
 import unittest
 from typing import Dict
 
@@ -11,7 +10,7 @@ from record.judge import Race
 from record.ninja.fix import owner_of, pool_text
 from record.ninja.log import Kept, Missing, ends, new_outputs, read_missing
 from record.ninja.manifest import Manifest, read_manifest
-from record.ninja.retry import by_name, folders_of, source_of, tops_of, undo, with_jobs
+from record.ninja.retry import folders_of, source_of, tops_of, undo, with_jobs
 from record.ninja.runs import options_of
 from record.trace.lives import Life
 from record.trace.names import Names
@@ -36,20 +35,6 @@ class Words(unittest.TestCase):
         for words, wanted in (("ninja", "ninja -j1"), ("/usr/bin/ninja -C b all", "/usr/bin/ninja -C b all -j1"), ("ninja -- x", "ninja -j1 -- x"),
                               ("meson compile -C b", "meson compile -C b -j1"), ("meson test", "meson test"), ("make -j4", "make -j4"), ("./build.sh", "./build.sh")):
             self.assertEqual(wanted.split(), with_jobs(words.split(), 1), words)
-
-    def test_commands_that_run_make_by_its_path(self) -> None:
-        real = shutil.which("make") or ""
-        run = ["sh", "-c", 'cd "$0" && exec make -f Makefile "$@"']
-        with support.Project({"m/CMakeCache.txt": "CMAKE_GENERATOR:INTERNAL=Unix Makefiles\n", "rules": "#!%s -f\n" % real, "other": "#!/bin/sh\n"}) as project:
-            project.sh("chmod +x rules other")
-            build, rules, other = (str(project.folder / name) for name in ("m", "rules", "other"))
-            for words, wanted in (([rules, "build"], ["make", "-f", rules, "build"]), ([other], [other]), (["make", "all"], ["make", "all"]), ([real, "-k"], ["make", "-k"]),
-                                  (["cmake", "--build", build], [*run, build]), (["cmake", "--build", build, "-j8", "-v"], [*run, build, "VERBOSE=1"]),
-                                  (["cmake", "--build", build, "--target", "a", "b", "--parallel", "4"], [*run, build, "a", "b"]),
-                                  (["cmake", "--build", build, "-t", "a", "--config", "Debug", "--", "-k", "X=1"], [*run, build, "a", "-k", "X=1"]),
-                                  (["cmake", "--build", build, "--fresh"], ["cmake", "--build", build, "--fresh"]),
-                                  (["cmake", "--build", build, "--clean-first", "-t", "a"], ["sh", "-c", run[2].replace("exec", "make -f Makefile clean && exec"), build, "a"])):
-                self.assertEqual(wanted, by_name(words, real), words)
 
     def test_cmake_where_ninja_builds(self) -> None:
         cache = "# x\nCMAKE_GENERATOR:INTERNAL=%s\n"
