@@ -172,7 +172,7 @@ class Gate:
         self.choose.register(reports, selectors.EVENT_READ, hear)
 
     def leave(self, descriptor: int) -> None:
-        """Is told no more of what a descriptor is about: a process that has ended."""
+        """Hears no more by a descriptor, such as that of a process that has ended."""
         self.choose.unregister(descriptor)
         os.close(descriptor)
 
