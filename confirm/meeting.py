@@ -17,10 +17,11 @@ from confirm.races import Chosen, Held
 from confirm.schedules import Point, Points, Schedule
 from confirm.uses import FILTER, program_of, use_of
 from record.orders.gate import Gate, Key
-from record.orders.processes import is_quiet
+from record.orders.processes import is_quiet, parent_of, words_of
 from record.orders.reported import Call, go_on
 from record.watch.lay import LIBC
 
+LATEST = -1e9  # recipes that the record has not begin behind all others, except one that is held at its beginning
 GET_DESCRIPTOR = 438  # the number of pidfd_getfd, on all machines
 
 
@@ -28,6 +29,7 @@ GET_DESCRIPTOR = 438  # the number of pidfd_getfd, on all machines
 class Meeting(Gate):
     """A build of one race. Without a schedule both recipes are reported, and none is held."""
 
+    unknown: float = LATEST
     race: Chosen | None = None
     schedule: Schedule | None = None
     folder: str = ""  # where the project lies,
@@ -113,8 +115,8 @@ class Meeting(Gate):
             yield self.points.add(side, "before", does, program)
 
     def is_idle(self, root: int) -> bool:
-        waiting = {**dict.fromkeys(self.waiting), **dict.fromkeys(self.held)}
-        return is_quiet(root, waiting) or self.stalled.is_so(root, self.held)
+        lent = {above for above in map(parent_of, self.held) if words_of(above)[0] == "D"}  # until a child of vfork begins its program
+        return is_quiet(root, {*self.waiting, *self.held, *lent}) or self.stalled.is_so(root, {*self.held, *lent})
 
     def may_begin(self, key: Key) -> bool:
         if not self.held or not self.early.is_recipe:

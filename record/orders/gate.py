@@ -54,6 +54,7 @@ class Gate:
     places: Mapping[Key, float]
     after: Mapping[Key, set[Key]] = field(default_factory=dict)
     is_flipped: bool = False
+    unknown: float = LAST  # the place of recipes that have none
     waiting: dict[int, socket.socket] = field(default_factory=dict)
     began: list[Key] = field(default_factory=list)
     owners: dict[int, Key] = field(default_factory=dict)  # by first process of a recipe
@@ -140,7 +141,7 @@ class Gate:
         rows = {pid: self.bare(pid) for pid in self.waiting}
         further = [pid for pid, (make, name, _) in rows.items() if (make, name) in self.open]
         free = [pid for pid, (_, _, key) in rows.items() if self.may_begin(key)]  # guard: fixes-hold
-        pid = max(further or free or rows, key=lambda one: (self.places.get(rows[one][2], LAST), *(at if self.is_flipped else -at for at in born(one))))  # guard: last-that-came
+        pid = max(further or free or rows, key=lambda one: (self.places.get(rows[one][2], self.unknown), *(at if self.is_flipped else -at for at in born(one))))  # guard: last-that-came
         make, name, key = rows[pid]
         if (make, name) not in self.open:
             self.began.append(key)
