@@ -140,7 +140,7 @@ class ReachTests(unittest.TestCase):
     def race(self, first: str, second: str, build: str = "001", is_look: bool = False) -> Race:
         """A race of two tasks of a build."""
         one, other = (Recipe(it, it.partition("@")[0], "", "", 0, "", is_look and it == second) for it in (first, second))
-        return Race(build, "f", "f", "f", "f", "", Side(one, "writes"), Side(other, "reads"), None, LOG, Remedy(), (), "/p", ("", "", ""), True, True)
+        return Race(build, "f", "f", "f", "f", "", Side(one, "writes"), Side(other, "reads"), LOG, Remedy(), (), "/p", ("", "", ""), True, True)
 
     def blame(self, race: Race, found: str, output: str = "", there: str = "", races: tuple[Race, ...] = ()) -> Blame:
         """Whose matter some names are."""
