@@ -162,7 +162,7 @@ def write_build(folder: Path, build: "Build", within: Optional[Dict[str, str]], 
             file.write(line + "\n")
             about.setdefault(label, {"target": "", "kind": "group", "file": "", "line": 0, "recipe": ""})
             edges += len(json.loads(line)["after"])
-    meanings = {relative(root, p): shown(m.replace(" %s/" % root.rstrip("/"), " ")) for p, m in sorted(build.meanings.items())}  # with names as the paths have them  # guard: names-as-paths
+    meanings = {relative(root, p): shown(m.replace(" %s/" % root.rstrip("/"), " ")) for p, m in sorted(build.meanings.items())}  # with names as the paths have them
     counts = {
         "considered": build.considered, "tasks": len(about), "edges": edges,
         "recipes": sum(1 for t in build.tasks if t.kind == "recipe"), "paths": sum(len(t.reads) + len(t.writes) for t in build.tasks),

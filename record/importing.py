@@ -141,7 +141,7 @@ def builds_of_makes(owners: Owners, elsewhere: Elsewhere, past: Past, names: Nam
     builds = []
     for place, make, number in sorted(((beginning(m, n), m, n) for m in owners.makes for n in range(len(m.words.rounds))), key=lambda found: found[0]):
         if make.words.rounds[number].jobs or any(n == number for n, _ in make.acts):
-            builder = Builder(make, number, names, assumed, past.until(place))  # guard: what-earlier-makes-made
+            builder = Builder(make, number, names, assumed, past.until(place))
             builder.elsewhere = elsewhere
             builds.append(builder.run())
             record.holes += builder.holes

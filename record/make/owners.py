@@ -117,9 +117,9 @@ def beginning(make: Make, number: int) -> int:
     """When a round of a make begins: the makefiles are read, and the recipes of the round before have ended."""
     rounds = make.words.rounds
     jobs = [job for one in rounds[:number] for job in one.jobs]
-    ended = (life.died for job in jobs if id(job) in make.work for life in make.work[id(job)].lives[:1])  # guard: what-is-made-for-makefile
+    ended = (life.died for job in jobs if id(job) in make.work for life in make.work[id(job)].lives[:1])
     start = rounds[number].start
-    return max([make.ready[start] if start < len(make.ready) else make.life.born, *ended])  # guard: what-is-made-while-make-reads
+    return max([make.ready[start] if start < len(make.ready) else make.life.born, *ended])
 
 
 def called_by(make: Make) -> Iterator[Life]:

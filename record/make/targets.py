@@ -61,7 +61,7 @@ class RoundBuilder(Builder):
 
     def plain(self, node: Node) -> List[str]:
         """Labels of the prerequisites whose ages count; the data base cuts names at blanks, so one of those for order alone may look like another."""
-        only = self.graph.base.order_only.get(node.name, set()).difference(self.graph.base.prerequisites.get(node.name, ()))  # guard: names-with-blanks-behind-bar
+        only = self.graph.base.order_only.get(node.name, set()).difference(self.graph.base.prerequisites.get(node.name, ()))
         return [p for p in node.prerequisites if p in self.graph.nodes and p not in only and self.graph.nodes[p].name != node.name and not self.graph.nodes[p].phony]  # guard: order-only
 
     def is_leaf(self, node: Node) -> bool:

@@ -58,7 +58,7 @@ CASES = [
     Case("pool", RACE, "pool one\n  depth = 1\n" + sh("a", "", LOG, "pool = one") + sh("b", "", LOG, "pool = one"), ["both are in the pool one, which runs one at a time"]),
     Case("pool-deep", RACE, "pool two\n  depth = 2\n" + sh("a", "", LOG, "pool = two") + sh("b", "", LOG, "pool = two"), ["both are in the pool two of depth 2"]),
     Case("age-of-a-folder-inside", SAFE, sh("pre", "", "ninja -C sub && touch pre") + sh("in", "pre", "ninja -C sub && touch in") + sh("gen", "", "touch sub/d/n gen"),
-         files={"sub/build.ninja": RULES + sh("out", "d", LOG)}, setup="mkdir sub/d"),
+         ["programs that look at a folder"], files={"sub/build.ninja": RULES + sh("out", "d", LOG)}, setup="mkdir sub/d"),
     Case("console", RACE, sh("a", "", LOG, "pool = console") + sh("b", "", LOG, "pool = console"), ["both are in the pool console"]),
     Case("response-file", RACE, named("f", "build a: s x\n  f = r\nbuild b: s y\n  f = r\n"), files={"x": "", "y": ""}),
     Case("response-file-own", SAFE, named("f", "build a: s x\n  f = r1\nbuild b: s y\n  f = r2\n"), files={"x": "", "y": ""}),

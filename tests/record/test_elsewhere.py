@@ -51,7 +51,7 @@ Makefiles = makefiles(__name__, {
     "ages_that_an_archive_of_another_recipe_keeps": Small("safe", "all: p u\np: ; $(MAKE) -f a.mk; tar cf t x y b.mk\nu: p ; mkdir i; tar xf t -C i; $(MAKE) -C i -f b.mk\n", {"a.mk": FIRST, "b.mk": AGAIN}, says="who looks at two files"),
     "ages_that_copies_do_not_keep": Small("safe", "all: ; $(MAKE) -f a.mk; mkdir i; cp y i; cp x b.mk i; $(MAKE) -C i -f b.mk\n", {"a.mk": FIRST, "b.mk": AGAIN}),
     # folders and links
-    "age_of_a_folder_for_a_make_behind_another": Small("race", "all: ; $(MAKE) -f a.mk; $(MAKE) -f b.mk\n", {"a.mk": "all: q y\ns: ; touch s\nq: s ; mkdir d; touch q\ny: ; touch y\n", "b.mk": "all: y\ny: d ; echo again >> y\nd: ;\n"}, is_tried=True),
+    "age_of_a_folder_for_a_make_behind_another": Small("safe", "all: ; $(MAKE) -f a.mk; $(MAKE) -f b.mk\n", {"a.mk": "all: q y\ns: ; touch s\nq: s ; mkdir d; touch q\ny: ; touch y\n", "b.mk": "all: y\ny: d ; echo again >> y\nd: ;\n"}, says="who looks at two files"),
     "age_of_an_empty_folder": Small("safe", FOLDER % ("mkdir d", NEWER), says=LOOKS),
     "age_of_an_empty_folder_by_p": Small("safe", FOLDER % ("mkdir -p d", NEWER), says=LOOKS),
     "age_of_an_empty_folder_for_a_make_inside": Small("race", FOLDER % ("mkdir d", "$(MAKE) -s -f b.mk"), {"b.mk": "all: y\ny: d ; @echo again >> y\nd: ;\n"}, is_tried=True),

@@ -159,7 +159,7 @@ SMALL: Dict[str, Small] = {
     "folder_whose_rule_comes_late_for_a_loud_maker": Small("race", "all: a b\na: ; mkdir d; touch d/a\nb: | d ; touch d/b\nd: ; mkdir -p $@\n"),
     "folder_whose_age_is_asked_for": Small("safe", "all: a b\na: ; touch d/a\nb: d ; touch d/b\nd: ; mkdir -p $@\n", {"b": "b"}, "mkdir d; touch -d 2001-01-01 d; touch -d 2002-01-01 b", says="programs that look at a folder"),
     "folder_removed": Small("race", "all: b a\na: ; rmdir d\nb: ; test -d d && echo yes > b || echo no > b\n", setup="mkdir d"),
-    "folder_behind_a_bar": Small("safe", "all: gen u\ngen: ; echo x > d/n; touch gen\nu: s | d ; cat s > u\nd: ; mkdir d\n", {"s": "s", "u": "u"}, "mkdir d; " + OLD + "u"),
+    "folder_behind_a_bar": Small("safe", "all: gen u\ngen: ; echo x > d/n; touch gen\nu: s | d ; cat s > u\nd: ; mkdir d\n", {"s": "s", "u": "u"}, "mkdir d; " + OLD + "u", lacks="programs that look at a folder"),
     "folder_made_by_two_who_fail": Small("race", "all: a b\na b: ; mkdir d || echo second > $@\n"),
     "folder_made_or_true": Small("safe", "all: a b\na b: ; mkdir d 2>/dev/null || true; echo $@ > d/$@\n", is_tried=True),
     "folder_made_by_a_line_that_may_fail": Small("safe", "D = d\nall: a b\na:\n\t-mkdir d\n\techo $@ > d/$@\nb:\n\t@-$(MKDIR) $(D)\n\techo $@ > d/$@\nMKDIR = mkdir\n", is_tried=True),
@@ -208,7 +208,7 @@ SMALL: Dict[str, Small] = {
     "pattern_that_a_recipe_includes": Small("race", "all: b a\nc: ; touch c\na: ; echo V = 1 > d/c.mk; touch a\nb: c ; $(eval -include d/*.mk) echo $V > b\n", {"d/k.c": "k"}),
     "script_that_compares_ages": Small("race", "all: c\na: ; touch x\nb: ; touch y\nc: a b ; ./newer > c\n", {
         "newer": "#!" + sys.executable + "\nimport os\nprint(os.stat('x').st_mtime > os.stat('y').st_mtime)\n"}, "chmod +x newer", is_tried=True),
-    "folder_as_prerequisite_cold": Small("safe", "all: d/a d/b\nd/a d/b: d ; echo $@ > $@\nd: ; mkdir d\n"),
+    "folder_as_prerequisite_cold": Small("safe", "all: d/a d/b\nd/a d/b: d ; echo $@ > $@\nd: ; mkdir d\n", lacks="programs that look at a folder"),
     # looks
     "look_behind_a_recipe": Small("race", "all: t u\nt: p ; touch t\np: ; echo p > p\nu: ; cat p > u || true\n", {"t": "t"}, OLD + "t"),
     "first_look_at_a_target": Small("race", "all: q g t\nq: ; touch q\ng: q ; echo g > t\nt: q | g ; echo t > t\n"),
