@@ -8,7 +8,7 @@ from dataclasses import dataclass
 from record.build.assumptions import TEXTS
 
 HEADING = re.compile(r"^(#+) (.*)$")
-NUMBERED = re.compile(r"^([FV]\d+) (\w+)$")
+NUMBERED = re.compile(r"^([FV]\d+) (\w+)(?:: .*)?$")
 RULER = re.compile(r"^\|[\s|:-]+\|$")
 SPAN = re.compile(r"`([^`]+)`")
 RACE = "two recipes may run at once and should not: what to do goes by the path"

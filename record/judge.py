@@ -137,7 +137,7 @@ def judge(race: str, tasks: Path, root: str) -> Verdict:
     is_whole = "races %d" % len(verdict.races) in listed.stdout.split("\n")
     if not is_whole or listed.returncode not in (0, 1) or (listed.returncode == 1) != bool(verdict.races):  # guard: status-against-its-words
         verdict.status = 2
-        said = " ".join((listed.stdout + listed.stderr).split()) or "race list " + ended(listed.returncode)
+        said = " ".join((listed.stdout or listed.stderr).split()) or "race list " + ended(listed.returncode)
         verdict.refused = said if listed.returncode not in (0, 1) else "%s does not answer as race does: %s" % (race, said[:300])
     elif listed.returncode == 1:
         verdict.races = on_files(verdict.races, tasks)  # guard: files-before-folders

@@ -79,7 +79,7 @@ def asked(program: Path, words: Sequence[str]) -> subprocess.CompletedProcess[st
 
 def refusal(done: subprocess.CompletedProcess[str], command: str) -> str:
     """Why `race` refused its input; nothing where it did not."""
-    said = " ".join((done.stdout + done.stderr).split())
+    said = " ".join(done.stdout.split())
     return f"race {command}: {explained(said) or 'no reason given'}" if done.returncode == 2 else ""
 
 

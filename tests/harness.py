@@ -52,6 +52,7 @@ MARKS_BYTES = 8192
 KINDS = ("memory", "open", "read", "write")
 OUT_OF_MEMORY = b"race: out of memory\n"
 NOTE = re.compile(rb"race: note: nothing makes \S+ here, though its footprint says what its recipe does \((1 such target|([2-9]|[1-9]\d+) such targets)\); see --base\n")
+LINE = re.compile(rb".+: .+ \(race-explain (F\d+)\)\n")
 
 Run = collections.namedtuple("Run", "status stdout stderr calls met changing what")
 
@@ -68,8 +69,12 @@ test = load_test()
 
 
 def outcome(ran):
-    """What a person sees of a run."""
-    return ran.status, ran.stdout, ran.stderr
+    """What a person sees of a run; of a refusal without the line that says it in words, which has to name its fault."""
+    if not is_refusal(ran):
+        return ran.status, ran.stdout, ran.stderr
+    said = LINE.match(ran.stderr)
+    is_named = said and said[1] == ran.stdout.split()[1]
+    return ran.status, ran.stdout, ran.stderr[said.end() :] if is_named else b"not in words: " + ran.stderr
 
 
 def seen(ran):
@@ -82,7 +87,8 @@ def seen(ran):
 def notes_no_more(words, ran):
     """Whether standard error has nothing, or the note of footprints that lie unused where these words may have one."""
     noting = words[0] in ("check", "verify", "replay") and not {"--tasks", "--strict"} & set(words)
-    return not ran.stderr or noting and bool(NOTE.fullmatch(ran.stderr))
+    errors = outcome(ran)[2]
+    return not errors or noting and bool(NOTE.fullmatch(errors))
 
 
 def is_refusal(ran):

@@ -1,28 +1,19 @@
 -- Lemmas on a build that was read.
-use Rattle.std.proofs.Common.{◌≡◌, ◌≢◌, ◌∙◌, ℕ, Bool, List, [], Result, Ok, Err, IfErr, IfOk, ap, inl, inr, refl, subst, sym}
+use Rattle.std.proofs.Common.{◌≡◌, ◌∙◌, ℕ, Bool, List, [], Result, Err, IfErr, IfOk, ap, inl, inr, refl, subst, sym}
 use Rattle.std.proofs.lemmas.Result.{IfOk-weaker}
 use Rattle.mk_name.specs.Reported.{Reported}
 use Rattle.mk_name.specs.Shown.{refused_text}
-use Rattle.mk_race.specs.Judged.{IsAnswered, IsSafe, NoScheduleShows}
 use Rattle.mk_race.specs.Stages.{IsPrepared, Texts}
-use Rattle.mk_report.specs.Reports.{IsReport}
-use Rattle.mk_report.specs.declared.answer.Answer.{Answer as Judged}
-use Rattle.mk_report.specs.declared.answer.Answer.TheVariants as judged
-use Rattle.mk_run.specs.Run.{IsChecked, outcome_of}
-use Rattle.mk_run.specs.declared.checking.Checked.{Checked}
-use Rattle.mk_run.specs.declared.outcome.Outcome.{Outcome}
-use Rattle.mk_run.specs.declared.outcome.Outcome.TheVariants as outcomes
-use Rattle.mk_program.specs.Answers.{IsCheckAnswer, IsJobAnswer, IsNoTextOf, base_of, judged_status, outcome_status, texts_for}
+use Rattle.mk_program.specs.Answers.{IsJobAnswer, IsNoTextOf, base_of, texts_for}
 use Rattle.mk_run.specs.Builds.{IsReadFrom}
-use Rattle.mk_program.specs.Noting.{SaysNoting, SaysQuietly, note_of}
+use Rattle.mk_program.specs.Noting.{SaysNoting, SaysQuietly}
 use Rattle.mk_program.specs.OrderText.{IsUnreported}
 use Rattle.mk_program.specs.declared.answers.Answer.{Answer}
 use Rattle.mk_run.specs.declared.build.Build.{Build}
 use Rattle.mk_program.specs.declared.noting.Reply.{Reply}
 use Rattle.mk_program.specs.declared.statuses.Status.{Status}
-use Rattle.mk_program.specs.declared.statuses.Status.TheVariants.{Failed, Refused}
+use Rattle.mk_program.specs.declared.statuses.Status.TheVariants.{Refused}
 use Rattle.mk_program.proofs.Answering.{pairs, read_from, texts_are, words}
-use Rattle.mk_program.proofs.Judged.{judged_is}
 use Rattle.mk_program.proofs.Noted.{quiet_is, with_note}
 use Rattle.mk_files.specs.Builds.{AreFoundBelow, IsListedBelow, other_text}
 use Rattle.mk_files.specs.Includes.{Pair}
@@ -33,42 +24,6 @@ use Rattle.mk_request.specs.declared.inputs.InputFile.{InputFile}
 use Rattle.mk_request.specs.declared.inputs.InputFile.TheVariants as inputs
 use Rattle.mk_request.specs.declared.requests.BuildArgs.{BuildArgs}
 use Rattle.mk_request.specs.declared.requests.JobQuestion.{JobQuestion}
-
--- a check of a build ends as what was judged
-kind_is : (answer : Judged) → outcome_status (outcome_of answer) ≡ judged_status answer
-kind_is (judged.Safe jobs chains) = refl
-kind_is (judged.Race jobs trace) = refl
-kind_is (judged.Refused reported) = refl
-
-safe_kind : (answer : Judged) → IsSafe answer → outcome_of answer ≡ outcomes.Safe
-safe_kind (judged.Safe jobs chains) safe = refl
-safe_kind (judged.Race jobs trace) safe = absurd safe
-safe_kind (judged.Refused reported) safe = absurd safe
-
--- and not with a failure
-pub check_ends : (outcome : Outcome) (status : Status) → status ≡ outcome_status outcome → status ≢ Failed
-check_ends outcomes.Safe status ends failed = let e : ◌≡◌ {A = Status} (outcome_status outcomes.Safe) Failed = sym ends ∙ failed in cc
-check_ends outcomes.Race status ends failed = let e : ◌≡◌ {A = Status} (outcome_status outcomes.Race) Failed = sym ends ∙ failed in cc
-check_ends outcomes.Refused status ends failed = let e : ◌≡◌ {A = Status} (outcome_status outcomes.Refused) Failed = sym ends ∙ failed in cc
-
--- what came of a check is its answer
-pub checked_is : (strict proof : Bool) (texts : Texts) (lines : List ℕ) (checked : Checked) (status : Status) (text note : List ℕ)
-    → IsChecked strict proof texts lines checked → status ≡ outcome_status checked.outcome → text ≡ checked.text.items → note ≡ note_of checked.unused
-    → SaysNoting strict texts lines (IsCheckAnswer texts lines proof) status text note
-checked_is strict proof texts lines checked status text note (Ok noted, is, said) ends written noting =
-    let reported = said.0 in (
-      Ok noted,
-      is,
-      (
-        judged_is (IsAnswered texts lines) (NoScheduleShows texts lines) reported.answer proof status text reported.answered
-            (λ safe. reported.headline (reported.outcome_is ∙ safe_kind reported.answer safe)) reported.holds
-            (ends ∙ ap outcome_status reported.outcome_is ∙ kind_is reported.answer)
-            (subst (λ (t : List ℕ). IsReport reported.answer proof t) (sym written) reported.report),
-        noting ∙ ap note_of said.1,
-      ),
-    )
-checked_is strict proof texts lines checked status text note (Err fault, is, refused) ends written noting =
-    (Err fault, is, (ends ∙ ap outcome_status refused.outcome_is, written ∙ refused.report, noting ∙ ap note_of refused.none))
 
 -- what was read as these texts say was read from them
 pub is_read_from : (build : Build) (args : BuildArgs) (includes : List Pair) (text : InputFile → List ℕ)

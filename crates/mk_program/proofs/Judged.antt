@@ -139,12 +139,12 @@ says_safe words files text note check (requests.Jobs args, asks, answer) =
       args,
       asks,
       λ includes texts opened held.
-          job_safe args.question args.strict _ texts text note (job_asked (asked words) args check asks) (answer includes texts opened held),
+          job_safe args.question args.strict _ texts text answer.0 (job_asked (asked words) args check asks) (answer.1 includes texts opened held),
     )
 says_safe words files text note check (requests.Tasks args, asks, answer) =
     inr (
       args,
       asks,
       question_safe args.question args.tasks args.root files text (question_asked (asked words) args check asks)
-          (λ includes texts opened held. (answer includes texts opened held).0),
+          (λ includes texts opened held. (answer.1 includes texts opened held).0),
     )

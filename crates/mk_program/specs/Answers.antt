@@ -38,11 +38,10 @@ use Rattle.mk_report.specs.RacesText.{IsRacesText}
 use Rattle.mk_report.specs.Reports.{IsReport}
 use Rattle.mk_report.specs.declared.answer.Answer.{Answer as Judged}
 use Rattle.mk_report.specs.declared.answer.Answer.TheVariants as judged
-use Rattle.mk_run.specs.declared.outcome.Outcome.{Outcome}
-use Rattle.mk_run.specs.declared.outcome.Outcome.TheVariants as outcomes
 use Rattle.mk_sched.specs.declared.refusal.Refusal.{Refusal}
 use Rattle.mk_sched.specs.declared.replay.Replayed.{Replayed}
 use Rattle.mk_program.specs.ChangeText.{change_text}
+use Rattle.mk_program.specs.FaultText.{IsSaidBeside}
 use Rattle.mk_request.specs.CommandLine.{Asks, HasMistake, IsAnswerable, asked, wrong}
 use Rattle.mk_files.specs.Files.{Files}
 use Rattle.mk_files.specs.Includes.{IncludesMayBeRead, IncludesMayFail, Pair, includes_in}
@@ -125,12 +124,6 @@ abbrev pub judged_status : Judged → Status
 judged_status (judged.Safe jobs chains) = statuses.Done
 judged_status (judged.Race jobs trace) = statuses.No
 judged_status (judged.Refused reported) = statuses.Refused
-
--- and after a check of a build
-abbrev pub outcome_status : Outcome → Status
-outcome_status outcomes.Safe = statuses.Done
-outcome_status outcomes.Race = statuses.No
-outcome_status outcomes.Refused = statuses.Refused
 
 -- the text of a proof's judgement
 abbrev pub verdict_text : Bool → List ℕ
@@ -326,11 +319,16 @@ IsAnswerOver (requests.Jobs args) includes text status answer note =
 IsAnswerOver (requests.Tasks args) includes text status answer note =
     IsTasksAnswer args.question args.root.now text status answer × (note ≡ [])
 
--- the answer to a request and its note, over what its files hold
-abbrev pub IsAnswer : Request → (List ℕ → Option (List ℕ)) → Status → List ℕ → List ℕ → Type 0
-IsAnswer request files status answer note =
+-- that, over what its files hold
+abbrev pub IsNotedAnswer : Request → (List ℕ → Option (List ℕ)) → Status → List ℕ → List ℕ → Type 0
+IsNotedAnswer request files status answer note =
     (includes : List Pair) (text : InputFile → List ℕ) → includes_in files (includes_path request) ≡ Some includes → Hold files (inputs_of request) text
     → IsAnswerOver request includes text status answer note
+
+-- the answer to a request, and what is said beside it
+abbrev pub IsAnswer : Request → (List ℕ → Option (List ℕ)) → Status → List ℕ → List ℕ → Type 0
+IsAnswer request files status answer said =
+    (note : List ℕ) × IsNotedAnswer request files status answer note × IsSaidBeside request status answer note said
 
 -- the words ask to check a build or tasks
 abbrev pub AskToCheck : Option (Text × List Row) → Type 0
@@ -354,7 +352,7 @@ SaysSafe words files =
     ((args : JobArgs) × Asks (requests.Jobs args) (asked words) × IsSafeBuild args files)
     ⊎ ((tasks : TaskArgs) × Asks (requests.Tasks tasks) (asked words) × AreSafeTasks tasks files)
 
--- the answer to what these words ask, and its note
+-- the answer to what these words ask, and what is said beside it
 abbrev pub IsAnswerTo : List (Bor Text) → (List ℕ → Option (List ℕ)) → Status → List ℕ → List ℕ → Type 0
 IsAnswerTo words files status answer note = (request : Request) × Asks request (asked words) × IsAnswer request files status answer note
 
@@ -366,12 +364,12 @@ WritesAnswer words files status old new = (text note : List ℕ) × Appends old 
 abbrev pub WritesBeginning : List (Bor Text) → (List ℕ → Option (List ℕ)) → Option (List ℕ) → Option (List ℕ) → Type 0
 WritesBeginning words files old new = (status : Status) × (text note : List ℕ) × AppendsBeginning old new text × IsAnswerTo words files status text note
 
--- and its note behind what stood on another device
+-- and what is said beside it behind what stood on another device
 abbrev pub WritesNote : List (Bor Text) → (List ℕ → Option (List ℕ)) → Status → Option (List ℕ) → Option (List ℕ) → Option (List ℕ) → Option (List ℕ) → Type 0
 WritesNote words files status old new before after =
     (text note : List ℕ) × Appends old new text × Appends before after note × IsAnswerTo words files status text note
 
--- it has a note that is not empty
+-- something is said beside it
 abbrev pub HasNote : List (Bor Text) → (List ℕ → Option (List ℕ)) → Status → Type 0
 HasNote words files status = (text note : List ℕ) × (note ≢ []) × IsAnswerTo words files status text note
 

@@ -1,5 +1,6 @@
 pub mod Answers
 pub mod ChangeText
+pub mod FaultText
 pub mod Noting
 pub mod OrderText
 pub mod OutcomeText

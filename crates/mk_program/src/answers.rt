@@ -1,12 +1,14 @@
 //! The answers to requests.
-ghost use Rattle.std.specs.Prelude.{◌≡◌, ◌≢◌, IfErr, IfOk, List, OnOk, map, ℕ};
+ghost use Rattle.std.specs.Prelude.{◌≡◌, ◌≢◌, IfErr, IfOk, List, OnOk, map, option_map, ℕ};
 ghost use Rattle.mk_name.specs.Shown.{refused_text};
 ghost use Rattle.mk_name.specs.Reported.{Reported};
 ghost use Rattle.mk_name.specs.declared.fault.Halt.TheVariants as halts;
 ghost use Rattle.mk_request.specs.Requests.{inputs_of};
 ghost use Rattle.mk_program.specs.Answers as spec;
+ghost use Rattle.mk_program.specs.FaultText.{IsSaidBeside, refusal_in};
 ghost use Rattle.mk_files.specs.Inputs.{Hold, InputsMayBeRead};
 
+use crate::fault_line::said_beside;
 use crate::jobs::job_reply;
 use crate::noting::Reply;
 use crate::ordering::order_reply;
@@ -23,15 +25,17 @@ use mk_request::inputs::InputFile;
 use mk_request::requests::{BuildArgs, Request, includes_path};
 use std::alloc::{AllocError, Global};
 
-/// What the program says, and how it ends where that is written.
+/// What the program says, how it ends where that is written, and the fault, where that is what it reports.
 #[derive(Drop)]
 pub struct Answer {
     pub status: Status,
     pub text: Vec<u8>,
+    pub fault: Option<Fault>,
+    ghost alike: { refusal_in status text.items ≡ option_map refused_text fault },
 }
 
-/// The answer to a request, and its note. The includes are read first; then all other files are opened before any of them is
-/// read, and read before anything is said.
+/// The answer to a request, and what is said beside it: the line of the fault that refuses the input, and the note. The includes are
+/// read first; then all other files are opened before any of them is read, and read before anything is said.
 pub fn answer_of<P: Opener>(
     alloc: Global,
     request: &Request<'_>,
@@ -41,6 +45,34 @@ pub fn answer_of<P: Opener>(
     ensures read { OnOk result (spec.MayAllBeRead (P.files opener.old) request.now) }
     ensures failure { IfErr result (spec.IsRequestFailure (P.files opener.old) request.now) }
     ensures answer { IfOk result (λ reply. spec.IsAnswer request.now (P.files opener.old).text
+        reply.answer.status reply.answer.text.items reply.note.items) }
+{
+    let reply = noted_answer(alloc, request, opener)?;
+    Ok(with_fault(alloc, request, reply)?)
+}
+
+/// An answer with its note, where the line of its fault comes before the note, if it has one; or without a word, where the request
+/// is quiet. The only error is out of memory.
+fn with_fault(alloc: Global, request: &Request<'_>, reply: Reply) -> Result<Reply, AllocError>
+    ensures answer { IfOk result (λ said. said.answer ≡ reply.answer) }
+    ensures said { IfOk result (λ said. IsSaidBeside request.now reply.answer.status reply.answer.text.items
+        reply.note.items said.note.items) }
+{
+    let Reply { answer, note } = reply;
+    let note = said_beside(alloc, request, &answer.fault, note)?;
+    Ok(Reply { answer, note })
+}
+
+/// The answer to a request, and its note.
+fn noted_answer<P: Opener>(
+    alloc: Global,
+    request: &Request<'_>,
+    opener: &mut P,
+) -> Result<Reply, Failure>
+    ensures status { IfOk result (λ reply. reply.answer.status ≢ Status.Failed) }
+    ensures read { OnOk result (spec.MayAllBeRead (P.files opener.old) request.now) }
+    ensures failure { IfErr result (spec.IsRequestFailure (P.files opener.old) request.now) }
+    ensures answer { IfOk result (λ reply. spec.IsNotedAnswer request.now (P.files opener.old).text
         reply.answer.status reply.answer.text.items reply.note.items) }
 {
     let included = read_includes(alloc, opener, includes_path(request))?;
@@ -105,19 +137,20 @@ pub(crate) fn refused(alloc: Global, halt: Halt) -> Result<Answer, AllocError>
         × (answer.status ≡ Status.Refused) × (answer.text.items ≡ refused_text reported)) }
 {
     match halt {
-        Halt::Fault(fault) => fault_answer(alloc, &fault),
+        Halt::Fault(fault) => fault_answer(alloc, fault),
         Halt::Memory => Err(AllocError),
     }
 }
 
 /// A fault, reported.
-fn fault_answer(alloc: Global, fault: &Fault) -> Result<Answer, AllocError>
+pub(crate) fn fault_answer(alloc: Global, fault: Fault) -> Result<Answer, AllocError>
     ensures { IfOk result (λ answer. (answer.status ≡ Status.Refused)
-        × (answer.text.items ≡ refused_text fault.now)) }
+        × (answer.text.items ≡ refused_text fault)) }
 {
     Ok(Answer {
         status: Status::Refused,
-        text: refused_report(alloc, fault)?,
+        text: refused_report(alloc, &fault)?,
+        fault: Some(fault),
     })
 }
 

@@ -46,6 +46,7 @@ fn fixing_answer(alloc: Global, fixing: &Fixing, proof: bool) -> Result<Answer, 
         Fixing::Fixed { lines, jobs } => Ok(Answer {
             status: Status::Done,
             text: fixed_text(alloc, lines, jobs, proof)?,
+            fault: None,
         }),
         Fixing::NotFixed {
             jobs,
@@ -54,6 +55,7 @@ fn fixing_answer(alloc: Global, fixing: &Fixing, proof: bool) -> Result<Answer, 
         } => Ok(Answer {
             status: Status::No,
             text: not_fixed_report(alloc, jobs, edges, refusal.as_ref())?,
+            fault: None,
         }),
     }
 }

@@ -9,7 +9,7 @@ ghost use Rattle.mk_run.specs.Builds.{IsReadFrom};
 ghost use Rattle.mk_program.specs.OrderText.{IsUnreported};
 
 use crate::answers::{base_of, bytes_of, settings_of};
-use crate::checking::check_reply;
+use crate::checking::Checking;
 use crate::fixing::fix_answer;
 use crate::listing::AllRaces;
 use crate::missing::missing_answer;
@@ -107,7 +107,9 @@ fn reply_to(
 {
     let strict = args.strict;
     match args.question {
-        JobQuestion::Check { print_proof } => Ok(check_reply(alloc, build, print_proof, strict)?),
+        JobQuestion::Check { print_proof } => {
+            noted_reply(alloc, build, other, &Checking { print_proof }, strict)
+        }
         JobQuestion::Verify { .. } => noted_reply(alloc, build, other, &Verifying, strict),
         JobQuestion::Replay(log) => noted_reply(alloc, build, other, &Replaying { log }, strict),
         JobQuestion::Serialise(log) => quiet_reply(alloc, build, other, &SerialOrder { log }),

@@ -8,6 +8,8 @@
 mod answers;
 mod change_lines;
 mod checking;
+mod fault_line;
+mod fault_words;
 mod fixing;
 mod jobs;
 mod listing;

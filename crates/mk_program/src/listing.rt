@@ -1,8 +1,9 @@
 //! The answers to `race list`.
-ghost use Rattle.std.specs.Prelude.{◌≡◌, ◌≢◌, IfOk, List, Ok, ℕ};
+ghost use Rattle.std.specs.Prelude.{◌≡◌, ◌≢◌, IfOk, List, None, Ok, ℕ};
 ghost use Rattle.mk_race.specs.Stages.{IsPrepared, Texts};
 ghost use Rattle.mk_report.specs.RacesText.{IsRacesText};
 ghost use Rattle.mk_program.specs.Answers as spec;
+ghost use Rattle.mk_program.specs.FaultText.{refusal_in};
 
 use crate::answers::{Answer, refused};
 use crate::noting::Question;
@@ -50,12 +51,14 @@ pub(crate) fn races_answer(alloc: Global, listed: &RaceList) -> Result<Answer, A
     Ok(Answer {
         status: races_status(races),
         text,
+        fault: None,
     })
 }
 
 /// How the program ends: with 0 where there is no race.
 fn races_status(races: &[(u32, u32)]) -> Status
-    ensures { result ≡ spec.races_status races.now }
+    ensures status { result ≡ spec.races_status races.now }
+    ensures no_refusal { (text : List ℕ) → refusal_in result text ≡ None }
 {
     if races.is_empty() {
         return Status::Done;

@@ -3,6 +3,7 @@ ghost use Rattle.std.specs.Prelude.{◌≡◌, ◌≢◌, ◌↔◌, IfOk, IsTru
 ghost use Rattle.mk_race.specs.Stages.{Texts};
 ghost use Rattle.mk_missing.specs.Violations.{HasNone};
 ghost use Rattle.mk_program.specs.Answers as spec;
+ghost use Rattle.mk_program.specs.FaultText.{refusal_in};
 ghost use Rattle.mk_run.specs.Builds.{IsReadFrom};
 
 use crate::answers::{Answer, refused};
@@ -48,12 +49,14 @@ pub(crate) fn listed_answer(alloc: Global, listed: &MissingList) -> Result<Answe
     Ok(Answer {
         status: missing_status(listed),
         text,
+        fault: None,
     })
 }
 
 /// How the program ends: with 0 where there is no race, no violation and no change.
 fn missing_status(listed: &MissingList) -> Status
-    ensures { spec.MissingEnds listed.now result }
+    ensures ends { spec.MissingEnds listed.now result }
+    ensures no_refusal { (text : List ℕ) → refusal_in result text ≡ None }
 {
     if listed.found.races.is_empty()
         && has_none(&listed.violations)

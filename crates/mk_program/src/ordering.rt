@@ -80,5 +80,6 @@ fn plan_answer(alloc: Global, planned: Planned) -> Result<Answer, AllocError>
     Ok(Answer {
         status: Status::Done,
         text: text?,
+        fault: None,
     })
 }

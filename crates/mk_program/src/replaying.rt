@@ -1,7 +1,8 @@
 //! The answers to `race replay`.
-ghost use Rattle.std.specs.Prelude.{◌≡◌, ◌≢◌, IfOk, List, Ok, ℕ};
+ghost use Rattle.std.specs.Prelude.{◌≡◌, ◌≢◌, IfOk, List, None, Ok, ℕ};
 ghost use Rattle.mk_race.specs.Stages.{IsPrepared, Texts};
 ghost use Rattle.mk_program.specs.Answers as spec;
+ghost use Rattle.mk_program.specs.FaultText.{refusal_in};
 ghost use Rattle.mk_program.specs.OutcomeText.{IsOutcomeText};
 
 use crate::answers::{Answer, refused};
@@ -57,12 +58,14 @@ fn outcome_answer(alloc: Global, played: &Played) -> Result<Answer, AllocError>
     Ok(Answer {
         status: status_of(played),
         text: outcome_text(alloc, played)?,
+        fault: None,
     })
 }
 
 /// How the program ends after a replay.
 fn status_of(played: &Played) -> Status
-    ensures { result ≡ spec.status_of played.now }
+    ensures status { result ≡ spec.status_of played.now }
+    ensures no_refusal { (text : List ℕ) → refusal_in result text ≡ None }
 {
     match played {
         Played::Allowed(_) => Status::Done,

@@ -20,7 +20,7 @@ use std::alloc::Global;
 
 /// Runs the program on the words of the command line, of which the first is its own name. The answer, the help or the
 /// version goes to `out`; what is wrong with the words, a device or memory to `err`, whose own failure is passed over. So does
-/// the note of an answer, once that is written.
+/// what is said beside an answer, once that is written: of a refusal its line, and the note.
 /// Every file is opened and read to its end before anything is written: the includes first, one after another, and then
 /// the others, which are all opened before one of them is read.
 pub fn race_words<'a, P: Opener, O: Outlet, E: Outlet>(
@@ -56,7 +56,7 @@ pub fn race_words<'a, P: Opener, O: Outlet, E: Outlet>(
         × spec.IsFailureOf words.entry.now (P.files opener.old) failure
         × ((failure ≡ Failure.Write) ↔ (O.has_failed out.new ≡ true))
         × IsFailureReported failure (E.written err.old) (E.written err.new) }
-    // Else the note of the answer is written, where it has one: footprints lie unused and are not refused.
+    // Else what is said beside the answer is written: of a refusal its line, and the note of footprints that lie unused.
     ensures note { wrong words.entry.now ≡ [] → result ≢ Status.Failed → E.has_failed err.new ≡ false
         → spec.WritesNote words.entry.now (P.files opener.old).text result
         (O.written out.old) (O.written out.new) (E.written err.old) (E.written err.new) }
@@ -72,7 +72,8 @@ pub fn race_words<'a, P: Opener, O: Outlet, E: Outlet>(
     }
 }
 
-/// Writes a note, where it is not empty, on the standard error, whose failure is passed over. It needs no memory.
+/// Writes what is said beside an answer, where that is not empty, on the standard error, whose failure is passed over. It needs no
+/// memory.
 fn write_note<E: Outlet>(note: &[u8], err: &mut E)
     requires { E.has_failed err.old ≡ false }
     ensures none { note.now ≡ [] → err.new ≡ err.old }
@@ -172,6 +173,7 @@ fn called_for(alloc: Global, error: &clap::Error) -> Result<Reply, Failure>
     let answer = Answer {
         status: Status::Done,
         text: text.into_bytes(),
+        fault: None,
     };
     Ok(without_note(alloc, answer))
 }

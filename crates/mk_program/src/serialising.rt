@@ -1,7 +1,8 @@
 //! The answers to `race serialise`.
-ghost use Rattle.std.specs.Prelude.{◌≡◌, ◌≢◌, IfErr, IfOk, List, Ok, ℕ};
+ghost use Rattle.std.specs.Prelude.{◌≡◌, ◌≢◌, IfErr, IfOk, List, None, Ok, ℕ};
 ghost use Rattle.mk_race.specs.Stages.{AreListed, IsPrepared, Texts};
 ghost use Rattle.mk_program.specs.Answers as spec;
+ghost use Rattle.mk_program.specs.FaultText.{refusal_in};
 ghost use Rattle.mk_program.specs.OrderText.{HasNodes, IsNoText, IsOrderText, IsUnreported, order_status};
 
 use crate::answers::{Answer, refused};
@@ -63,12 +64,14 @@ fn reported(alloc: Global, given: &Serialised) -> Result<Answer, Failure>
     Ok(Answer {
         status: status_of(&given.order),
         text: order_text(alloc, &given.jobs, &given.order)?,
+        fault: None,
     })
 }
 
 /// How the program ends.
 fn status_of(order: &Ordered) -> Status
-    ensures { result ≡ order_status order.now }
+    ensures status { result ≡ order_status order.now }
+    ensures no_refusal { (text : List ℕ) → refusal_in result text ≡ None }
 {
     match order {
         Ordered::Serial(_) => Status::Done,

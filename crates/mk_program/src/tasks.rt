@@ -77,7 +77,7 @@ fn check_answer(alloc: Global, root: &[u8], tasks: &[u8], proof: bool) -> Result
         spec.IsTaskCheckAnswer root.now tasks.now proof answer.status answer.text.items) }
 {
     let judged = judge_tasks(alloc, root, tasks)?;
-    judged_answer(alloc, &judged, proof)
+    judged_answer(alloc, judged, proof)
 }
 
 /// Whether a proof is accepted for tasks, or the report of the first fault of both. The only error is out of memory.
@@ -150,10 +150,12 @@ fn fixing_answer(alloc: Global, fixing: &TaskFixing, proof: bool) -> Result<Answ
         TaskFixing::Fixed { lines, jobs } => Ok(Answer {
             status: Status::Done,
             text: fixed_text(alloc, lines, jobs, proof)?,
+            fault: None,
         }),
         TaskFixing::NotFixed { text } => Ok(Answer {
             status: Status::No,
             text: Vec::from_slice(alloc, text)?,
+            fault: None,
         }),
     }
 }

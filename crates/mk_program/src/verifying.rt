@@ -43,13 +43,16 @@ pub(crate) fn verdict_answer(alloc: Global, accepted: bool) -> Result<Answer, Al
     ensures { IfOk result (λ answer. (answer.status ≡ spec.verdict_status accepted)
         × (answer.text.items ≡ spec.verdict_text accepted)) }
 {
-    let (status, text) = if accepted {
-        (Status::Done, b"accepted\n".as_slice())
-    } else {
-        (Status::No, b"not accepted\n".as_slice())
-    };
+    if accepted {
+        return Ok(Answer {
+            status: Status::Done,
+            text: Vec::from_slice(alloc, b"accepted\n")?,
+            fault: None,
+        });
+    }
     Ok(Answer {
-        status,
-        text: Vec::from_slice(alloc, text)?,
+        status: Status::No,
+        text: Vec::from_slice(alloc, b"not accepted\n")?,
+        fault: None,
     })
 }

@@ -35,9 +35,9 @@ operands = record (new_rule (codes "operands")) { action = Some Append; value_na
 -- a command with the options and operands of a build, whose makefile and whose listing must be given or may be left out
 abbrev pub with_build : Bool → Bool → App → App
 with_build makefile listing app =
-    with_rule (with_rule (with_rule (with_rule (with_rule (with_rule (with_rule app
+    with_rule (with_rule (with_rule (with_rule (with_rule (with_rule (with_rule (with_rule app
     (option makefile (codes "makefile"))) (option listing (codes "listing"))) (option true (codes "root"))) (option false (codes "base")))
-    (flag (codes "posix-base"))) (option false (codes "includes"))) operands
+    (flag (codes "posix-base"))) (option false (codes "includes"))) (flag (codes "quiet"))) operands
 
 -- a command with those of a build and of tasks, whose listing must be given or may be left out
 abbrev pub with_tasks : Bool → App → App
@@ -165,6 +165,7 @@ pub record HasValues (build : BuildArgs) (rows : List Row) : Type 0 where
   pub listing : build.listing.now ≡ value_of (codes "listing") rows
   pub root : build.root.now ≡ value_of (codes "root") rows
   pub operands : map (λ word. word.now) build.operands.items ≡ operands_of rows
+  pub quiet : build.quiet ≡ is_true (first_of (codes "quiet") rows)
 
 -- the limit that a value writes, a number from 1 to 65,535; without a value it is 1
 abbrev pub IsLimit : Option Text → ℕ → Type 0
@@ -216,6 +217,7 @@ IsQuestion (questions.Missing listing) name rows = (name ≡ codes "missing") ×
 pub record HasTasks (args : TaskArgs) (name : Text) (rows : List Row) : Type 0 where
   pub tasks : Some args.tasks.now ≡ first_of (codes "tasks") rows
   pub root : args.root.now ≡ value_of (codes "root") rows
+  pub quiet : args.quiet ≡ is_true (first_of (codes "quiet") rows)
   pub question : IsQuestion args.question name rows
 
 -- the request is for the subcommand of this name, with the values that were found

@@ -1,5 +1,5 @@
 -- The inputs of a request, in the order in which they are opened and read; the includes come before.
-use Rattle.std.specs.Prelude.{ℕ, List, [], ◌∷◌, ◌++◌, Option, Some, None, option_map}
+use Rattle.std.specs.Prelude.{ℕ, Bool, List, [], ◌∷◌, ◌++◌, Option, Some, None, option_map}
 use Rattle.std.specs.Borrow.{Bor}
 use Rattle.std.specs.Option.{option_to_list}
 use Rattle.mk_request.specs.declared.inputs.InputFile.{InputFile}
@@ -25,6 +25,12 @@ base_input (Some path) = input_at inputs.Base path
 -- what is read of a build
 abbrev pub build_inputs : BuildArgs → List InputPath
 build_inputs build = base_input build.base ++ input_at inputs.Makefile build.makefile ++ input_at inputs.Listing build.listing
+
+-- nothing is said beside the answer
+abbrev pub is_quiet : Request → Bool
+is_quiet (requests.Order build) = build.quiet
+is_quiet (requests.Jobs args) = args.build.quiet
+is_quiet (requests.Tasks tasks) = tasks.quiet
 
 -- the path of the file of includes, where one is given
 abbrev pub includes_path : Request → Option (List ℕ)

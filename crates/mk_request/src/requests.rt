@@ -6,7 +6,8 @@ use crate::inputs::{InputFile, InputPath};
 use std::alloc::{AllocError, Global};
 
 /// What a build is read from: the paths of files, those of includes and of the base makefile where they are given, whether
-/// the base is the one that the standard lists, and the root and the operands, as they were given.
+/// the base is the one that the standard lists, the root and the operands, as they were given, and whether nothing is said beside
+/// the answer.
 #[derive(Drop)]
 pub struct BuildArgs<'a> {
     pub includes: Option<&'a str>,
@@ -16,6 +17,7 @@ pub struct BuildArgs<'a> {
     pub listing: &'a str,
     pub root: &'a str,
     pub operands: Vec<&'a str>,
+    pub quiet: bool,
 }
 
 /// What is asked about the jobs of a build: the build, the path of its footprints, whether footprints that lie unused are
@@ -49,11 +51,12 @@ pub struct LogArgs<'a> {
     pub tie: bool,
 }
 
-/// What is asked about tasks: the paths of their text and of the root, and the question.
+/// What is asked about tasks: the paths of their text and of the root, whether nothing is said beside the answer, and the question.
 #[derive(Clone, Copy)]
 pub struct TaskArgs<'a> {
     pub tasks: &'a str,
     pub root: &'a str,
+    pub quiet: bool,
     pub question: TaskQuestion<'a>,
 }
 
@@ -73,6 +76,17 @@ pub enum Request<'a> {
     Order(BuildArgs<'a>),
     Jobs(JobArgs<'a>),
     Tasks(TaskArgs<'a>),
+}
+
+/// Whether nothing is said beside the answer.
+pub fn is_quiet(request: &Request<'_>) -> bool
+    ensures { result ≡ spec.is_quiet request.now }
+{
+    match request {
+        Request::Order(build) => build.quiet,
+        Request::Jobs(args) => args.build.quiet,
+        Request::Tasks(args) => args.quiet,
+    }
 }
 
 /// The path of the file of includes, where one is given.

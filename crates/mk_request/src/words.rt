@@ -156,6 +156,7 @@ fn with_build<'a>(
         .arg(option(alloc, "base", "BASE", help::BASE, false))?
         .arg(flag(alloc, "posix-base", help::POSIX_BASE))?
         .arg(option(alloc, "includes", "FILE", help::INCLUDES, false))?
+        .arg(flag(alloc, "quiet", help::QUIET))?
         .arg(operands(alloc))
 }
 
@@ -211,6 +212,7 @@ fn build_args<'a>(alloc: Global, found: &ArgMatches<'a>) -> Result<BuildArgs<'a>
         listing: found.get_str("listing").unwrap_or(""),
         root: found.get_str("root").unwrap_or(""),
         operands: Vec::from_slice(alloc, found.get_strs("operands").unwrap_or(&[]))?,
+        quiet: is_set(found, "quiet"),
     })
 }
 

@@ -26,7 +26,7 @@ Statuses:
   1  check: two recipes race; list: there are races; fix: no lines fix the build; missing:
      something is listed, or two recipes race; verify: the proof is not accepted; replay: the log
      is no run; serialise: it is none or not complete, recipes race, or its times are too large
-  2  the inputs are refused: the report says where and why
+  2  the inputs are refused: the report says where and why, and standard error says it in words
   3  a file cannot be read or written, memory runs out, or the command line is invalid: a line on
      standard error says which";
 
@@ -41,6 +41,8 @@ pub const BASE: &str = "A makefile whose rules and macros come before those of M
 pub const POSIX_BASE: &str = "The rules and macros that POSIX.1-2024 lists, in place of --base";
 
 pub const INCLUDES: &str = "The paths of the texts that include lines may name, one a line";
+
+pub const QUIET: &str = "Write nothing beside the answer: no note, no words on a refusal";
 
 pub const OPERANDS: &str = "A goal, which is to be built, or NAME=VALUE, which defines a macro";
 
@@ -98,8 +100,8 @@ numbers come the PATH, what the two do to it, and how they come to run at once: 
 files that are there, and then what is skipped, starts and finishes. Name the one as a
 prerequisite of the other, or let each have a file of its own.
 
-`refused`: the inputs have a fault; its name, its place and names follow. docs/FAULTS.md has what
-each means.
+`refused`: the inputs have a fault; its name, its place and names follow, and a line on standard
+error says it in words. docs/FAULTS.md has what each means.
 
 With --print-proof the certificate or the trace comes in place of the report, as `race verify`
 reads it.

@@ -34,6 +34,7 @@ pub(super) fn task_args<'a>(name: &str, found: &ArgMatches<'a>, tasks: &'a str) 
     TaskArgs {
         tasks,
         root: value_in(found, "root"),
+        quiet: is_set(found, "quiet"),
         question: task_question(name, found),
     }
 }

@@ -1,19 +1,31 @@
 use Rattle.std.proofs.Common.{Err, refl}
-use Rattle.mk_program.specs.Answers.{HasNoText, IsFixAnswer, IsListAnswer, IsMissingAnswer, IsReplayAnswer, IsSerialiseAnswer, IsVerifyAnswer}
+use Rattle.mk_program.specs.Answers.{HasNoText, IsCheckAnswer, IsFixAnswer, IsListAnswer, IsMissingAnswer, IsReplayAnswer, IsSerialiseAnswer, IsVerifyAnswer}
 use Rattle.mk_program.proofs.Builds.{no_text_of, noted_answer, plain_answer, quiet_answer}
 use Rattle.mk_program.proofs.jobs.reply_to.Goals as goal
+
+pub returns-in-Check-clause-answer : goal.returns-in-Check-clause-answer
+returns-in-Check-clause-answer c =
+    let args = c.args.args.now in
+    noted_answer c.args.build args.question _ c.in-Check.is args.strict c.args.other.now c.noted_reply.result
+    (λ texts lines other. IsCheckAnswer texts lines c.in-Check.print_proof) (λ texts text status answer note said. said) c.noted_reply.ensures.answer
+
+pub returns-in-Check-clause-failure : goal.returns-in-Check-clause-failure
+returns-in-Check-clause-failure c =
+    let args = c.args.args.now in
+    no_text_of c.args.build args.question _ c.in-Check.is args.strict c.args.other.now c.noted_reply.result
+    (λ texts lines other. ⊥) (λ texts text no_text. absurd no_text) c.noted_reply.ensures.failure
 
 pub returns-in-Verify-clause-answer : goal.returns-in-Verify-clause-answer
 returns-in-Verify-clause-answer c =
     let args = c.args.args.now in
-    noted_answer c.args.build args.question _ c.in-Verify.is args.strict c.args.other.now c.noted_reply.result
-    (λ texts lines other. IsVerifyAnswer texts lines other) (λ texts text status answer note said. said) c.noted_reply.ensures.answer
+    noted_answer c.args.build args.question _ c.in-Verify.is args.strict c.args.other.now c.noted_reply-in-Verify.result
+    (λ texts lines other. IsVerifyAnswer texts lines other) (λ texts text status answer note said. said) c.noted_reply-in-Verify.ensures.answer
 
 pub returns-in-Verify-clause-failure : goal.returns-in-Verify-clause-failure
 returns-in-Verify-clause-failure c =
     let args = c.args.args.now in
-    no_text_of c.args.build args.question _ c.in-Verify.is args.strict c.args.other.now c.noted_reply.result
-    (λ texts lines other. ⊥) (λ texts text no_text. absurd no_text) c.noted_reply.ensures.failure
+    no_text_of c.args.build args.question _ c.in-Verify.is args.strict c.args.other.now c.noted_reply-in-Verify.result
+    (λ texts lines other. ⊥) (λ texts text no_text. absurd no_text) c.noted_reply-in-Verify.ensures.failure
 
 pub returns-in-Replay-clause-answer : goal.returns-in-Replay-clause-answer
 returns-in-Replay-clause-answer c =

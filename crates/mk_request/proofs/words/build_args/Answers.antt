@@ -26,4 +26,5 @@ returns c =
       root = text_is _ _ _ found (codes "root") c.unwrap_or-3.ensures refl c.get_str-6.ensures;
       operands = ap texts (c.in_ok-from_slice.ensures.items ∙ ap (λ (x : Bor (List (Bor Text))). x.now) c.unwrap_or-4.ensures) ∙ list_or c.get_strs.result _ refl
           ∙ ap (λ (x : Option (List Text)). unwrap_or x []) (c.get_strs.ensures ∙ raw_values-rows found (codes "operands"));
+      quiet = c.is_set.ensures;
     }

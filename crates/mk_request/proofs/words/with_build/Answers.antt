@@ -12,7 +12,8 @@ returns-clause-app c =
     let fourth = c.in_ok-arg-4.ensures.shape c.option-4.ensures.local ∙ ap₂ with_rule third c.option-4.ensures.rule in
     let fifth = c.in_ok-arg-5.ensures.shape c.flag.ensures.local ∙ ap₂ with_rule fourth c.flag.ensures.rule in
     let sixth = c.in_ok-arg-6.ensures.shape c.option-5.ensures.local ∙ ap₂ with_rule fifth c.option-5.ensures.rule in
-    IfOk-weaker c.arg-7.result _ _ (λ new h. h.shape c.operands.ensures.local ∙ ap₂ with_rule sixth c.operands.ensures.rule) c.arg-7.ensures
+    let seventh = c.in_ok-arg-7.ensures.shape c.flag-2.ensures.local ∙ ap₂ with_rule sixth c.flag-2.ensures.rule in
+    IfOk-weaker c.arg-8.result _ _ (λ new h. h.shape c.operands.ensures.local ∙ ap₂ with_rule seventh c.operands.ensures.rule) c.arg-8.ensures
 
 pub returns-clause-local : goal.returns-clause-local
 returns-clause-local c =
@@ -22,4 +23,5 @@ returns-clause-local c =
     let fourth = stays _ _ _ c.in_ok-arg-4.ensures.globals c.option-4.ensures.local in
     let fifth = stays _ _ _ c.in_ok-arg-5.ensures.globals c.flag.ensures.local in
     let sixth = stays _ _ _ c.in_ok-arg-6.ensures.globals c.option-5.ensures.local in
-    IfOk-weaker c.arg-7.result _ _ (λ new h. stays _ _ _ h.globals c.operands.ensures.local ∙ sixth ∙ fifth ∙ fourth ∙ third ∙ second ∙ first) c.arg-7.ensures
+    let seventh = stays _ _ _ c.in_ok-arg-7.ensures.globals c.flag-2.ensures.local in
+    IfOk-weaker c.arg-8.result _ _ (λ new h. stays _ _ _ h.globals c.operands.ensures.local ∙ seventh ∙ sixth ∙ fifth ∙ fourth ∙ third ∙ second ∙ first) c.arg-8.ensures
