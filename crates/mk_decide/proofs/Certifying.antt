@@ -1,5 +1,5 @@
 -- Chosen chains of all clashing pairs are a certificate.
-use Rattle.std.proofs.Common.{ℕ, ◌≡◌, ◌<◌, List, [], ◌∷◌, All, Contains, length, map, get_or, sym, subst, inl, inr, arith}
+use Rattle.std.proofs.Common.{ℕ, ◌≡◌, ◌<◌, ◌↔◌, List, [], ◌∷◌, All, Contains, length, map, get_or, sym, subst, inl, inr, arith}
 use Rattle.std.specs.List.Sorted.{IsStrictlySortedBy}
 use Rattle.std.proofs.lemmas.Bool.{cases_order}
 use Rattle.std.proofs.lemmas.List.{get_or-map, length-map}
@@ -63,6 +63,10 @@ chains_certify jobs pairs chains shape are of = record {
 -- neighbours clash
 pub near_clashing : {jobs : Jobs} (pairs : List (ℕ × ℕ)) → AreNeighbours jobs pairs → OnlyClashing jobs pairs
 near_clashing pairs near a b there = let one = (near a b).0 there in (one.rises, one.clash)
+
+-- the same pairs are those of the same neighbours
+pub same_near : {jobs : Jobs} (pairs new : List (ℕ × ℕ)) → AreNeighbours jobs pairs → ((a b : ℕ) → Contains new (a, b) ↔ Contains pairs (a, b)) → AreNeighbours jobs new
+same_near pairs new near same a b = (λ there. (near a b).0 ((same a b).0 there), λ one. (same a b).1 ((near a b).1 one))
 
 -- chosen chains of all neighbours are a short certificate
 pub chains_short : (jobs : Jobs) (pairs : List (ℕ × ℕ)) (chains : List (List ℕ)) → IsWellFormed jobs → IsRising pairs → AreNeighbours jobs pairs → AreChainsOf jobs pairs chains

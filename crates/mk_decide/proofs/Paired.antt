@@ -91,6 +91,11 @@ pub halts_with : (P : Result ℕ Reported → Type 0) (Q : Type 0) (halt : Halt)
 halts_with P Q halts.Memory there fact = tt
 halts_with P Q (halts.Fault fault) there fact = (there, fact)
 
+pub halts_more : (P : Result ℕ Reported → Type 0) (Q R : Type 0) (halt : Halt) → (Q → R) → HaltsAmong {Y = ℕ} halt (λ answer. P answer × Q)
+    → HaltsAmong {Y = ℕ} halt (λ answer. P answer × R)
+halts_more P Q R halts.Memory more h = tt
+halts_more P Q R (halts.Fault fault) more h = (h.0, more h.1)
+
 -- pairs in order, more than there may be
 pub many_are : {jobs : Jobs} (pairs new : List (ℕ × ℕ)) → OnlyClashing jobs pairs → IsRising new → ((a b : ℕ) → Contains new (a, b) ↔ Contains pairs (a, b))
     → pair_limit < length new → HasManyPairs jobs

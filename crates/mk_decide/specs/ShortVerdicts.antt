@@ -1,11 +1,11 @@
 -- What is decided about jobs, with a short certificate.
-use Rattle.std.specs.Prelude.{ℕ, List}
+use Rattle.std.specs.Prelude.{ℕ, ◌<◌, List, length}
 use Rattle.mk_jobs.specs.Jobs.{Jobs, IsRaceFree}
 use Rattle.mk_decide.specs.declared.decision.Verdict.{Verdict}
 use Rattle.mk_decide.specs.declared.decision.Verdict.TheVariants.{Safe, Race}
 use Rattle.mk_decide.specs.LeastTraces.{IsOfLeastRace}
 use Rattle.mk_decide.specs.Neighbours.{AreNeighbours}
-use Rattle.mk_decide.specs.Pairs.{IsRising}
+use Rattle.mk_decide.specs.Pairs.{IsRising, pair_limit}
 use Rattle.mk_decide.specs.Short.{IsShortCertificate}
 use Rattle.mk_decide.specs.Verdicts.{AreChainsOf}
 
@@ -17,6 +17,14 @@ pub record AreSafeByShort (jobs : Jobs) (chains : List (List ℕ)) : Type 0 wher
   pub rise : IsRising pairs
   pub near : AreNeighbours jobs pairs
   pub chains_are : AreChainsOf jobs pairs chains
+
+-- safe too, but with more neighbours than a certificate has chains
+pub record HasManyNeighbours (jobs : Jobs) : Type 0 where
+  pub race_free : IsRaceFree jobs
+  pub pairs : List (ℕ × ℕ)
+  pub rise : IsRising pairs
+  pub near : AreNeighbours jobs pairs
+  pub many : pair_limit < length pairs
 
 -- safe with these chains, or the trace of the least race
 abbrev pub IsShortVerdict : Jobs → Verdict → Type 0

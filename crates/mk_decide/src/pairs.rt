@@ -33,10 +33,10 @@ pub fn clashing_pairs(alloc: Global, jobs: &Jobs) -> Result<Vec<(u32, u32)>, Hal
     for b in 0..count {
         add_pairs(jobs, &mut pairs, b)?;
         if pairs.len() > ROOM {
-            thin(alloc, jobs, &mut pairs)?;
+            thin(alloc, &mut pairs)?;
         }
     }
-    thin(alloc, jobs, &mut pairs)?;
+    thin(alloc, &mut pairs)?;
     Ok(pairs)
 }
 
@@ -72,13 +72,12 @@ fn add_pairs(jobs: &Jobs, pairs: &mut Vec<(u32, u32)>, b: u32) -> Result<(), All
 
 /// Drops pairs that stand there twice, and brings the others in order. Where more than `PAIR_LIMIT` are left the fault is
 /// that of too many pairs.
-pub(crate) fn thin(alloc: Global, _jobs: &Jobs, pairs: &mut Vec<(u32, u32)>) -> Result<(), Halt>
-    requires clash { OnlyClashing _jobs.now pairs.old.items }
+pub(crate) fn thin(alloc: Global, pairs: &mut Vec<(u32, u32)>) -> Result<(), Halt>
+    ensures rising { IsRising pairs.new.items }
+    ensures same { (a b : ℕ) → Contains pairs.new.items (a, b) ↔ Contains pairs.old.items (a, b) }
     ensures few { OnOk result (length pairs.new.items ≤ pair_limit) }
-    ensures rising { OnOk result (IsRising pairs.new.items) }
-    ensures same { OnOk result ((a b : ℕ) → Contains pairs.new.items (a, b) ↔ Contains pairs.old.items (a, b)) }
     ensures many { IfErr result (λ halt.
-        HaltsAmong {Y = ℕ} halt (λ answer. (answer ≡ Err too_many) × HasManyPairs _jobs.now)) }
+        HaltsAmong {Y = ℕ} halt (λ answer. (answer ≡ Err too_many) × (pair_limit < length pairs.new.items))) }
 {
     pairs.sort_unstable();
     pairs.dedup();

@@ -8,9 +8,9 @@ ghost use Rattle.mk_cert.specs.Certificates.{IsAtEnds};
 ghost use Rattle.mk_cert.specs.Sure.{IsSure};
 ghost use Rattle.mk_cert.specs.Traces.{TraceHolds};
 ghost use Rattle.mk_decide.specs.Decisions.{IfRace, IsSafe};
-ghost use Rattle.mk_decide.specs.Pairs.{HasManyPairs, too_many};
+ghost use Rattle.mk_decide.specs.Pairs.{too_many};
 ghost use Rattle.mk_decide.specs.Short.{IsShortCertificate};
-ghost use Rattle.mk_decide.specs.ShortVerdicts.{IsShortVerdict};
+ghost use Rattle.mk_decide.specs.ShortVerdicts.{HasManyNeighbours, IsShortVerdict};
 
 use crate::before::Before;
 use crate::certificate::certificate_of;
@@ -37,7 +37,7 @@ pub fn decide_short(alloc: Global, jobs: &Jobs) -> Result<Verdict, Halt>
     ensures holds { IfOk result (λ verdict. IfRace verdict (TraceHolds jobs.now)) }
     ensures sure { IfOk result (λ verdict. IfRace verdict (IsSure jobs.now)) }
     ensures many { IfErr result (λ halt.
-        HaltsAmong {Y = ℕ} halt (λ answer. (answer ≡ Err too_many) × HasManyPairs jobs.now)) }
+        HaltsAmong {Y = ℕ} halt (λ answer. (answer ≡ Err too_many) × HasManyNeighbours jobs.now)) }
 {
     let _count = jobs.count();
     let mut rows = Rows::new(alloc, jobs)?;
@@ -46,7 +46,7 @@ pub fn decide_short(alloc: Global, jobs: &Jobs) -> Result<Verdict, Halt>
         return Ok(Verdict::Race(trace));
     }
     let mut pairs = neighbours(alloc, jobs)?;
-    thin(alloc, jobs, &mut pairs)?;
+    thin(alloc, &mut pairs)?;
     let chains = certificate_of(alloc, jobs, &mut rows, &pairs)?;
     Ok(Verdict::Safe(chains))
 }

@@ -1,6 +1,7 @@
 use Rattle.std.proofs.Common.{ℕ, ◌≡◌, ◌+◌, List, ap, sym, subst, arith}
 use Rattle.mk_decide.specs.Pairs.{OnlyClashing}
-use Rattle.mk_decide.proofs.Paired.{AllHeld, held_more, pairs_are, same_clash, same_held}
+use Rattle.std.proofs.lemmas.Result.{err_from_is_err_and}
+use Rattle.mk_decide.proofs.Paired.{AllHeld, halts_more, held_more, many_are, pairs_are, same_clash, same_held}
 use Rattle.mk_decide.proofs.pairs.clashing_pairs.Goals as goal
 use Rattle.mk_decide.proofs.pairs.clashing_pairs.Goals.{then-len-gt-ROOM+in_ok-thin, else-len-gt-ROOM}
 
@@ -22,6 +23,20 @@ loop-b-preserved c =
           let r = result added (ap (λ v. v.items) w.pairs-is) c.in_ok-add_pairs.ensures.clash all in
           record { clash = r.0; held = r.1 }
     ]
+
+pub returns-in_err-thin-clause-many : goal.returns-in_err-thin-clause-many
+returns-in_err-thin-clause-many c =
+    let p = err_from_is_err_and c.from_residual-in_err-thin.result c.from_residual-in_err-thin.ensures.1 in
+    let thinned = c.in_err-thin.ensures in
+    rw (p.1, p.2) (halts_more _ _ _ c.in_err-thin.field-0.0
+    (many_are c.add_pairs.new.pairs.items c.thin.new.pairs.items c.in_ok-add_pairs.ensures.clash thinned.rising thinned.same) thinned.many)
+
+pub returns-in_err-thin-2-clause-many : goal.returns-in_err-thin-2-clause-many
+returns-in_err-thin-2-clause-many c =
+    let p = err_from_is_err_and c.from_residual-in_err-thin-2.result c.from_residual-in_err-thin-2.ensures.1 in
+    let thinned = c.in_err-thin-2.ensures in
+    rw (p.1, p.2) (halts_more _ _ _ c.in_err-thin-2.field-0.0
+    (many_are c.loop-b.pairs.items c.thin-2.new.pairs.items c.loop-b.invariant.clash thinned.rising thinned.same) thinned.many)
 
 pub returns-clause-pairs : goal.returns-clause-pairs
 returns-clause-pairs c =

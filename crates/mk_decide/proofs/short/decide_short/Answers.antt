@@ -2,12 +2,13 @@ use Rattle.std.proofs.Common.{ℕ, List, All, refl, sym, subst}
 use Rattle.mk_jobs.specs.Jobs.{Before}
 use Rattle.mk_cert.proofs.Overlapping.{of_race}
 use Rattle.mk_cert.proofs.Sound.{holds}
-use Rattle.mk_decide.specs.Neighbours.{AreNeighbours}
 use Rattle.mk_decide.specs.Pairs.{OnlyClashing}
 use Rattle.mk_decide.specs.Verdicts.{AreChainsOf}
 use Rattle.mk_decide.specs.declared.decision.Verdict.TheVariants.{Safe}
-use Rattle.mk_decide.proofs.Certifying.{chains_short, near_clashing}
+use Rattle.std.proofs.lemmas.Result.{err_from_is_err_and}
+use Rattle.mk_decide.proofs.Certifying.{chains_short, near_clashing, same_near}
 use Rattle.mk_decide.proofs.Deciding.{all_ordered, short_determinate, short_from_one_run}
+use Rattle.mk_decide.proofs.Paired.{halts_more}
 use Rattle.mk_decide.proofs.short.decide_short.Goals as goal
 
 pub returns-in-Some-clause-holds : goal.returns-in-Some-clause-holds
@@ -18,8 +19,17 @@ returns-in-Some-clause-holds c =
 pub returns-in-Some-clause-sure : goal.returns-in-Some-clause-sure
 returns-in-Some-clause-sure c = of_race c.args.jobs.now c.in_ok-trace.trace c.count-count.ensures.shape c.count-count.ensures.valid c.in_ok-trace.ensures.race
 
-pub thin-requires : goal.thin-requires
-thin-requires c = record { clash = near_clashing c.in_ok-pairs.pairs.items c.in_ok-pairs.ensures }
+pub returns-in_err-thin-clause-many : goal.returns-in_err-thin-clause-many
+returns-in_err-thin-clause-many c =
+    let p = err_from_is_err_and c.from_residual-in_err-thin.result c.from_residual-in_err-thin.ensures.1 in
+    let thinned = c.in_err-thin.ensures in
+    rw (p.1, p.2) (halts_more _ _ _ c.in_err-thin.field-0.0 (λ many. record {
+      race_free = c.in_default.ensures.free.0 refl;
+      pairs = c.thin.new.pairs.items;
+      rise = thinned.rising;
+      near = same_near c.in_ok-pairs.pairs.items c.thin.new.pairs.items c.in_ok-pairs.ensures thinned.same;
+      many = many;
+    }) thinned.many)
 
 pub certificate_of-requires-clause-clash : goal.certificate_of-requires-clause-clash
 certificate_of-requires-clause-clash c =
@@ -36,10 +46,7 @@ certificate_of-requires-clause-ordered c =
 pub returns-clause-answer : goal.returns-clause-answer
 returns-clause-answer c =
     let free = c.in_default.ensures.free.0 refl in
-    let near : AreNeighbours c.args.jobs.now c.thin.new.pairs.items = λ a b. (
-      λ there. (c.in_ok-pairs.ensures a b).0 ((c.in_ok-thin.ensures.same a b).0 there),
-      λ one. (c.in_ok-thin.ensures.same a b).1 ((c.in_ok-pairs.ensures a b).1 one),
-    ) in
+    let near = same_near c.in_ok-pairs.pairs.items c.thin.new.pairs.items c.in_ok-pairs.ensures c.in_ok-thin.ensures.same in
     let of : AreChainsOf c.args.jobs.now c.thin.new.pairs.items c.in_ok-chains.chains =
     subst (λ (ps : List (ℕ × ℕ)). AreChainsOf c.args.jobs.now ps c.in_ok-chains.chains) c.deref.ensures.value c.in_ok-chains.ensures.chains in
     record {
