@@ -144,15 +144,28 @@ def text_of(lines):
     return b"".join(b" ".join(b"%d" % it if isinstance(it, int) else it for it in line) + b"\n" for line in lines)
 
 
-class Answer:
-    """What comes of the jobs of a build: its status, its report and its proof."""
+def neighbours(clashes):
+    """Those of some clashes, each of a smaller number and a greater one, that no row of several leads round."""
+    led, near = {}, []
+    for first in sorted({it.first for it in clashes}, reverse=True):
+        own = [it for it in clashes if it.first == first]
+        further = set().union(*(led.get(it.second, ()) for it in own))
+        led[first] = further | {it.second for it in own}
+        near += [it for it in own if it.second not in further]
+    return sorted(near)
 
-    def __init__(self, jobs):
+
+class Answer:
+    """What comes of the jobs of a build: its status, its report and its proof; with `is_short` of the neighbours alone."""
+
+    def __init__(self, jobs, is_short=False):
         self.jobs, self.clashes = jobs, list(jobs.clashes())
-        if len(self.clashes) > MOST_PAIRS:
-            raise Fault("TooManyPairs").at(b"jobs")
         self.races = [it for it in self.clashes if it.first not in jobs.before[it.second]]
         self.race = next(iter(self.races), None)
+        if is_short:
+            self.clashes = [] if self.race else neighbours(self.clashes)
+        if len(self.clashes) > MOST_PAIRS:
+            raise Fault("TooManyPairs").at(b"jobs")
         self.status = 1 if self.race else 0
 
     def name(self, number):
@@ -208,8 +221,8 @@ def jobs_of(plan, footprints):
     return Jobs(plan, read_footprints(footprints, plan.root))
 
 
-def answer_of(plan, footprints):
-    return Answer(jobs_of(plan, footprints))
+def answer_of(plan, footprints, is_short=False):
+    return Answer(jobs_of(plan, footprints), is_short)
 
 
 def note(texts, footprints):
@@ -237,10 +250,10 @@ def order(*texts):
         return 2, fault.report()
 
 
-def check(texts, footprints, wants_proof):
+def check(texts, footprints, wants_proof, is_short=False):
     """Status and output of `race check`."""
     try:
-        answer = answer_of(language.read_build(*texts), footprints)
+        answer = answer_of(language.read_build(*texts), footprints, is_short)
     except Fault as fault:
         return 2, fault.report()
     return answer.status, answer.proof() if wants_proof else answer.report()

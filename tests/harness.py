@@ -34,13 +34,14 @@ NAMED = """
     cases/schedules/equal-times-without-tie cases/schedules/interleaved-run-of-two-objects
     cases/proofs/certificates/two-objects cases/proofs/certificates/chain-through-a-plain-target
     cases/proofs/certificates/shared-folder cases/proofs/traces/generated-header cases/proofs/traces/shared-folder
+    cases/check/safe/short cases/check/proofs/short cases/proofs/certificates/short cases/proofs/certificates/short-without-a-neighbour
     cases/list/three-of-one-temporary cases/list/no-race
     cases/fix/three-of-one-temporary cases/fix/nothing-to-fix cases/fix/made-by-default
     cases/fix/inferred-target-found-by-another-rule cases/fix/name-that-is-no-word cases/fix/forgotten-header-proof
     cases/serialise/interleaved-run cases/serialise/race cases/serialise/no-files cases/serialise/times-with-just-room
     cases/tasks/check/safe cases/tasks/check/race cases/tasks/check/print-certificate cases/tasks/list/races
     cases/tasks/fix/lines cases/tasks/fix/nothing-to-fix cases/tasks/fix/print-certificate
-    cases/tasks/verify/certificate cases/tasks/faults/label-twice
+    cases/tasks/verify/certificate cases/tasks/check/short cases/tasks/faults/label-twice
     cases/unused/check-notes cases/unused/check-is-strict cases/unused/verify-notes cases/unused/replay-notes
 """.split()
 PROCESSES = len(os.sched_getaffinity(0))

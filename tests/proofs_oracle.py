@@ -89,15 +89,23 @@ def clashes(build, a, b):
     return found
 
 
-def is_certificate(build, chains):
-    """Whether the chains go along edges, and each two nodes that clash are the ends of one."""
+def is_certificate(build, chains, is_short):
+    """Whether the chains go along edges, and each two nodes that clash are the ends of one; or each two neighbours."""
     count = len(build.nodes)
     along = all(
         b < count and build.nodes[a].name in build.nodes[b].before for chain in chains for a, b in zip(chain, chain[1:])
     )
     ends = {(chain[0], chain[-1]) for chain in chains}
     pairs = {(a, b) for b in range(count) for a in range(b) if clashes(build, a, b)}
-    return along and pairs <= ends
+    return along and (pairs - led_round(pairs, count) if is_short else pairs) <= ends
+
+
+def led_round(pairs, count):
+    """The pairs from whose first number two or more of these pairs lead, one behind another, to the second."""
+    rows = set()
+    for _ in range(count):
+        rows |= {(a, d) for a, b in pairs for c, d in pairs | rows if b == c}
+    return rows
 
 
 def may_hold(build, nodes, times, steps):
@@ -130,13 +138,13 @@ def follows(build, nodes, times, steps, tie):
     return {build.nodes[it].name for it in nodes} <= running
 
 
-def judge(build, proof):
+def judge(build, proof, is_short=False):
     """The statuses that `race verify` may end with, and the output where it is refused."""
     try:
         lines = Lines(proof)
         if proof.startswith(b"trace "):
             nodes, _, times, steps = read_trace(lines)
             return ({0, 1} if may_hold(build, nodes, times, steps) else {1}), None
-        return {0 if is_certificate(build, read_certificate(lines)) else 1}, None
+        return {0 if is_certificate(build, read_certificate(lines), is_short) else 1}, None
     except BadLine as bad:
         return {2}, f"refused\nF25 BadProof\nat proof {bad.args[0]}\n".encode()

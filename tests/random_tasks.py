@@ -38,6 +38,8 @@ def said_of_tasks(runner, root, text):
     said = {
         ("check",): tasks_oracle.check(root, text, False),
         ("check", "--print-proof"): tasks_oracle.check(root, text, True),
+        ("check", "--short"): tasks_oracle.check(root, text, False, True),
+        ("check", "--short", "--print-proof"): tasks_oracle.check(root, text, True, True),
         ("list",): tasks_oracle.listed(root, text),
         ("fix",): tasks_oracle.fix(root, text, False),
         ("fix", "--print-proof"): tasks_oracle.fix(root, text, True),
@@ -46,11 +48,11 @@ def said_of_tasks(runner, root, text):
         ran = runner.run([command, *words, *flags])
         if harness.outcome(ran) != (*expected, b""):
             yield " ".join([command, *flags]), ran, expected
-    status, proof = said["check", "--print-proof"]
-    if status < 2:
-        ran = runner.run(["verify", *words, "--proof", runner.write("proof", proof)])
-        if harness.outcome(ran) != (0, b"accepted\n", b""):
-            yield "verify", ran, (0, b"accepted\n")
+    for short in [], ["--short"]:
+        status, proof = said[("check", *short, "--print-proof")]
+        ran = runner.run(["verify", *words, "--proof", runner.write("proof", proof), *short])
+        if status < 2 and harness.outcome(ran) != (0, b"accepted\n", b""):
+            yield " ".join(["verify", *short]), ran, (0, b"accepted\n")
     if status < 2:
         yield from fixed_tasks(runner, words, text)
 

@@ -78,20 +78,20 @@ class Jobs(answer_oracle.Jobs):
         self.before.append(direct.union(*(self.before[it] for it in direct)))
 
 
-def answered(root, text):
+def answered(root, text, is_short=False):
     """The answer of tasks and no refusal, or None and the refusal."""
     try:
         top = oracle.plain(b"/", root) if root.startswith(b"/") else None
         if top is None:
             raise Fault("BadName", root).at(b"settings", 0)
-        return answer_oracle.Answer(Jobs(root, text)), b""
+        return answer_oracle.Answer(Jobs(root, text), is_short), b""
     except Fault as fault:
         return None, fault.report()
 
 
-def check(root, text, wants_proof):
+def check(root, text, wants_proof, is_short=False):
     """Status and output of `race check`."""
-    answer, refusal = answered(root, text)
+    answer, refusal = answered(root, text, is_short)
     if answer is None:
         return 2, refusal
     return answer.status, answer.proof() if wants_proof else answer.report()
@@ -118,9 +118,12 @@ def fix(root, text, wants_proof):
     return 0, b"".join([b"# race fix: lines %d\n" % len(edges), *lines] if edges else [])
 
 
-def said(command, root, text, wants_proof):
-    """Status and output of one of the commands."""
-    return listed(root, text) if command == "list" else (fix if command == "fix" else check)(root, text, wants_proof)
+def said(command, root, text, flags):
+    """Status and output of one of the commands with these flags."""
+    wants_proof = "--print-proof" in flags
+    if command == "check":
+        return check(root, text, wants_proof, "--short" in flags)
+    return listed(root, text) if command == "list" else fix(root, text, wants_proof)
 
 
 def with_edges(text, edges):

@@ -297,6 +297,20 @@ def ordered_pairs(part):
     return {"makefile": "".join(rules), "listing": "", "footprints": "".join(json.dumps(it) + "\n" for it in lines), "words": names[-1:]}
 
 
+def one_row(part):
+    """1,414 recipes in a row that write one log: 998,991 pairs conflict, all in order, and 1,413 are neighbours."""
+    names = [short(i)[1:] for i in range(int(1_414 * part))]
+    rules = (f"{name}: {before}\n\tc\n" for name, before in zip(names, ["", *names]))
+    lines = ({"target": name, "reads": [], "writes": [name, "log"]} for name in names)
+    return {"makefile": "".join(rules), "listing": "", "footprints": "".join(json.dumps(it) + "\n" for it in lines), "words": names[-1:]}
+
+
+def proof_of_row(part):
+    """The short certificate of these."""
+    last = int(1_414 * part) - 1
+    return {**one_row(part), "proof": f"certificate {last}\n" + "".join(f"{i} {i + 1}\n" for i in range(last))}
+
+
 def shared_log(part):
     """1,414 recipes that write one log, in no order."""
     names = [short(i) for i in range(int(1_414 * part))]
@@ -312,7 +326,7 @@ def log_of_tasks(part):
 
 
 def asked(command, make_input):
-    """The same input, with another command."""
+    """The same input, with another command and its flags."""
     return lambda part: {"command": command, **make_input(part)}
 
 
@@ -367,6 +381,8 @@ INPUTS = {
     "a million pairs in order": ordered_pairs,
     "a million pairs in order, list": asked("list", ordered_pairs),
     "a million pairs in order, missing": asked("missing", ordered_pairs),
+    "1,414 recipes in a row, check --short": asked("check --short", one_row),
+    "1,414 recipes in a row, verify --short": asked("verify --short", proof_of_row),
     "a log of 1,414 recipes": shared_log,
     "a log of 1,414 recipes, list": asked("list", shared_log),
     "a log of 1,414 recipes, missing": asked("missing", shared_log),
@@ -408,7 +424,7 @@ def run(args, make_input, part):
             pathlib.Path(folder, name).write_text(text)
         size = sum(path.stat().st_size for path in pathlib.Path(folder).iterdir()) + sum(len(it) + 1 for it in operands_of)
         command = command or ("replay" if "log" in texts else "check" if "footprints" in texts else "order")
-        words = [command, "--root", "/w"]
+        words = [*command.split(), "--root", "/w"]
         words += [word for name in texts for word in ("--" + name, name)] + operands_of
         del texts
         limits = f"ulimit -v {int(args.gigabytes * MEGABYTE)}; ulimit -t {args.seconds};"

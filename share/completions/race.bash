@@ -30,7 +30,7 @@ _race() {
       --footprints) mapfile -t COMPREPLY < <(compgen -f -- "$word"); return ;;
       --tasks) mapfile -t COMPREPLY < <(compgen -f -- "$word"); return ;;
     esac
-    case $word in -*) mapfile -t COMPREPLY < <(compgen -W "--makefile --listing --root --base --posix-base --includes --quiet --footprints --tasks --print-proof --strict -h --help" -- "$word"); return ;; esac
+    case $word in -*) mapfile -t COMPREPLY < <(compgen -W "--makefile --listing --root --base --posix-base --includes --quiet --footprints --tasks --print-proof --short --strict -h --help" -- "$word"); return ;; esac
     mapfile -t COMPREPLY < <(compgen -f -- "$word") ;;
   'race verify')
     case $before in
@@ -43,7 +43,7 @@ _race() {
       --tasks) mapfile -t COMPREPLY < <(compgen -f -- "$word"); return ;;
       --proof) mapfile -t COMPREPLY < <(compgen -f -- "$word"); return ;;
     esac
-    case $word in -*) mapfile -t COMPREPLY < <(compgen -W "--makefile --listing --root --base --posix-base --includes --quiet --footprints --tasks --proof --strict -h --help" -- "$word"); return ;; esac
+    case $word in -*) mapfile -t COMPREPLY < <(compgen -W "--makefile --listing --root --base --posix-base --includes --quiet --footprints --tasks --proof --short --strict -h --help" -- "$word"); return ;; esac
     mapfile -t COMPREPLY < <(compgen -f -- "$word") ;;
   'race replay')
     case $before in

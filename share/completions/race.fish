@@ -32,6 +32,7 @@ complete -c race -n '__fish_seen_subcommand_from check' -l quiet -d 'Write nothi
 complete -c race -n '__fish_seen_subcommand_from check' -l footprints -r -F -d 'What the recipes read and write, one object of JSON a line'
 complete -c race -n '__fish_seen_subcommand_from check' -l tasks -r -F -d 'What tasks wait for, read and write, one object of JSON a line'
 complete -c race -n '__fish_seen_subcommand_from check' -l print-proof -d 'Print the certificate or the trace in place of the report'
+complete -c race -n '__fish_seen_subcommand_from check' -l short -d 'Give the chains of neighbours alone, which put all others in order'
 complete -c race -n '__fish_seen_subcommand_from check' -l strict -d 'Refuse footprints whose target is a file that nothing makes here'
 complete -c race -n '__fish_seen_subcommand_from check' -s h -l help -d 'Print help'
 
@@ -45,6 +46,7 @@ complete -c race -n '__fish_seen_subcommand_from verify' -l quiet -d 'Write noth
 complete -c race -n '__fish_seen_subcommand_from verify' -l footprints -r -F -d 'What the recipes read and write, one object of JSON a line'
 complete -c race -n '__fish_seen_subcommand_from verify' -l tasks -r -F -d 'What tasks wait for, read and write, one object of JSON a line'
 complete -c race -n '__fish_seen_subcommand_from verify' -l proof -r -F -d 'A certificate or a trace, by the numbers of race order'
+complete -c race -n '__fish_seen_subcommand_from verify' -l short -d 'Take a certificate that has the chains of neighbours alone'
 complete -c race -n '__fish_seen_subcommand_from verify' -l strict -d 'Refuse footprints whose target is a file that nothing makes here'
 complete -c race -n '__fish_seen_subcommand_from verify' -s h -l help -d 'Print help'
 

@@ -31,10 +31,10 @@ use Rattle.mk_program.specs.declared.statuses.Status.{Status}
 use Rattle.mk_program.specs.declared.statuses.Status.TheVariants.{Done, Failed, No, Refused}
 
 -- a build that is said to be safe is
-noted_safe : (strict : Bool) (texts : Texts) (footprints : List ℕ) (proof : Bool) (text note : List ℕ)
-    → SaysNoting strict texts footprints (IsCheckAnswer texts footprints proof) Done text note → NoScheduleShows texts footprints
-noted_safe strict texts footprints proof text note (Ok noted, is, says) = says.0.headline
-noted_safe strict texts footprints proof text note (Err reported, is, says) = absurd (let e : ◌≡◌ {A = Status} Done Refused = says.0 in cc)
+noted_safe : (strict short : Bool) (texts : Texts) (footprints : List ℕ) (proof : Bool) (text note : List ℕ)
+    → SaysNoting strict texts footprints (IsCheckAnswer short texts footprints proof) Done text note → NoScheduleShows texts footprints
+noted_safe strict short texts footprints proof text note (Ok noted, is, says) = says.0.headline
+noted_safe strict short texts footprints proof text note (Err reported, is, says) = absurd (let e : ◌≡◌ {A = Status} Done Refused = says.0 in cc)
 
 -- what is reported of a build or of tasks that were judged is their answer
 pub judged_is : (Is : Judged → Type 0) (Headline : Type 0) (answer : Judged) (proof : Bool) (status : Status) (text : List ℕ)
@@ -67,8 +67,8 @@ job_asked (Some found) args check asks = (found.0, found.1, check, asks.question
 job_safe : (question : JobQuestion) (strict : Bool) (texts : Texts) (text : InputFile → List ℕ) (answer note : List ℕ)
     → (name : Text) × (rows : List Row) × (name ≡ codes "check") × IsJobQuestion question name rows
     → IsJobAnswer question strict texts text Done answer note → NoScheduleShows texts (text inputs.Footprints)
-job_safe (jobs.Check proof) strict texts text answer note asks says = noted_safe strict texts (text inputs.Footprints) proof answer note says
-job_safe (jobs.Verify proof) strict texts text answer note asks says = absurd (not_check (codes "verify") asks.0 asks.2 asks.3.0 refl)
+job_safe (jobs.Check proof short) strict texts text answer note asks says = noted_safe strict short texts (text inputs.Footprints) proof answer note says
+job_safe (jobs.Verify proof short) strict texts text answer note asks says = absurd (not_check (codes "verify") asks.0 asks.2 asks.3.0 refl)
 job_safe (jobs.Replay args) strict texts text answer note asks says = absurd (not_check (codes "replay") asks.0 asks.2 asks.3.0 refl)
 job_safe (jobs.Serialise args) strict texts text answer note asks says = absurd (not_check (codes "serialise") asks.0 asks.2 asks.3.0 refl)
 job_safe jobs.List strict texts text answer note asks says = absurd (not_check (codes "list") asks.0 asks.2 asks.3.0 refl)
@@ -111,14 +111,14 @@ question_safe : (question : TaskQuestion) (path root : Bor (List ℕ)) (files : 
     → IsTasksAnswer question root.now text Done answer)
     → (tasks : List ℕ) → files path.now ≡ Some tasks → tasked.NoScheduleShows root.now tasks
 unfolding only_tasks
-question_safe (questions.Check proof) path root files answer asks reported tasks opened =
+question_safe (questions.Check proof short) path root files answer asks reported tasks opened =
     let hold : Hold files (input_at inputs.Tasks path) (only_tasks tasks) = record {
       each = All-cons (λ (known : InputPath). files known.path.now ≡ Some (only_tasks tasks known.input)) _ [] opened
           (All-nil (λ (known : InputPath). files known.path.now ≡ Some (only_tasks tasks known.input)));
       others = no_others tasks path;
     } in
     (reported [] (only_tasks tasks) refl hold).headline
-question_safe (questions.Verify proof) path root files answer asks reported tasks opened = absurd (not_check (codes "verify") asks.0 asks.2 asks.3.0 refl)
+question_safe (questions.Verify proof short) path root files answer asks reported tasks opened = absurd (not_check (codes "verify") asks.0 asks.2 asks.3.0 refl)
 question_safe questions.List path root files answer asks reported tasks opened = absurd (not_check (codes "list") asks.0 asks.2 asks.3 refl)
 question_safe (questions.Fix proof) path root files answer asks reported tasks opened = absurd (not_check (codes "fix") asks.0 asks.2 asks.3.0 refl)
 question_safe (questions.Missing listing) path root files answer asks reported tasks opened = absurd (not_check (codes "missing") asks.0 asks.2 asks.3.0 refl)

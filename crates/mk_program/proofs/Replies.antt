@@ -22,8 +22,8 @@ use Rattle.mk_request.specs.declared.requests.Request.{Request}
 
 -- the further input of a question is no base
 pub no_base : (question : JobQuestion) → IfSome (other_input question) (λ (known : InputPath). known.input ≢ inputs.Base)
-no_base (jobs.Check print_proof) = tt
-no_base (jobs.Verify proof) = λ (is : ◌≡◌ {A = InputFile} inputs.Proof inputs.Base). cc
+no_base (jobs.Check print_proof short) = tt
+no_base (jobs.Verify proof short) = λ (is : ◌≡◌ {A = InputFile} inputs.Proof inputs.Base). cc
 no_base (jobs.Replay args) = λ (is : ◌≡◌ {A = InputFile} inputs.Log inputs.Base). cc
 no_base (jobs.Serialise args) = λ (is : ◌≡◌ {A = InputFile} inputs.Log inputs.Base). cc
 no_base jobs.List = tt

@@ -11,21 +11,21 @@ use Rattle.mk_program.specs.declared.statuses.Status.{Status}
 module _ (question : TaskQuestion) (root root' tasks : List ℕ) (texts : InputFile → List ℕ) (status : Status) (answer : List ℕ)
     (below : root' ≡ root) (read : tasks ≡ texts inputs.Tasks) where
   -- the answer to a check over what was read is the one over the texts
-  pub check_read : (proof : Bool) → question ≡ questions.Check proof → IsTaskCheckAnswer root' tasks proof status answer
+  pub check_read : (proof short : Bool) → question ≡ questions.Check proof short → IsTaskCheckAnswer short root' tasks proof status answer
       → IsTasksAnswer question root texts status answer
-  check_read proof is h =
+  check_read proof short is h =
       subst (λ (q : TaskQuestion). IsTasksAnswer q root texts status answer) (sym is)
-      (subst (λ (x : List ℕ). IsTaskCheckAnswer x (texts inputs.Tasks) proof status answer) below
-      (subst (λ (x : List ℕ). IsTaskCheckAnswer root' x proof status answer) read h))
+      (subst (λ (x : List ℕ). IsTaskCheckAnswer short x (texts inputs.Tasks) proof status answer) below
+      (subst (λ (x : List ℕ). IsTaskCheckAnswer short root' x proof status answer) read h))
 
   -- and so is that of a proof
-  pub verify_read : (path : Bor (List ℕ)) (proof : List ℕ) → question ≡ questions.Verify path → proof ≡ texts inputs.Proof
-      → IsTaskVerifyAnswer root' tasks proof status answer → IsTasksAnswer question root texts status answer
-  verify_read path proof is given h =
+  pub verify_read : (path : Bor (List ℕ)) (proof : List ℕ) (short : Bool) → question ≡ questions.Verify path short → proof ≡ texts inputs.Proof
+      → IsTaskVerifyAnswer short root' tasks proof status answer → IsTasksAnswer question root texts status answer
+  verify_read path proof short is given h =
       subst (λ (q : TaskQuestion). IsTasksAnswer q root texts status answer) (sym is)
-      (subst (λ (x : List ℕ). IsTaskVerifyAnswer x (texts inputs.Tasks) (texts inputs.Proof) status answer) below
-      (subst (λ (x : List ℕ). IsTaskVerifyAnswer root' x (texts inputs.Proof) status answer) read
-      (subst (λ (x : List ℕ). IsTaskVerifyAnswer root' tasks x status answer) given h)))
+      (subst (λ (x : List ℕ). IsTaskVerifyAnswer short x (texts inputs.Tasks) (texts inputs.Proof) status answer) below
+      (subst (λ (x : List ℕ). IsTaskVerifyAnswer short root' x (texts inputs.Proof) status answer) read
+      (subst (λ (x : List ℕ). IsTaskVerifyAnswer short root' tasks x status answer) given h)))
 
   -- and that of a list
   pub list_read : question ≡ questions.List → IsTaskListAnswer root' tasks status answer → IsTasksAnswer question root texts status answer

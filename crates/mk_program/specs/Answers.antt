@@ -110,14 +110,14 @@ SaysJudged Is Headline proof statuses.Refused text = (reported : Reported) × Is
 SaysJudged Is Headline proof statuses.Failed text = ⊥
 
 -- that of a build: where it is safe, no schedule of it shows in its files
-abbrev pub IsCheckAnswer : Texts → List ℕ → Bool → Status → List ℕ → Type 0
-IsCheckAnswer texts footprints proof status text =
-    SaysJudged (IsAnswered texts footprints) (NoScheduleShows texts footprints) proof status text
+abbrev pub IsCheckAnswer : Bool → Texts → List ℕ → Bool → Status → List ℕ → Type 0
+IsCheckAnswer short texts footprints proof status text =
+    SaysJudged (IsAnswered short texts footprints) (NoScheduleShows texts footprints) proof status text
 
 -- that of tasks below a root: where they are safe, each of them starts, and no schedule of them shows in their files
-abbrev pub IsTaskCheckAnswer : List ℕ → List ℕ → Bool → Status → List ℕ → Type 0
-IsTaskCheckAnswer root tasks proof status text =
-    SaysJudged (tasked.IsAnswerTo (tasked.tasked root tasks)) (tasked.NoScheduleShows root tasks) proof status text
+abbrev pub IsTaskCheckAnswer : Bool → List ℕ → List ℕ → Bool → Status → List ℕ → Type 0
+IsTaskCheckAnswer short root tasks proof status text =
+    SaysJudged (tasked.IsAnswerTo short (tasked.tasked root tasks)) (tasked.NoScheduleShows root tasks) proof status text
 
 -- how the program ends after a build or tasks were judged
 abbrev pub judged_status : Judged → Status
@@ -137,14 +137,14 @@ SaysVerdict Is Shown statuses.Refused text = (reported : Reported) × Is (Err re
 SaysVerdict Is Shown statuses.Failed text = ⊥
 
 -- that of a proof for a build
-abbrev pub IsVerifyAnswer : Texts → List ℕ → List ℕ → Status → List ℕ → Type 0
-IsVerifyAnswer texts footprints proof status text =
-    SaysVerdict (IsVerified texts footprints proof) (ProofShows texts footprints proof) status text
+abbrev pub IsVerifyAnswer : Bool → Texts → List ℕ → List ℕ → Status → List ℕ → Type 0
+IsVerifyAnswer short texts footprints proof status text =
+    SaysVerdict (IsVerified short texts footprints proof) (ProofShows texts footprints proof) status text
 
 -- that of a proof for tasks below a root
-abbrev pub IsTaskVerifyAnswer : List ℕ → List ℕ → List ℕ → Status → List ℕ → Type 0
-IsTaskVerifyAnswer root tasks proof status text =
-    SaysVerdict (tasked.IsVerifiedOf root tasks proof) (tasked.ProofShows root tasks proof) status text
+abbrev pub IsTaskVerifyAnswer : Bool → List ℕ → List ℕ → List ℕ → Status → List ℕ → Type 0
+IsTaskVerifyAnswer short root tasks proof status text =
+    SaysVerdict (tasked.IsVerifiedOf short root tasks proof) (tasked.ProofShows root tasks proof) status text
 
 -- how the program ends after a proof was judged
 abbrev pub verdict_status : Bool → Status
@@ -289,8 +289,8 @@ texts_for build includes text = record {
 
 -- the answer to a question about tasks below a root, over the texts of its inputs
 abbrev pub IsTasksAnswer : TaskQuestion → List ℕ → (InputFile → List ℕ) → Status → List ℕ → Type 0
-IsTasksAnswer (questions.Check print_proof) root text status answer = IsTaskCheckAnswer root (text inputs.Tasks) print_proof status answer
-IsTasksAnswer (questions.Verify proof) root text status answer = IsTaskVerifyAnswer root (text inputs.Tasks) (text inputs.Proof) status answer
+IsTasksAnswer (questions.Check print_proof short) root text status answer = IsTaskCheckAnswer short root (text inputs.Tasks) print_proof status answer
+IsTasksAnswer (questions.Verify proof short) root text status answer = IsTaskVerifyAnswer short root (text inputs.Tasks) (text inputs.Proof) status answer
 IsTasksAnswer questions.List root text status answer = IsTaskListAnswer root (text inputs.Tasks) status answer
 IsTasksAnswer (questions.Fix print_proof) root text status answer = IsTaskFixAnswer root (text inputs.Tasks) print_proof status answer
 IsTasksAnswer (questions.Missing listing) root text status answer = IsTaskMissingAnswer root (text inputs.Listing) (text inputs.Tasks) status answer
@@ -298,10 +298,10 @@ IsTasksAnswer (questions.Missing listing) root text status answer = IsTaskMissin
 -- the answer to a question about the jobs of a build and its note, over the texts of the build and of the inputs; where it has a note, a
 -- strict build is refused if footprints lie unused
 abbrev pub IsJobAnswer : JobQuestion → Bool → Texts → (InputFile → List ℕ) → Status → List ℕ → List ℕ → Type 0
-IsJobAnswer (jobs.Check print_proof) strict texts text =
-    SaysNoting strict texts (text inputs.Footprints) (IsCheckAnswer texts (text inputs.Footprints) print_proof)
-IsJobAnswer (jobs.Verify proof) strict texts text =
-    SaysNoting strict texts (text inputs.Footprints) (IsVerifyAnswer texts (text inputs.Footprints) (text inputs.Proof))
+IsJobAnswer (jobs.Check print_proof short) strict texts text =
+    SaysNoting strict texts (text inputs.Footprints) (IsCheckAnswer short texts (text inputs.Footprints) print_proof)
+IsJobAnswer (jobs.Verify proof short) strict texts text =
+    SaysNoting strict texts (text inputs.Footprints) (IsVerifyAnswer short texts (text inputs.Footprints) (text inputs.Proof))
 IsJobAnswer (jobs.Replay args) strict texts text =
     SaysNoting strict texts (text inputs.Footprints) (IsReplayAnswer texts (text inputs.Footprints) (text inputs.Log) args.limit args.tie)
 IsJobAnswer (jobs.Serialise args) strict texts text = λ status answer note.
@@ -375,8 +375,8 @@ HasNote words files status = (text note : List ℕ) × (note ≢ []) × IsAnswer
 
 -- the log in serial order that a question about jobs is to write has a name that is no text, over the texts of the build and of the inputs
 abbrev pub IsNoTextOf : JobQuestion → Texts → (InputFile → List ℕ) → Type 0
-IsNoTextOf (jobs.Check print_proof) texts text = ⊥
-IsNoTextOf (jobs.Verify proof) texts text = ⊥
+IsNoTextOf (jobs.Check print_proof short) texts text = ⊥
+IsNoTextOf (jobs.Verify proof short) texts text = ⊥
 IsNoTextOf (jobs.Replay args) texts text = ⊥
 IsNoTextOf (jobs.Serialise args) texts text = HasNoText texts (text inputs.Footprints) (text inputs.Log) args.limit args.tie
 IsNoTextOf jobs.List texts text = ⊥

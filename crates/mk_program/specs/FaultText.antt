@@ -78,7 +78,7 @@ job_path args source = build_path args.build source
 
 -- the path of the input that a question about tasks has beside them, a listing or a proof
 abbrev pub other_path : TaskQuestion → Option (List ℕ)
-other_path (questions.Verify proof) = Some proof.now
+other_path (questions.Verify proof short) = Some proof.now
 other_path (questions.Missing listing) = Some listing.now
 other_path _ = None
 

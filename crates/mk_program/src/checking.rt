@@ -13,30 +13,36 @@ use mk_race::preparing::Prepared;
 use mk_report::answer::{Answer as Judged, report};
 use std::alloc::{AllocError, Global};
 
-/// Whether a build is safe: by the report, or by its proof.
+/// Whether a build is safe: by the report, or by its proof, which may be asked to be short.
 #[derive(Clone, Copy)]
 pub(crate) struct Checking {
     pub(crate) print_proof: bool,
+    pub(crate) short: bool,
 }
 
 impl Question for Checking {
-    ghost says = { λ asked texts footprints _. spec.IsCheckAnswer texts footprints asked.print_proof };
+    ghost says = { λ asked texts footprints _. spec.IsCheckAnswer asked.short texts footprints asked.print_proof };
 
     ghost has_no_text = { λ _ _ _ _. ⊥ };
 
     fn answer(&self, alloc: Global, prepared: Prepared, _other: &[u8]) -> Result<Answer, Failure> {
-        Ok(judged_of(alloc, prepared, self.print_proof)?)
+        Ok(judged_of(alloc, prepared, self.print_proof, self.short)?)
     }
 }
 
 /// Whether a build of these jobs is safe. The only error is out of memory.
-fn judged_of(alloc: Global, prepared: Prepared, proof: bool) -> Result<Answer, AllocError>
+fn judged_of(
+    alloc: Global,
+    prepared: Prepared,
+    proof: bool,
+    short: bool,
+) -> Result<Answer, AllocError>
     ensures status { IfOk result (λ answer. answer.status ≢ Status.Failed) }
     ensures answer { IfOk result (λ answer. (texts : Texts) (footprints : List ℕ)
         → IsPrepared texts footprints (Ok prepared)
-        → spec.IsCheckAnswer texts footprints proof answer.status answer.text.items) }
+        → spec.IsCheckAnswer short texts footprints proof answer.status answer.text.items) }
 {
-    let judged = judge_prepared(alloc, prepared)?;
+    let judged = judge_prepared(alloc, prepared, short)?;
     judged_answer(alloc, judged, proof)
 }
 

@@ -202,7 +202,7 @@ fn other_path<'a>(question: TaskQuestion<'a>) -> Option<&'a str>
     ensures { option_map (λ path. path.now) result ≡ spec.other_path question.entry }
 {
     match question {
-        TaskQuestion::Verify { proof } => Some(proof),
+        TaskQuestion::Verify { proof, .. } => Some(proof),
         TaskQuestion::Missing { listing } => Some(listing),
         _ => None,
     }

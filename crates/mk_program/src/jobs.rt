@@ -107,10 +107,13 @@ fn reply_to(
 {
     let strict = args.strict;
     match args.question {
-        JobQuestion::Check { print_proof } => {
-            noted_reply(alloc, build, other, &Checking { print_proof }, strict)
+        JobQuestion::Check { print_proof, short } => {
+            let checking = Checking { print_proof, short };
+            noted_reply(alloc, build, other, &checking, strict)
         }
-        JobQuestion::Verify { .. } => noted_reply(alloc, build, other, &Verifying, strict),
+        JobQuestion::Verify { short, .. } => {
+            noted_reply(alloc, build, other, &Verifying { short }, strict)
+        }
         JobQuestion::Replay(log) => noted_reply(alloc, build, other, &Replaying { log }, strict),
         JobQuestion::Serialise(log) => quiet_reply(alloc, build, other, &SerialOrder { log }),
         JobQuestion::List => quiet_reply(alloc, build, other, &AllRaces),

@@ -57,9 +57,11 @@ fn tasks_answer(
     let root = args.root.as_bytes();
     let tasks = text_of(texts, InputFile::Tasks);
     match args.question {
-        TaskQuestion::Check { print_proof } => check_answer(alloc, root, tasks, print_proof),
-        TaskQuestion::Verify { .. } => {
-            verify_answer(alloc, root, tasks, text_of(texts, InputFile::Proof))
+        TaskQuestion::Check { print_proof, short } => {
+            check_answer(alloc, root, tasks, print_proof, short)
+        }
+        TaskQuestion::Verify { short, .. } => {
+            verify_answer(alloc, root, tasks, text_of(texts, InputFile::Proof), short)
         }
         TaskQuestion::List => list_answer(alloc, root, tasks),
         TaskQuestion::Fix { print_proof } => fix_answer(alloc, root, tasks, print_proof),
@@ -71,12 +73,18 @@ fn tasks_answer(
 }
 
 /// The report of tasks, or their proof, or the report of their first fault. The only error is out of memory.
-fn check_answer(alloc: Global, root: &[u8], tasks: &[u8], proof: bool) -> Result<Answer, AllocError>
+fn check_answer(
+    alloc: Global,
+    root: &[u8],
+    tasks: &[u8],
+    proof: bool,
+    short: bool,
+) -> Result<Answer, AllocError>
     ensures status { IfOk result (λ answer. answer.status ≢ Status.Failed) }
     ensures answer { IfOk result (λ answer.
-        spec.IsTaskCheckAnswer root.now tasks.now proof answer.status answer.text.items) }
+        spec.IsTaskCheckAnswer short root.now tasks.now proof answer.status answer.text.items) }
 {
-    let judged = judge_tasks(alloc, root, tasks)?;
+    let judged = judge_tasks(alloc, root, tasks, short)?;
     judged_answer(alloc, judged, proof)
 }
 
@@ -86,12 +94,13 @@ fn verify_answer(
     root: &[u8],
     tasks: &[u8],
     proof: &[u8],
+    short: bool,
 ) -> Result<Answer, AllocError>
     ensures status { IfOk result (λ answer. answer.status ≢ Status.Failed) }
     ensures answer { IfOk result (λ answer.
-        spec.IsTaskVerifyAnswer root.now tasks.now proof.now answer.status answer.text.items) }
+        spec.IsTaskVerifyAnswer short root.now tasks.now proof.now answer.status answer.text.items) }
 {
-    match verify_tasks(alloc, root, tasks, proof) {
+    match verify_tasks(alloc, root, tasks, proof, short) {
         Ok(accepted) => verdict_answer(alloc, accepted),
         Err(halt) => refused(alloc, halt),
     }

@@ -11,28 +11,35 @@ use mk_race::preparing::Prepared;
 use mk_race::verifying::verify_prepared;
 use std::alloc::{AllocError, Global};
 
-/// Whether a proof is accepted.
+/// Whether a proof is accepted, or accepted as a short one.
 #[derive(Clone, Copy)]
-pub(crate) struct Verifying;
+pub(crate) struct Verifying {
+    pub(crate) short: bool,
+}
 
 impl Question for Verifying {
-    ghost says = { λ _. spec.IsVerifyAnswer };
+    ghost says = { λ asked. spec.IsVerifyAnswer asked.short };
 
     ghost has_no_text = { λ _ _ _ _. ⊥ };
 
     fn answer(&self, alloc: Global, prepared: Prepared, proof: &[u8]) -> Result<Answer, Failure> {
-        Ok(verdict_of(alloc, &prepared, proof)?)
+        Ok(verdict_of(alloc, &prepared, proof, self.short)?)
     }
 }
 
 /// Whether a proof is accepted for a build of these jobs, or the report of its fault.
-fn verdict_of(alloc: Global, prepared: &Prepared, proof: &[u8]) -> Result<Answer, AllocError>
+fn verdict_of(
+    alloc: Global,
+    prepared: &Prepared,
+    proof: &[u8],
+    short: bool,
+) -> Result<Answer, AllocError>
     ensures status { IfOk result (λ answer. answer.status ≢ Status.Failed) }
     ensures answer { IfOk result (λ answer. (texts : Texts) (footprints : List ℕ)
-        → IsPrepared texts footprints (Ok prepared.now) → spec.IsVerifyAnswer texts
+        → IsPrepared texts footprints (Ok prepared.now) → spec.IsVerifyAnswer short texts
         footprints proof.now answer.status answer.text.items) }
 {
-    match verify_prepared(alloc, prepared, proof) {
+    match verify_prepared(alloc, prepared, proof, short) {
         Ok(accepted) => verdict_answer(alloc, accepted),
         Err(halt) => refused(alloc, halt),
     }

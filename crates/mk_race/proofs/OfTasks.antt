@@ -40,19 +40,19 @@ no_schedule_shows root text jobs given one = record {
   alike = runs_alike jobs (text_of_tasks root text jobs given) one;
 }
 
-shows_on : (root text proof_text : List ℕ) (jobs : Jobs) (accepted : Bool) → tasked root text ≡ Ok jobs
-    → IsVerifiedOn jobs proof_text (Ok accepted) → IsTrue accepted → ProofShows root text proof_text
-shows_on root text proof_text jobs accepted given (Ok proof, read, judged) holds = record {
+shows_on : (short : Bool) (root text proof_text : List ℕ) (jobs : Jobs) (accepted : Bool) → tasked root text ≡ Ok jobs
+    → IsVerifiedOn short jobs proof_text (Ok accepted) → IsTrue accepted → ProofShows root text proof_text
+shows_on short root text proof_text jobs accepted given (Ok proof, read, judged) holds = record {
   jobs = jobs;
   proof = proof;
   given = given;
   read = read;
   shown = judged.shown holds;
 }
-shows_on root text proof_text jobs accepted given (Err reported, read, same) holds = cc
+shows_on short root text proof_text jobs accepted given (Err reported, read, same) holds = cc
 
 -- what the proof of an accepted text shows is so
-pub answer_shows : (root text proof_text : List ℕ) (jobs : Jobs) (result : Result Bool Halt) → tasked root text ≡ Ok jobs
-    → Answers result (IsVerifiedOn jobs proof_text) → IfOk result (λ accepted. IsTrue accepted → ProofShows root text proof_text)
-answer_shows root text proof_text jobs (Ok accepted) given verified = shows_on root text proof_text jobs accepted given verified
-answer_shows root text proof_text jobs (Err halt) given verified = tt
+pub answer_shows : (short : Bool) (root text proof_text : List ℕ) (jobs : Jobs) (result : Result Bool Halt) → tasked root text ≡ Ok jobs
+    → Answers result (IsVerifiedOn short jobs proof_text) → IfOk result (λ accepted. IsTrue accepted → ProofShows root text proof_text)
+answer_shows short root text proof_text jobs (Ok accepted) given verified = shows_on short root text proof_text jobs accepted given verified
+answer_shows short root text proof_text jobs (Err halt) given verified = tt

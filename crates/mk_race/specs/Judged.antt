@@ -1,5 +1,5 @@
 -- The answer of a build, and what it says of the build's runs where it is that the build is safe.
-use Rattle.std.specs.Prelude.{ℕ, ◌≡◌, Bool, true, List, Result, Ok, Err}
+use Rattle.std.specs.Prelude.{ℕ, ◌≡◌, Bool, true, false, List, Result, Ok, Err}
 use Rattle.mk_name.specs.Names.{has, same_name}
 use Rattle.mk_name.specs.Reported.{Reported}
 use Rattle.mk_jobs.specs.Jobs.{Jobs}
@@ -11,27 +11,38 @@ use Rattle.mk_sched.specs.Stores.{AgreesWithListing, Store}
 use Rattle.mk_cert.specs.Traces.{TraceHolds}
 use Rattle.mk_decide.specs.Decisions.{IsVerdict}
 use Rattle.mk_decide.specs.Pairs.{HasFewPairs, HasManyPairs, too_many}
+use Rattle.mk_decide.specs.ShortVerdicts.{HasManyNeighbours, IsShortVerdict}
+use Rattle.mk_decide.specs.declared.decision.Verdict.{Verdict}
 use Rattle.mk_decide.specs.declared.decision.Verdict.TheVariants as verdicts
 use Rattle.mk_report.specs.declared.answer.Answer.{Answer}
 use Rattle.mk_report.specs.declared.answer.Answer.TheVariants.{Safe, Race, Refused}
 use Rattle.mk_race.specs.Stages.{IsPrepared, Texts}
 use Rattle.mk_race.specs.declared.preparing.Prepared.{Prepared}
 
--- what is decided of jobs, with them: safe by a certificate, or the trace of a race, where not too many pairs clash;
--- else they are refused
-abbrev pub IsDecided : Jobs → Answer → Type 0
-IsDecided jobs (Safe given chains) = (given ≡ jobs) × HasFewPairs jobs × IsVerdict jobs (verdicts.Safe chains)
-IsDecided jobs (Race given trace) = (given ≡ jobs) × HasFewPairs jobs × IsVerdict jobs (verdicts.Race trace)
-IsDecided jobs (Refused reported) = (reported ≡ too_many) × HasManyPairs jobs
+-- a verdict on jobs: a short one where that is asked for, else one in full, with not too many pairs that clash
+abbrev pub IsVerdictOn : Bool → Jobs → Verdict → Type 0
+IsVerdictOn false jobs verdict = HasFewPairs jobs × IsVerdict jobs verdict
+IsVerdictOn true jobs verdict = IsShortVerdict jobs verdict
+
+-- there are too many pairs for such a verdict: of neighbours, or of all that clash
+abbrev pub HasTooMany : Bool → Jobs → Type 0
+HasTooMany false = HasManyPairs
+HasTooMany true = HasManyNeighbours
+
+-- what is decided of jobs, with them: safe by a certificate, or the trace of a race; else there are too many pairs, and they are refused
+abbrev pub IsDecided : Bool → Jobs → Answer → Type 0
+IsDecided short jobs (Safe given chains) = (given ≡ jobs) × IsVerdictOn short jobs (verdicts.Safe chains)
+IsDecided short jobs (Race given trace) = (given ≡ jobs) × IsVerdictOn short jobs (verdicts.Race trace)
+IsDecided short jobs (Refused reported) = (reported ≡ too_many) × HasTooMany short jobs
 
 -- a build is refused with its fault; without one its jobs are decided
-abbrev pub IsAnswerTo : Result Prepared Reported → Answer → Type 0
-IsAnswerTo (Ok prepared) answer = IsDecided prepared.jobs answer
-IsAnswerTo (Err reported) answer = answer ≡ Refused reported
+abbrev pub IsAnswerTo : Bool → Result Prepared Reported → Answer → Type 0
+IsAnswerTo short (Ok prepared) answer = IsDecided short prepared.jobs answer
+IsAnswerTo short (Err reported) answer = answer ≡ Refused reported
 
 -- the answer of a build: the stages give its jobs or their first fault, and then it is answered
-abbrev pub IsAnswered : Texts → List ℕ → Answer → Type 0
-IsAnswered texts footprints answer = (given : Result Prepared Reported) × IsPrepared texts footprints given × IsAnswerTo given answer
+abbrev pub IsAnswered : Bool → Texts → List ℕ → Answer → Type 0
+IsAnswered short texts footprints answer = (given : Result Prepared Reported) × IsPrepared texts footprints given × IsAnswerTo short given answer
 
 -- the answer is that the build is safe
 abbrev pub IsSafe : Answer → Type 0

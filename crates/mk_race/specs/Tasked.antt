@@ -30,9 +30,9 @@ abbrev pub tasked : List ℕ → List ℕ → Result Jobs Reported
 tasked root text = below text (root_of root)
 
 -- tasks are refused with their fault; without one their jobs are decided
-abbrev pub IsAnswerTo : Result Jobs Reported → Answer → Type 0
-IsAnswerTo (Ok jobs) answer = IsDecided jobs answer
-IsAnswerTo (Err reported) answer = answer ≡ Refused reported
+abbrev pub IsAnswerTo : Bool → Result Jobs Reported → Answer → Type 0
+IsAnswerTo short (Ok jobs) answer = IsDecided short jobs answer
+IsAnswerTo short (Err reported) answer = answer ≡ Refused reported
 
 -- from one store that has no task's own name: each complete schedule of the jobs has the outcome of a complete one that stays within
 -- the footprints, if their recipes agree
@@ -56,8 +56,8 @@ pub record NoScheduleShows (root text : List ℕ) : Type 0 where
   pub alike : RunsAlike jobs
 
 -- the jobs of tasks, and then a proof on them
-abbrev pub IsVerifiedOf : List ℕ → List ℕ → List ℕ → Result Bool Reported → Type 0
-IsVerifiedOf root text proof = Then (tasked root text) (λ jobs. IsVerifiedOn jobs proof)
+abbrev pub IsVerifiedOf : Bool → List ℕ → List ℕ → List ℕ → Result Bool Reported → Type 0
+IsVerifiedOf short root text proof = Then (tasked root text) (λ jobs. IsVerifiedOn short jobs proof)
 
 -- the text of tasks means jobs, that of a proof means a proof, and what this shows is so of these jobs
 pub record ProofShows (root text proof_text : List ℕ) : Type 0 where

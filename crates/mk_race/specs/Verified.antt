@@ -1,5 +1,5 @@
 -- What a proof is to a build: whether its jobs accept it, and what it shows of them then.
-use Rattle.std.specs.Prelude.{◌≡◌, ◌↔◌, ℕ, Bool, List, Result, Ok, Err, IsTrue}
+use Rattle.std.specs.Prelude.{◌≡◌, ◌↔◌, ℕ, Bool, true, false, List, Result, Ok, Err, IsTrue}
 use Rattle.mk_name.specs.Reported.{Reported}
 use Rattle.mk_jobs.specs.Jobs.{Jobs}
 use Rattle.mk_proof.specs.ProofText.{IsRead}
@@ -8,14 +8,20 @@ use Rattle.mk_proof.specs.declared.proof.Proof.TheVariants.{Certificate, Trace}
 use Rattle.mk_cert.specs.Certificates.{IsCertificate}
 use Rattle.mk_cert.specs.Sure.{IsSure}
 use Rattle.mk_cert.specs.Traces.{TraceHolds}
+use Rattle.mk_decide.specs.Short.{IsShortCertificate}
 use Rattle.mk_sched.specs.Laws.{IsDeterminate}
 use Rattle.mk_race.specs.Stages.{IsPrepared, Texts, ThenAny}
 use Rattle.mk_race.specs.declared.preparing.Prepared.{Prepared}
 
+-- a certificate of jobs, or a short one where that is asked for
+abbrev pub IsCertificateOn : Bool → Jobs → List (List ℕ) → Type 0
+IsCertificateOn false = IsCertificate
+IsCertificateOn true = IsShortCertificate
+
 -- a certificate has to be one of these jobs, and a trace has to be sure
-abbrev pub IsGood : Jobs → Proof → Type 0
-IsGood jobs (Certificate chains) = IsCertificate jobs chains
-IsGood jobs (Trace trace) = IsSure jobs trace
+abbrev pub IsGood : Bool → Jobs → Proof → Type 0
+IsGood short jobs (Certificate chains) = IsCertificateOn short jobs chains
+IsGood short jobs (Trace trace) = IsSure jobs trace
 
 -- what a good proof shows: a certificate, that any two complete runs whose recipes agree leave the same; a trace, that it holds
 abbrev pub Shows : Jobs → Proof → Type 0
@@ -23,22 +29,22 @@ Shows jobs (Certificate chains) = IsDeterminate jobs
 Shows jobs (Trace trace) = TraceHolds jobs trace
 
 -- just the good proofs are accepted, and what they show is so
-pub record IsJudged (jobs : Jobs) (proof : Proof) (accepted : Bool) : Type 0 where
-  pub exact : IsTrue accepted ↔ IsGood jobs proof
+pub record IsJudged (short : Bool) (jobs : Jobs) (proof : Proof) (accepted : Bool) : Type 0 where
+  pub exact : IsTrue accepted ↔ IsGood short jobs proof
   pub shown : IsTrue accepted → Shows jobs proof
 
 -- no proof that was read is a fault
-abbrev pub IsVerdict : Jobs → Proof → Result Bool Reported → Type 0
-IsVerdict jobs proof (Ok accepted) = IsJudged jobs proof accepted
-IsVerdict jobs proof (Err reported) = ⊥
+abbrev pub IsVerdict : Bool → Jobs → Proof → Result Bool Reported → Type 0
+IsVerdict short jobs proof (Ok accepted) = IsJudged short jobs proof accepted
+IsVerdict short jobs proof (Err reported) = ⊥
 
 -- the text of a proof, and then whether these jobs accept it
-abbrev pub IsVerifiedOn : Jobs → List ℕ → Result Bool Reported → Type 0
-IsVerifiedOn jobs text = ThenAny (IsRead text) (λ proof. IsVerdict jobs proof)
+abbrev pub IsVerifiedOn : Bool → Jobs → List ℕ → Result Bool Reported → Type 0
+IsVerifiedOn short jobs text = ThenAny (IsRead text) (λ proof. IsVerdict short jobs proof)
 
 -- the jobs of a build, and then a proof on them
-abbrev pub IsVerified : Texts → List ℕ → List ℕ → Result Bool Reported → Type 0
-IsVerified texts footprints proof = ThenAny (IsPrepared texts footprints) (λ prepared. IsVerifiedOn prepared.jobs proof)
+abbrev pub IsVerified : Bool → Texts → List ℕ → List ℕ → Result Bool Reported → Type 0
+IsVerified short texts footprints proof = ThenAny (IsPrepared texts footprints) (λ prepared. IsVerifiedOn short prepared.jobs proof)
 
 -- the texts of a build mean jobs, and no others, the text of a proof means a proof, and what that shows is so of these jobs
 pub record ProofShows (texts : Texts) (footprints text : List ℕ) : Type 0 where

@@ -25,9 +25,14 @@ pub fn prepare_tasks(alloc: Global, root: &[u8], tasks: &[u8]) -> Result<Jobs, H
 }
 
 /// The answer of a text of tasks below a root, as [`judge`](crate::judging::judge) gives that of a build: the tasks are safe, with a
-/// certificate; or the trace of the least race; or the first fault. The only error is out of memory.
-pub fn judge_tasks(alloc: Global, root: &[u8], tasks: &[u8]) -> Result<Answer, AllocError>
-    ensures answer { IfOk result (spec.IsAnswerTo (tasked root.now tasks.now)) }
+/// certificate, which may be asked to be short; or the trace of the least race; or the first fault. The only error is out of memory.
+pub fn judge_tasks(
+    alloc: Global,
+    root: &[u8],
+    tasks: &[u8],
+    short: bool,
+) -> Result<Answer, AllocError>
+    ensures answer { IfOk result (spec.IsAnswerTo short (tasked root.now tasks.now)) }
     // The headline: where the answer is that the tasks are safe, each of them starts, and no schedule of them shows in the files.
     ensures headline { IfOk result (λ answer. IsSafe answer → spec.NoScheduleShows root.now tasks.now) }
     // The jobs that are handed out with it are then determinate.
@@ -36,7 +41,7 @@ pub fn judge_tasks(alloc: Global, root: &[u8], tasks: &[u8]) -> Result<Answer, A
     ensures holds { IfOk result HoldsOfRace }
 {
     match prepare_tasks(alloc, root, tasks) {
-        Ok(jobs) => decided(alloc, jobs),
+        Ok(jobs) => decided(alloc, jobs, short),
         Err(halt) => refused(halt),
     }
 }
@@ -54,13 +59,20 @@ pub fn list_tasks(alloc: Global, root: &[u8], tasks: &[u8]) -> Result<RaceList, 
 }
 
 /// Whether a proof is accepted for a text of tasks below a root, as [`verify_proof`](crate::verifying::verify_proof) says it for a build.
-/// The first fault is that of the jobs, and then that of the proof. The only other error is out of memory.
-pub fn verify_tasks(alloc: Global, root: &[u8], tasks: &[u8], proof: &[u8]) -> Result<bool, Halt>
-    ensures answer { Answers result (spec.IsVerifiedOf root.now tasks.now proof.now) }
+/// A certificate may be asked to be short. The first fault is that of the jobs, and then that of the proof. The only other error is out
+/// of memory.
+pub fn verify_tasks(
+    alloc: Global,
+    root: &[u8],
+    tasks: &[u8],
+    proof: &[u8],
+    short: bool,
+) -> Result<bool, Halt>
+    ensures answer { Answers result (spec.IsVerifiedOf short root.now tasks.now proof.now) }
     // The headline: where a certificate is accepted, no schedule of the tasks shows in the files.
     ensures shows { IfOk result (λ accepted. IsTrue accepted
         → spec.ProofShows root.now tasks.now proof.now) }
 {
     let jobs = prepare_tasks(alloc, root, tasks)?;
-    verify_on(alloc, &jobs, proof)
+    verify_on(alloc, &jobs, proof, short)
 }

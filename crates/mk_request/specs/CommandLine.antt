@@ -48,10 +48,12 @@ abbrev pub order_app : App
 order_app = with_build true true (new_app (codes "order"))
 
 abbrev pub check_app : App
-check_app = with_rule (with_rule (with_tasks false (new_app (codes "check"))) (flag (codes "print-proof"))) (flag (codes "strict"))
+check_app =
+    with_rule (with_rule (with_rule (with_tasks false (new_app (codes "check"))) (flag (codes "print-proof"))) (flag (codes "short"))) (flag (codes "strict"))
 
 abbrev pub verify_app : App
-verify_app = with_rule (with_rule (with_tasks false (new_app (codes "verify"))) (option true (codes "proof"))) (flag (codes "strict"))
+verify_app =
+    with_rule (with_rule (with_rule (with_tasks false (new_app (codes "verify"))) (option true (codes "proof"))) (flag (codes "short"))) (flag (codes "strict"))
 
 -- how many recipes may run at once
 abbrev pub limit : Rule
@@ -182,13 +184,17 @@ pub record HasLog (args : LogArgs) (rows : List Row) : Type 0 where
   pub limit : (limit : ℕ) → IsLimit (first_of (codes "limit") rows) limit → args.limit ≡ limit
   pub tie : args.tie ≡ is_true (first_of (codes "tie") rows)
 
+-- a short certificate is asked for just where the flag of that is set
+abbrev pub IsShortAsked : Bool → List Row → Type 0
+IsShortAsked short rows = short ≡ is_true (first_of (codes "short") rows)
+
 -- the question about jobs is that of the subcommand of this name, with the values that were found; no tasks are named where that
 -- subcommand takes some
 abbrev pub IsJobQuestion : JobQuestion → Text → List Row → Type 0
-IsJobQuestion (jobs.Check print_proof) name rows =
-    (name ≡ codes "check") × HasNoTasks rows × (print_proof ≡ is_true (first_of (codes "print-proof") rows))
-IsJobQuestion (jobs.Verify proof) name rows =
-    (name ≡ codes "verify") × HasNoTasks rows × (proof.now ≡ value_of (codes "proof") rows)
+IsJobQuestion (jobs.Check print_proof short) name rows =
+    (name ≡ codes "check") × HasNoTasks rows × (print_proof ≡ is_true (first_of (codes "print-proof") rows)) × IsShortAsked short rows
+IsJobQuestion (jobs.Verify proof short) name rows =
+    (name ≡ codes "verify") × HasNoTasks rows × (proof.now ≡ value_of (codes "proof") rows) × IsShortAsked short rows
 IsJobQuestion (jobs.Replay args) name rows = (name ≡ codes "replay") × HasLog args rows
 IsJobQuestion (jobs.Serialise args) name rows = (name ≡ codes "serialise") × HasLog args rows
 IsJobQuestion jobs.List name rows = (name ≡ codes "list") × HasNoTasks rows
@@ -205,9 +211,10 @@ pub record HasJobs (args : JobArgs) (name : Text) (rows : List Row) : Type 0 whe
 
 -- the question about tasks is that of the subcommand of this name, with the values that were found
 abbrev pub IsQuestion : TaskQuestion → Text → List Row → Type 0
-IsQuestion (questions.Check print_proof) name rows =
-    (name ≡ codes "check") × (print_proof ≡ is_true (first_of (codes "print-proof") rows))
-IsQuestion (questions.Verify proof) name rows = (name ≡ codes "verify") × (proof.now ≡ value_of (codes "proof") rows)
+IsQuestion (questions.Check print_proof short) name rows =
+    (name ≡ codes "check") × (print_proof ≡ is_true (first_of (codes "print-proof") rows)) × IsShortAsked short rows
+IsQuestion (questions.Verify proof short) name rows =
+    (name ≡ codes "verify") × (proof.now ≡ value_of (codes "proof") rows) × IsShortAsked short rows
 IsQuestion questions.List name rows = name ≡ codes "list"
 IsQuestion (questions.Fix print_proof) name rows =
     (name ≡ codes "fix") × (print_proof ≡ is_true (first_of (codes "print-proof") rows))

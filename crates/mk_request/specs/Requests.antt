@@ -40,8 +40,8 @@ includes_path (requests.Tasks tasks) = None
 
 -- the input that a question about jobs has beside those of a build and its footprints
 abbrev pub other_input : JobQuestion → Option InputPath
-other_input (jobs.Check print_proof) = None
-other_input (jobs.Verify proof) = Some (record { input = inputs.Proof; path = proof })
+other_input (jobs.Check print_proof short) = None
+other_input (jobs.Verify proof short) = Some (record { input = inputs.Proof; path = proof })
 other_input (jobs.Replay args) = Some (record { input = inputs.Log; path = args.log })
 other_input (jobs.Serialise args) = Some (record { input = inputs.Log; path = args.log })
 other_input jobs.List = None
@@ -54,16 +54,16 @@ job_inputs build footprints other = build_inputs build ++ input_at inputs.Footpr
 
 -- the listing beside tasks, where it is asked what is missing
 abbrev pub listing_input : TaskQuestion → List InputPath
-listing_input (questions.Check print_proof) = []
-listing_input (questions.Verify proof) = []
+listing_input (questions.Check print_proof short) = []
+listing_input (questions.Verify proof short) = []
 listing_input questions.List = []
 listing_input (questions.Fix print_proof) = []
 listing_input (questions.Missing listing) = input_at inputs.Listing listing
 
 -- the proof, where it is asked whether one is accepted
 abbrev pub proof_input : TaskQuestion → List InputPath
-proof_input (questions.Check print_proof) = []
-proof_input (questions.Verify proof) = input_at inputs.Proof proof
+proof_input (questions.Check print_proof short) = []
+proof_input (questions.Verify proof short) = input_at inputs.Proof proof
 proof_input questions.List = []
 proof_input (questions.Fix print_proof) = []
 proof_input (questions.Missing listing) = []

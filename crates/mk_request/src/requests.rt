@@ -33,8 +33,8 @@ pub struct JobArgs<'a> {
 /// A question about jobs: that of the subcommand of this name, with the values that it has for a build.
 #[derive(Clone, Copy)]
 pub enum JobQuestion<'a> {
-    Check { print_proof: bool },
-    Verify { proof: &'a str },
+    Check { print_proof: bool, short: bool },
+    Verify { proof: &'a str, short: bool },
     Replay(LogArgs<'a>),
     Serialise(LogArgs<'a>),
     List,
@@ -63,8 +63,8 @@ pub struct TaskArgs<'a> {
 /// A question about tasks: that of the subcommand of this name, with the values that it has for tasks.
 #[derive(Clone, Copy)]
 pub enum TaskQuestion<'a> {
-    Check { print_proof: bool },
-    Verify { proof: &'a str },
+    Check { print_proof: bool, short: bool },
+    Verify { proof: &'a str, short: bool },
     List,
     Fix { print_proof: bool },
     Missing { listing: &'a str },
@@ -105,7 +105,7 @@ pub fn other_input<'a>(question: JobQuestion<'a>) -> Option<InputPath<'a>>
     ensures { result ≡ spec.other_input question.entry }
 {
     match question {
-        JobQuestion::Verify { proof } => Some(InputPath {
+        JobQuestion::Verify { proof, .. } => Some(InputPath {
             input: InputFile::Proof,
             path: proof,
         }),
@@ -156,7 +156,7 @@ fn push_proof<'a>(
     ensures { OnOk result (inputs.new.items ≡ inputs.old.items ++ spec.proof_input question.entry) }
 {
     match question {
-        TaskQuestion::Verify { proof } => push_input(inputs, InputFile::Proof, proof),
+        TaskQuestion::Verify { proof, .. } => push_input(inputs, InputFile::Proof, proof),
         TaskQuestion::Check { .. }
         | TaskQuestion::List
         | TaskQuestion::Fix { .. }

@@ -30,7 +30,7 @@ safe_answer (answers.Refused reported) is = absurd (let e : Refused ≡ Safe = i
 
 -- what is reported of an answer to a build's jobs is reported of the build
 pub reported_of : (proof : Bool) (texts : Texts) (lines : List ℕ) (prepared : Prepared) (answer : Answer) (outcome : Outcome) (text : List ℕ)
-    → IsPrepared texts lines (Ok prepared) → IsDecided prepared.jobs answer → (IsSafe answer → NoScheduleShows texts lines)
+    → IsPrepared texts lines (Ok prepared) → IsDecided false prepared.jobs answer → (IsSafe answer → NoScheduleShows texts lines)
     → HoldsOfSafe answer → HoldsOfRace answer → outcome ≡ outcome_of answer → IsReport answer proof text → IsReportedOf proof texts lines outcome text
 reported_of proof texts lines prepared answer outcome text is decided headline determinate holds kind report = record {
   answer = answer;

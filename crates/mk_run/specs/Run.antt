@@ -84,7 +84,7 @@ texts_given settings given = texts_with settings given.base given.makefile given
 -- build is safe, no schedule of it shows in its files, and its jobs are determinate; where it is a race, its trace holds
 pub record IsReportedOf (proof : Bool) (texts : Texts) (lines : List ℕ) (outcome : Outcome) (text : List ℕ) : Type 0 where
   pub answer : Answer
-  pub answered : IsAnswered texts lines answer
+  pub answered : IsAnswered false texts lines answer
   pub outcome_is : outcome ≡ outcome_of answer
   pub report : IsReport answer proof text
   pub headline : outcome ≡ Safe → NoScheduleShows texts lines

@@ -61,7 +61,7 @@ fn judged(alloc: Global, noted: Noted, proof: bool) -> Result<Checked, AllocErro
     ensures unused { IfOk result (λ checked. checked.unused ≡ noted.unused) }
 {
     let Noted { prepared, unused } = noted;
-    let answer = judge_prepared(alloc, prepared)?;
+    let answer = judge_prepared(alloc, prepared, false)?;
     Ok(Checked {
         outcome: outcome_of(&answer),
         text: report(alloc, &answer, proof)?,

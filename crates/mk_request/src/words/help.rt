@@ -106,6 +106,11 @@ error says it in words. docs/FAULTS.md has what each means.
 With --print-proof the certificate or the trace comes in place of the report, as `race verify`
 reads it.
 
+With --short the chains of neighbours alone come out, in the report and in the certificate: of two
+recipes that conflict where no row of conflicts leads from the first over a third to the second.
+They put all others in order too, and are far fewer where many recipes share a file. `pairs` then
+counts them, and `race verify --short` reads the certificate.
+
 Where FOOTPRINTS has a target that is a file of the build, and nothing makes it here, a note on
 standard error says so: a base or an included text may be missing. With --strict that is refused.
 
@@ -156,7 +161,8 @@ Statuses:
   0  the build is safe: `make -j` may be used on it, where the premises hold
   1  two recipes race: fix the makefile, and check again
   2  the makefile, the base, an included text, the listing, the root, an operand or the footprints
-     is refused, or more than 1,000,000 pairs of recipes conflict: fix what the report names
+     is refused, or more than 1,000,000 pairs of recipes conflict, with --short of neighbours: fix
+     what the report names
   3  a file cannot be read or written, memory runs out, or the command line is invalid: nothing is
      known about the build
 ";
@@ -315,6 +321,10 @@ pub const FIX_PROOF: &str = "Print the certificate of the fixed build in place o
 
 pub const STRICT: &str = "Refuse footprints whose target is a file that nothing makes here";
 
+pub const SHORT: &str = "Give the chains of neighbours alone, which put all others in order";
+
+pub const SHORT_PROOF: &str = "Take a certificate that has the chains of neighbours alone";
+
 pub const PRINT_PROOF: &str = "Print the certificate or the trace in place of the report";
 
 pub const VERIFY_ABOUT: &str =
@@ -334,6 +344,9 @@ leads to two such recipes that run at once.
   ..                     time NODE TIME        for each file of LISTING that is a node
                          skip NODE             start NODE and finish NODE likewise
                          end
+
+With --short the chains of neighbours are enough, as `race check --short` gives them. A trace is
+judged as ever.
 
 With --tasks TASKS the proof is judged for these tasks, as `race check` reads them. Then NODE is the
 number of a task, the first being 0, and there are no times.

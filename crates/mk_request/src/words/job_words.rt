@@ -36,11 +36,13 @@ pub(super) fn job_question<'a>(name: &str, found: &ArgMatches<'a>) -> JobQuestio
     if name == "check" {
         return JobQuestion::Check {
             print_proof: is_set(found, "print-proof"),
+            short: is_set(found, "short"),
         };
     }
     if name == "verify" {
         return JobQuestion::Verify {
             proof: value_in(found, "proof"),
+            short: is_set(found, "short"),
         };
     }
     if name == "list" {

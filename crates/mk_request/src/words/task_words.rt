@@ -48,11 +48,13 @@ fn task_question<'a>(name: &str, found: &ArgMatches<'a>) -> TaskQuestion<'a>
     if name == "check" {
         return TaskQuestion::Check {
             print_proof: is_set(found, "print-proof"),
+            short: is_set(found, "short"),
         };
     }
     if name == "verify" {
         return TaskQuestion::Verify {
             proof: value_in(found, "proof"),
+            short: is_set(found, "short"),
         };
     }
     if name == "list" {

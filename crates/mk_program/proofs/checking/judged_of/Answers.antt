@@ -12,5 +12,5 @@ pub returns-clause-answer : goal.returns-clause-answer
 returns-clause-answer c =
     let judged = c.in_ok-judged.ensures in
     IfOk-weaker c.judged_answer.result _ _ (λ answer h texts footprints is.
-    judged_is (IsAnswered texts footprints) (NoScheduleShows texts footprints) c.in_ok-judged.judged c.args.proof answer.status answer.text.items
+    judged_is (IsAnswered c.args.short texts footprints) (NoScheduleShows texts footprints) c.in_ok-judged.judged c.args.proof answer.status answer.text.items
     (Ok c.args.prepared, is, judged.answer) (judged.headline texts footprints is) judged.holds h.0 h.1) c.judged_answer.ensures

@@ -7,7 +7,7 @@ pub returns-in-Check-clause-answer : goal.returns-in-Check-clause-answer
 returns-in-Check-clause-answer c =
     let args = c.args.args.now in
     noted_answer c.args.build args.question _ c.in-Check.is args.strict c.args.other.now c.noted_reply.result
-    (λ texts lines other. IsCheckAnswer texts lines c.in-Check.print_proof) (λ texts text status answer note said. said) c.noted_reply.ensures.answer
+    (λ texts lines other. IsCheckAnswer c.in-Check.short texts lines c.in-Check.print_proof) (λ texts text status answer note said. said) c.noted_reply.ensures.answer
 
 pub returns-in-Check-clause-failure : goal.returns-in-Check-clause-failure
 returns-in-Check-clause-failure c =
@@ -19,7 +19,7 @@ pub returns-in-Verify-clause-answer : goal.returns-in-Verify-clause-answer
 returns-in-Verify-clause-answer c =
     let args = c.args.args.now in
     noted_answer c.args.build args.question _ c.in-Verify.is args.strict c.args.other.now c.noted_reply-in-Verify.result
-    (λ texts lines other. IsVerifyAnswer texts lines other) (λ texts text status answer note said. said) c.noted_reply-in-Verify.ensures.answer
+    (λ texts lines other. IsVerifyAnswer c.in-Verify.short texts lines other) (λ texts text status answer note said. said) c.noted_reply-in-Verify.ensures.answer
 
 pub returns-in-Verify-clause-failure : goal.returns-in-Verify-clause-failure
 returns-in-Verify-clause-failure c =

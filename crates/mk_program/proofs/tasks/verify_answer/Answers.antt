@@ -12,4 +12,4 @@ returns-in-Err-clause-answer c =
 
 pub returns-in-Ok-clause-answer : goal.returns-in-Ok-clause-answer
 returns-in-Ok-clause-answer c =
-    IfOk-weaker c.verdict_answer.result _ _ (λ answer h. verdict_is (IsVerifiedOf c.args.root.now c.args.tasks.now c.args.proof.now) _ c.in-Ok.accepted _ _ c.in-Ok.ensures.answer c.in-Ok.ensures.shows h.0 h.1) c.verdict_answer.ensures
+    IfOk-weaker c.verdict_answer.result _ _ (λ answer h. verdict_is (IsVerifiedOf c.args.short c.args.root.now c.args.tasks.now c.args.proof.now) _ c.in-Ok.accepted _ _ c.in-Ok.ensures.answer c.in-Ok.ensures.shows h.0 h.1) c.verdict_answer.ensures

@@ -13,12 +13,12 @@ returns-in-Err-clause-status c = IfOk-weaker c.refused.result _ _ (λ answer h. 
 pub returns-in-Err-clause-answer : goal.returns-in-Err-clause-answer
 returns-in-Err-clause-answer c =
     IfOk-weaker c.refused.result _ _ (λ answer h texts footprints is.
-    unverified_is (IsVerified texts footprints c.args.proof.now) (ProofShows texts footprints c.args.proof.now) c.in-Err.halt h.0 _ _
-    (halts_on (IsPrepared texts footprints) (λ (p : Prepared). IsVerifiedOn p.jobs c.args.proof.now) c.args.prepared.now c.in-Err.halt is c.in-Err.ensures.answer)
+    unverified_is (IsVerified c.args.short texts footprints c.args.proof.now) (ProofShows texts footprints c.args.proof.now) c.in-Err.halt h.0 _ _
+    (halts_on (IsPrepared texts footprints) (λ (p : Prepared). IsVerifiedOn c.args.short p.jobs c.args.proof.now) c.args.prepared.now c.in-Err.halt is c.in-Err.ensures.answer)
     h.1 h.2 h.3) c.refused.ensures
 
 pub returns-in-Ok-clause-answer : goal.returns-in-Ok-clause-answer
 returns-in-Ok-clause-answer c =
     IfOk-weaker c.verdict_answer.result _ _ (λ answer h texts footprints is.
-    verdict_is (IsVerified texts footprints c.args.proof.now) (ProofShows texts footprints c.args.proof.now) c.in-Ok.accepted _ _
+    verdict_is (IsVerified c.args.short texts footprints c.args.proof.now) (ProofShows texts footprints c.args.proof.now) c.in-Ok.accepted _ _
     (Ok c.args.prepared.now, is, c.in-Ok.ensures.answer) (c.in-Ok.ensures.shows texts footprints is) h.0 h.1) c.verdict_answer.ensures
