@@ -197,7 +197,7 @@ def parser_of_words() -> argparse.ArgumentParser:
     parser.add_argument("--setup", default="", metavar="COMMAND", help="with --fresh: what comes between the tree and the build, such as ./configure; it is recorded too")
     parser.add_argument("--keep-trace", action="store_true", help="keep the trace in the record")
     parser.add_argument("--footprints", action="store_true", help="keep a listing and footprints of each build, for race check --makefile")
-    parser.add_argument("--strict", action="store_true", help="no yes where waits that may be luck order processes, or a program looks at a folder that others change")
+    parser.add_argument("--strict", action="store_true", help="no yes where something is taken for granted that builds in other orders could try out")
     parser.add_argument("--orders", type=builds, default=MOST, metavar="N", help="at most N builds in other orders (%d), in copies: a conflict that is about no file, "
                         "such as which of two is newer, is a race if they leave something else, and none if not" % MOST)
     parser.add_argument("--once", dest="orders", action="store_const", const=0, help="build once, and try no other order: each such conflict is a race")

@@ -134,7 +134,7 @@ complete -c race-record -l from -r -F -d 'with --fresh: the tree that this archi
 complete -c race-record -l setup -x -d 'with --fresh: what comes between the tree and the build, such as ./configure; it is recorded too'
 complete -c race-record -l keep-trace -d 'keep the trace in the record'
 complete -c race-record -l footprints -d 'keep a listing and footprints of each build, for race check --makefile'
-complete -c race-record -l strict -d 'no yes where waits that may be luck order processes, or a program looks at a folder that others change'
+complete -c race-record -l strict -d 'no yes where something is taken for granted that builds in other orders could try out'
 complete -c race-record -l orders -x -d 'at most N builds in other orders (40), in copies: a conflict that is about no file, such as which of two is newer, is a race if they leave something else, and none if not'
 complete -c race-record -l once -d 'build once, and try no other order: each such conflict is a race'
 complete -c race-record -l missing -d 'report missing inputs too: files whose edit does not make a target again'

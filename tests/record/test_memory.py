@@ -1,5 +1,8 @@
 """Tests of record/make/memory.py."""
 
+import unittest
+
+import support
 from test_small import Small, makefiles
 
 FOLDERS = {"d/k.h": "", "e/k.h": "", "k.c": "k"}
@@ -64,3 +67,13 @@ Makefiles = makefiles(__name__, {
     "search_of_a_make_that_begins_again": Small("safe", "V := $(wildcard e/$(shell echo \\*))\n-include no.mk gen.mk\nall: a d/z d/y\ngen.mk: ; touch gen.mk\na d/z: ; touch $@\nd/y: d/y.s ; cp d/y.s d/y\n", {"d/y.s": "s", "e/k": "k"}),
     "pattern_of_a_makefile_that_is_made_and_removed": Small("race", "-include no.mk\nall: b a\nno.mk: ; echo 'P = $$(wildcard d/*)' > no.mk\na: ; touch d/n a\ns: ; touch s\nb: s ; rm no.mk; echo $(P) > b\n", {"d/k": "k"}),
 })
+
+
+class Strict(unittest.TestCase):
+    """With --strict what could be tried out bars the yes."""
+
+    def test_folders_that_make_lists(self) -> None:
+        with support.Project({"Makefile": LISTS % "", **HEADER}) as project:
+            outcome = project.record(["make"], ["--strict"])
+        self.assertEqual(2, outcome.status, outcome.text())
+        self.assertIn("--strict: what make keeps of the folders", outcome.text())
