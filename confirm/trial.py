@@ -15,7 +15,7 @@ from confirm.races import CannotConfirm, Chosen
 from confirm.reach import Tasks
 from confirm.room import Room
 from confirm.schedules import Schedule
-from record.orders.builds import MANY, Built, Plan
+from record.orders.builds import MANY, OWN, Built, Plan
 from record.orders.gate import Key
 from record.orders.graph import Graph, placed
 from record.orders.trees import Difference, difference, differing, passing, remove
@@ -83,7 +83,7 @@ class Trial:
 
     def begin(self) -> None:
         """The serial build: what the others are compared with."""
-        self.serial = self.left("serial", Plan(SERIAL, {}, 1))
+        self.serial = self.left("serial", Plan(SERIAL, {}, OWN))
         if self.serial.status != 0:
             raise failed("the serial build of the copy", self.serial.built, BY_RACE if self.is_parallel else "")
         self.room.bound(self.serial.built.seconds)
@@ -108,7 +108,7 @@ class Trial:
         if name in self.room.taken - self.serial.files.keys():
             raise CannotConfirm(f"the build changes {name}, and does not make it: what it was before nobody has kept. {SOURCES}")
         time.sleep(max(0.0, APART - self.serial.built.seconds))
-        again = self.left("serial once more", Plan(PARALLEL, {}, 1), race)
+        again = self.left("serial once more", Plan(PARALLEL, {}, OWN), race)
         if again.status != 0:
             raise failed("a second serial build of the copy", again.built)
         self.unstable |= differing(self.serial.files, again.files)

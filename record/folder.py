@@ -27,7 +27,7 @@ if TYPE_CHECKING:
 ROOMS = "/tmp" if os.path.isdir("/tmp") else None  # where temporary folders are made
 NO_ROOM = "no folder for temporary files lets programs run (%s: they are mounted with noexec, or not for you): name one by TMPDIR that is not in the project"
 NAMES = 12  # so many of the targets that were there before are named
-INSIDE = ("apart", "configured", "first", "known", "lucky", "markers", "up_to_date")  # what the record does not hold as it is
+INSIDE = ("apart", "configured", "first", "is_parallel", "known", "lucky", "markers", "up_to_date")  # what the record does not hold as it is
 FOUND = 3  # so many names of a folder that is no record
 
 
@@ -85,6 +85,7 @@ class Record:
     lucky: Dict[str, Set[Child]] = field(default_factory=dict)  # by case of `luck`: the processes for which others have waited so
     apart: List[Set[Address]] = field(default_factory=list)  # the same in rows: those of one row can be held at their end in one build
     known: Set[Child] = field(default_factory=set)  # of those that were held at their end, and of others with the same parent: for whom each build waits
+    is_parallel: bool = False  # a make ran several recipes at once
     missingdeps: int = 0  # what `ninja -t missingdeps` finds
     orders: Optional[Dict[str, Any]] = None  # what builds in other orders came to
     missing: Optional[Dict[str, Any]] = None  # with --missing: what its answer takes for granted, and why there may be none

@@ -155,6 +155,7 @@ def import_record(facts: Facts, record: Record) -> Imported:
     owners = settle_all(replay, facts, assumed, record)
     if owners.makes:
         assumed.add("serial", "")
+    record.is_parallel = any(map(owners.run_at_once, owners.makes))
     note_holes(facts.said, replay, owners, names, record)
     elsewhere = Elsewhere(owners, names)
     ninjas, ties, holes = find_ninjas(replay.all, owners, names, facts.kept, record.status == 0)

@@ -226,6 +226,11 @@ class Owners:
             elif births != sorted(births):  # guard: jobs-out-of-order
                 self.holes.append("the jobs of make are not in the order of the trace: make " + make.words.args)
 
+    def run_at_once(self, make: Make) -> bool:
+        """Whether a make ran several recipes at once."""
+        lives = sorted((life for life in make.life.children if id(life) in self.jobs), key=lambda life: life.born)
+        return any(second.born < first.died for first, second in zip(lives, lives[1:]))
+
     def match_by_number(self, make: Make, kids: List[Life]) -> None:
         """Where they do not fit, or in more than one way: the k-th process of a number is the k-th job of that number, and the record has a hole."""
         for pid, jobs in make.words.jobs.items():

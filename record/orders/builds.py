@@ -36,7 +36,7 @@ from record.trace.names import mounts_below
 from record.watch.lay import BIND, LIBC, NAMES, Watch, leave, makes_of, mount
 
 PASSING = ("env", "nice", "ionice", "setsid", "timeout", "flock", "time", "stdbuf")  # programs that run what their words name
-MANY = 100  # jobs: so many recipes wait at the gate at once
+MANY, ONE, OWN = 100, 1, 0  # jobs: with MANY all recipes that are ready wait at the gate; OWN: a make has as many as it has without a gate, and a ninja one
 QUIET, TIMES = 20.0, 2.0  # a build hangs where nothing begins or ends for so many seconds, and so many times as long as the recorded one took
 ENDING = 2.0  # seconds that the output of a build has to come, when that has ended
 WITH_PARENT, TAKES_LEFT = 1, 36  # for prctl: which signal comes when the parent ends; who outlives its parent becomes a child of this process
@@ -68,7 +68,7 @@ class Plan:
 
 
 SERIAL, FLIPPED = "serial", "flipped"
-BESIDE = (Plan(SERIAL, {}, 1), Plan(FLIPPED, {}, is_recorded=True, is_flipped=True))
+BESIDE = (Plan(SERIAL, {}, OWN), Plan(FLIPPED, {}, is_recorded=True, is_flipped=True))
 
 
 @dataclass
@@ -266,10 +266,9 @@ def output_to(file: Path) -> Iterator[int]:
 
 
 def with_many(words: Sequence[str], env: Mapping[str, str], jobs: int) -> tuple[list[str], dict[str, str]]:
-    """A command and its environment, so that all makes and ninjas in it have so many jobs, whatever the load is, except makes that a ninja runs (watch/hold.c);
-    with one job makes stay as they are."""
-    words = with_jobs([*words], jobs)
-    if jobs == 1:
+    """A command and its environment, so that all makes and ninjas in it have so many jobs, whatever the load is, except makes that a ninja runs (watch/hold.c)."""
+    words = with_jobs([*words], jobs or ONE)
+    if jobs == OWN:
         return words, dict(env)
     name = os.path.basename(words[0])
     if name in NAMES or name in PASSING and any(os.path.basename(word) in NAMES for word in words):  # guard: makes-that-another-program-runs

@@ -85,7 +85,7 @@ def explore(room: Room, record: Record, out: Path, race: str, most: int, running
         running.end()
     graph = Graph(out)
     soft, after = conflicts(graph, race, room.top)
-    trial = Trial(room, graph, [held_by(Path(top), str(out)) for top in room.tops], soft, after, most, {*record.markers})
+    trial = Trial(room, graph, [held_by(Path(top), str(out)) for top in room.tops], soft, after, most, {*record.markers}, record.is_parallel)
     count = trial.expected() - (0 if not running.children else 1 if after else 2)
     if count:
         say(count, record, "; one more for each step where something differs")

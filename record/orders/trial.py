@@ -9,7 +9,7 @@ from dataclasses import dataclass, field, replace
 from pathlib import Path
 from typing import Any, Optional
 
-from record.orders.builds import FLIPPED, MANY, SERIAL, Built, CannotTry, Plan, Room, Running, side_by_side
+from record.orders.builds import FLIPPED, MANY, ONE, OWN, SERIAL, Built, CannotTry, Plan, Room, Running, side_by_side
 from record.orders.gate import Key
 from record.orders.graph import Graph, Pair, numbers, placed, size
 from record.orders.trees import difference, differing, passing
@@ -50,6 +50,7 @@ class Trial:
     after: dict[Key, set[Key]]  # which recipe waits for which besides: what ends the other conflicts
     most: int
     markers: set[str]  # files that say that a folder is there: which of the recipes runs that make one depends on the order
+    is_parallel: bool = False  # a make of the recorded build ran several recipes at once
     order: list[Key] = field(default_factory=list)  # recipes as they begin in a serial build
     builds: int = 0
     others: int = 0  # builds in other orders that left the same
@@ -76,7 +77,7 @@ class Trial:
             left, known = self.unturned(orders, left), len(left)
             if len(left) == known:
                 break
-        return 1 + len(orders)
+        return 1 + len(orders) + len(self.one_by_one())
 
     def untried(self) -> list[Pair]:
         """All pairs that no other order has tried yet."""
@@ -109,7 +110,7 @@ class Trial:
         `CannotTry` where the project cannot be built a second time."""
         flip, is_beside = Plan(FLIPPED, self.graph.flipped(), after=self.after, is_recorded=True), bool(running.children)
         if not is_beside:
-            running.begin(Plan(SERIAL, {}, 1), flip)
+            running.begin(Plan(SERIAL, {}, OWN), flip)
         elif self.after:  # it began before anybody knew the fixes
             running.end(FLIPPED)
         again = running.result(SERIAL)
@@ -159,16 +160,18 @@ class Trial:
                 if not any(it.fullmatch(name) for it in self.passing[number])]
 
     def ended(self, built: Built) -> Optional[Ended]:
-        """How a build ended, where that is otherwise than the serial one. Recipes that the recorded build did not run come and go, such as those of CMake's tries."""
+        """How a build ended, where that is otherwise than the serial one, which of two builds the one with one job is. Recipes that the recorded build did not run
+        come and go, such as those of CMake's tries."""
         names = self.names(built)
         path = next((os.path.join(self.room.tops[number], name) for number, name in names), "")
         if built.status != 0:
             return Ended(built.status, built.message(), path)
         order, began, known = {*self.order}, {*built.began}, {*self.graph.keys}
         more = began - order if order <= known else began & known - order  # guard: recipes-that-the-record-has
-        both = (("does not run", order & known - began), ("runs, and does not in a serial build", more))
+        less, turn = order & known - began, -1 if built.plan.jobs == ONE else 1  # guard: which-of-two-builds-is-serial
+        both = zip(("does not run", "runs, and does not in a serial build"), (less, more)[::turn])
         text = ["the recipe of %s %s" % (key[-1][1], how) for how, keys in both for key in sorted(keys) if target_of(key) not in self.markers]
-        text += [str(difference(name, Path(self.room.tops[number]), self.room.trees(built.plan)[number])) for number, name in names]
+        text += [str(difference(name, *(Path(self.room.tops[number]), self.room.trees(built.plan)[number])[::turn])) for number, name in names]
         return Ended(0, text[:SHOWN], path) if text else None
 
     def note(self, built: Built) -> None:
@@ -185,7 +188,7 @@ class Trial:
         """All builds: the flipped one, those in which one conflict alone is turned, and those that cover what is left, the first with two jobs."""
         plans = self.begin(running)
         covers = [] if plans or not self.count() else [self.cover(2)]  # beside the others, where the flipped one has shown what is left
-        self.try_all(plans + covers + [Plan("alone%d" % number, places, after=self.after) for number, places in enumerate(self.each_alone())])
+        self.try_all(plans + covers + self.one_by_one() + [Plan("alone%d" % number, places, after=self.after) for number, places in enumerate(self.each_alone())])
         left = self.count() + 1
         while 0 < self.count() < left or self.pairs and len(covers) < 2:
             left = self.count()
@@ -193,6 +196,10 @@ class Trial:
             self.try_all(covers[-1:])
             if not self.goes_on:
                 break
+
+    def one_by_one(self) -> list[Plan]:
+        """Where the recorded build ran several recipes at once, a build with one job: make goes through targets in another order then."""
+        return [Plan("one", placed(self.order), ONE, self.after)] if self.is_parallel else []  # guard: jobs-of-the-recorded-build
 
     def count(self) -> int:
         """How many pairs no other order has tried yet."""
@@ -268,7 +275,7 @@ class Trial:
     def made_again(self, plan: Plan) -> tuple[Built, Optional[Ended]]:
         """Makes a build in which something differs again, and a serial one beside it: that shows what goes by the time. What another build has shown is no
         difference any more, and neither is what the recorded build did meanwhile."""
-        again, built = side_by_side(self.room, [Plan(SERIAL, {}, 1), plan])
+        again, built = side_by_side(self.room, [Plan(SERIAL, {}, OWN), plan])
         if again.status == 0:
             self.compare(again)  # guard: what-goes-by-the-time
         ended = self.ended(built)

@@ -30,6 +30,8 @@ GUARDS: List[Guard] = [
         ("no-more-than-there-may-be", "some = left[:AT_ONCE]", "orders.Orders.as_many_as_may_be"),
         ("order-of-the-serial-build", "least = 0", "orders.Orders.nothing_but_jobs"),
         ("what-goes-by-the-time", "pass", "orders.Orders.time_that_passes"),
+        ("jobs-of-the-recorded-build", "return []", "orders.Orders.case_jobs_of_a_makefile"),
+        ("which-of-two-builds-is-serial", "less, turn = order & known - began, 1", "orders.Orders.case_jobs_of_a_makefile"),
         ("what-is-not-compared-clears-nothing", "pass", "orders.Orders.case_what_differs_in_two_serial_builds"),
     ),
     *guards("orders/gate.py",

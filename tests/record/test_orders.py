@@ -35,6 +35,8 @@ CASES: Dict[str, Tuple[str, Dict[str, str], int, Tuple[str, ...]]] = {
     "jobs alone": ("all: a b\na: ; @case \"$$MAKEFLAGS\" in *jobserver*) echo many > a ;; *) echo one > a ;; esac\nb: ; @echo b > b\n", {}, 1, (
         "RACE  with several jobs, whatever the order of recipes is:", "  a: line 1 is `many`, and `one` after a serial build")),
     "what differs in two serial builds": ("all: d/a list\nd/a: ; @echo a > d/a\nlist: ; @ls d > list; date +%N >> list\n", {"d/k": ""}, 1, ("RACE  d/a", "note: two builds in one order differ in list")),
+    "jobs of a makefile": ("MAKEFLAGS += -j4\nall: t u\nt: X = 1\nt:: s ; @echo t > t\nt:: c ; @echo t > t\nu: c ; @echo u > u\ns: ; @sleep 0.1; echo s > s\nc: ; @echo '$(X)' > c\n", {}, 1, (
+        "RACE  with several jobs, whatever the order of recipes is:", "  c: line 1 is ``, and `1` after a serial build")),
     "macro that another recipe sets": ("all: s a b\ns: ; @touch s\na: s ; $(eval X := set)@touch a\nb: ; @echo x$(X) > b\n", {}, 1, (
         "RACE  with several jobs, whatever the order of recipes is:", "  b: line 1 is `x`, and `xset` after a serial build")),
     "macro that make expands in one order": ("all: s a b\ns: ; @touch s\na: s ; $(eval X := set)@touch a\nb: s ; @echo x$(X) > b\n", {}, 0, ("in other orders left the same 4 files",)),
