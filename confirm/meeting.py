@@ -116,7 +116,7 @@ class Meeting(Gate):
 
     def is_idle(self, root: int) -> bool:
         lent = {above for above in map(parent_of, self.held) if words_of(above)[0] == "D"}  # until a child of vfork begins its program
-        return is_quiet(root, {*self.waiting, *self.held, *lent}) or self.stalled.is_so(root, {*self.held, *lent})
+        return is_quiet(root, {*self.waiting, *self.held, *lent}) or self.stalled.is_so(root, self.waiting, {*self.held, *lent})
 
     def may_begin(self, key: Key) -> bool:
         if not self.held or not self.early.is_recipe:

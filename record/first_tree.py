@@ -22,12 +22,11 @@ import sys
 import tempfile
 from dataclasses import dataclass, field
 from functools import cached_property
-from itertools import combinations
 from typing import TYPE_CHECKING, Dict, FrozenSet, Iterable, Iterator, List, Sequence, Set, Tuple
 
 from record import machine
 from record.make.owners import Make
-from record.trace.events import BY_LIST, CHANGES, CREATED, ENTERED, HELD, LISTED, MADE, MADE_BEFORE, MADE_QUIETLY, MODE_GIVEN, OUTPUT, READ, REFUSED, SEEN
+from record.trace.events import BY_LIST, CHANGES, CREATED, ENTERED, HELD, LISTED, MADE, MADE_BEFORE, MADE_QUIETLY, OUTPUT, READ, REFUSED, SEEN
 from record.trace.lists import fits
 from record.trace.names import Names
 
@@ -194,28 +193,26 @@ def used(before: Dict[str, str], lives: "Iterable[Life]") -> Set[str]:
 
 @dataclass
 class Folder:
-    """What the recipes of a build do with a folder that was there, by their numbers: where they use it first, where they make it, as far as they know, and how."""
+    """What the recipes of a build do with a folder that was there, by their numbers: where they use it first, and where they make it, as far as they know."""
 
     users: Dict[int, int] = field(default_factory=dict)
     makers: Dict[int, int] = field(default_factory=dict)
-    ways: Dict[int, Set[str]] = field(default_factory=dict)  # the modes, and that it could not be made, as it was there
+    refused: Set[int] = field(default_factory=set)  # those that could not make it, as it was there
 
-    def add(self, at: int, kind: str, mode: str, place: int) -> None:
+    def add(self, at: int, kind: str, place: int) -> None:
         """Takes one event."""
         if kind in FOLDER_USED + FOLDER_MADE:
             places = self.makers if kind in FOLDER_MADE else self.users
             places[at] = min(place, places.get(at, place))
-        if kind in MADE_BEFORE + MODE_GIVEN:
-            self.ways.setdefault(at, set()).add(mode or kind)
+        if kind == MADE_BEFORE:
+            self.refused.add(at)
 
     def is_early(self, build: "Build") -> bool:
-        """Whether a recipe uses it that has not made it first, and waits for none that does; or two make it in no order, and differ where it is absent."""
+        """Whether a recipe uses it that has not made it first, and waits for none that does; or two make it in no order, and one fails where it is there."""
         used = (not (self.makers.get(at, place) < place or any(build.is_before(one, at) for one in self.makers)) for at, place in self.users.items())
         if any(used):  # guard: folders-that-were-there
             return True
-        ways = [(at, self.ways.get(at, set())) for at in self.makers]
-        is_one = all(way == ways[0][1] and MADE_BEFORE not in way for _, way in ways)
-        return not is_one and any((way != other or MADE_BEFORE in way) and build.unordered(at, beside) for (at, way), (beside, other) in combinations(ways, 2))  # guard: folders-that-two-make
+        return any(build.unordered(at, other) for at in self.refused for other in self.makers)  # guard: folders-that-two-make
 
 
 def folders_of(build: "Build", before: Dict[str, str]) -> Dict[str, Folder]:
@@ -224,10 +221,9 @@ def folders_of(build: "Build", before: Dict[str, str]) -> Dict[str, Folder]:
     for at, task in enumerate(build.tasks):
         for life in [life for work in task.works for life in work.lives if not (life.is_make or life.is_ninja)] if task.kind == "recipe" else ():
             for (kind, name), place in life.events.items():
-                path, _, more = name.rstrip("/").partition("\0")
-                path = os.path.dirname(path) if kind == CREATED else path
-                if kind in FOLDER_USED + FOLDER_MADE + MODE_GIVEN and before.get(path) == "d":
-                    found.setdefault(path, Folder()).add(at, kind, more, place)
+                path = os.path.dirname(name.rstrip("/")) if kind == CREATED else name.rstrip("/").partition("\0")[0]
+                if kind in FOLDER_USED + FOLDER_MADE and before.get(path) == "d":
+                    found.setdefault(path, Folder()).add(at, kind, place)
     return found
 
 

@@ -16,8 +16,8 @@ from record.entry import in_one_step
 from record.first_tree import FirstTree
 from record.messages import reason
 from record.places import Places
-from record.build.assumptions import TRIED_OUT, UNTRIED
-from record.build.text import OWN_NAME, labels_of, lines_of, relative, shown
+from record.build.assumptions import TEXTS, TRIED_OUT
+from record.build.text import labels_of, lines_of, relative, shown
 from record.trace.courses import Address, Child, apart
 
 if TYPE_CHECKING:
@@ -105,11 +105,16 @@ class Record:
                 one.update(count=len(left), example=shown(left[0]) if left else "")
         self.assumptions = [one for one in self.assumptions if one["count"]]
 
+    def note_pairs(self, count: int, example: str) -> None:
+        """Takes in how many pairs of recipes nothing orders, where not all other orders were tried."""
+        if count:
+            self.assumptions.append({"kind": "orders", "count": count, "example": shown(example), "text": TEXTS["orders"]})
+
     def try_out(self, orders: Dict[str, Any]) -> None:
-        """Takes in what builds in other orders came to: what they try out is not taken for granted any more, and looks are not where all of them were tried."""
+        """Takes in what builds in other orders came to: what they try out is not taken for granted any more."""
         self.orders = orders
         self.holes += ["a build in another order failed, and did not when it was made again: " + how for how in orders["failed"]]
-        self.assumptions = [one for one in self.assumptions if one["kind"] not in TRIED_OUT or orders["untried"] and one["kind"] in UNTRIED]  # guard: what-orders-try-out
+        self.assumptions = [one for one in self.assumptions if one["kind"] not in TRIED_OUT]  # guard: what-orders-try-out
 
     def text(self) -> str:
         """As it is written."""
@@ -141,7 +146,7 @@ def write_build(folder: Path, build: "Build", within: Optional[Dict[str, str]], 
     labels = labels_of(build.tasks)
     root = build.folder
     about: Dict[str, Any] = {}
-    places, leaves = Places(root, build.makefiles()), soft_leaves(build)
+    places, leaves = Places(root, build.makefiles()), leaves_of(build)
     for at, (label, task) in enumerate(zip(labels, build.tasks)):
         own = build.about(at)
         edited = places.of(task.node.name, own)
@@ -153,8 +158,8 @@ def write_build(folder: Path, build: "Build", within: Optional[Dict[str, str]], 
             place.update({"left": True} if part.is_left else {})
         is_loose = task.kind == "recipe" and not machine.isfile(os.path.join(root, task.node.name))  # guard: who-waits-for-what-leaves-no-file
         about[label] = {"target": shown(task.node.name), "kind": task.kind, **place, **({"lists": lists} if lists else {}),
-                        **({"leaves": [relative(root, path) for path in leaves[at]]} if at in leaves else {}),
-                        **({"own": [relative(root, path) for path in sorted(task.own)]} if at in leaves and task.own else {}),
+                        **({"leaves": sorted(relative(root, path) for path in leaves[id(task.node)])} if leaves[id(task.node)] else {}),
+                        **({"own": [relative(root, path) for path in sorted(task.own)]} if task.own else {}),
                         **({"folders": {how: sorted(relative(root, path) for path in paths) for how, paths in task.folders.items()}} if task.folders else {}),
                         **({"order_only": True} if is_loose else {}), **({"place": [shown(edited[0]), edited[1]]} if edited else {})}
     edges = 0
@@ -169,19 +174,16 @@ def write_build(folder: Path, build: "Build", within: Optional[Dict[str, str]], 
         "recipes": sum(1 for t in build.tasks if t.kind == "recipe"), "paths": sum(len(t.reads) + len(t.writes) for t in build.tasks),
     }
     text = {"tool": build.tool, "make": record.tools.get("make", ""), "folder": shown(root), "project": shown(record.folder), "top": shown(top_of(record.folder)), "words": shown(build.words), "round": build.stage, "within": within,
-            "span": [build.make.life.born, build.make.life.died], "counts": counts, "labels": about, "meanings": meanings,
-            "looks": [[[labels[at] if at >= 0 else "" for at in sorted(some)] for some in look] for look in [*(({at}, who, who) for at, who in build.looks), *((by, by, who) for by, who in build.asked.values())]]}
+            "span": [build.make.life.born, build.make.life.died], "counts": counts, "labels": about, "meanings": meanings}
     (folder / "build.json").write_text(json.dumps(text, indent=1, ensure_ascii=False) + "\n", encoding="utf-8")
 
 
-def soft_leaves(build: "Build") -> Dict[int, List[str]]:
-    """By task that sees of others more than the bytes of files, or that settles what they see: what it leaves, and no other task touches."""
+def leaves_of(build: "Build") -> Dict[int, Set[str]]:
+    """By id of a target: what its recipe leaves, and no other task touches."""
     found: Dict[int, Set[str]] = {}
     for task in build.tasks:
         found.setdefault(id(task.node), set()).update(task.leaves)
-    asking = {at for at, _ in build.looks}.union(*(by for by, _ in build.asked.values()))
-    soft = (at for at, task in enumerate(build.tasks) if task.listed or at in asking or any(map(OWN_NAME.search, task.reads | task.writes)))
-    return {at: sorted(found[id(build.tasks[at].node)]) for at in soft}
+    return found
 
 
 def write_record(folder: Path, record: Record, builds: "List[Build]", assumed: "Assumptions") -> None:
@@ -220,8 +222,6 @@ def replace(path: Path, text: str) -> None:
 
 def accept_warm(folder: Path, record: Dict[str, Any]) -> None:
     """Takes for granted that builds start from the tree of a record that is there."""
-    from record.build.assumptions import TEXTS
-
     warm = record["warm"]
     record["holes"] = [hole for hole in record["holes"] if not hole.startswith("WARM")]
     if warm["count"] and not any(one["kind"] == "up-to-date" for one in record["assumptions"]):

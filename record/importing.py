@@ -23,7 +23,6 @@ from record.first_tree import Release, left_behind
 from record.folder import Record, write_record
 from record.footprints import write_footprints
 from record.make.build import MakeBuilder as Builder
-from record.make.elsewhere import Elsewhere
 from record.make.owners import Owners, beginning
 from record.make.spellings import twice
 from record.make.words import makefiles, read_logs
@@ -54,7 +53,7 @@ IDLE = "nothing was to be done, so nothing was seen: record a clean tree (--fres
 def replay_trace(facts: Facts, folder: str) -> Calls:
     """The trace, played in the name space."""
     spool, names = facts.spool, facts.names
-    replay = Calls(names, facts.place, machine.realpath(facts.real), folder, names.tops, machine.mask())
+    replay = Calls(names, facts.place, machine.realpath(facts.real), folder, names.tops)
     trace = spool / ("sifted" if (spool / "sifted").exists() and not names.leads_to(SYSTEM) else "trace")  # guard: links-that-lead
     if facts.said_place:
         replay.own, replay.said, replay.covered = (facts.place, os.path.dirname(facts.said_place)), facts.said_place + "/", {*facts.covered}
@@ -136,13 +135,12 @@ def add_seen(replay: Calls, assumed: Assumptions) -> None:
         assumed.add("progress", path)  # guard: what-cmake-counts
 
 
-def builds_of_makes(owners: Owners, elsewhere: Elsewhere, past: Past, names: Names, assumed: Assumptions, record: Record) -> List[Build]:
+def builds_of_makes(owners: Owners, past: Past, names: Names, assumed: Assumptions, record: Record) -> List[Build]:
     """A build for each round of a make in which something was done, in the order in which they began; their holes too."""
     builds = []
     for place, make, number in sorted(((beginning(m, n), m, n) for m in owners.makes for n in range(len(m.words.rounds))), key=lambda found: found[0]):
         if make.words.rounds[number].jobs or any(n == number for n, _ in make.acts):
             builder = Builder(make, number, names, assumed, past.until(place))
-            builder.elsewhere = elsewhere
             builds.append(builder.run())
             record.holes += builder.holes
     return builds
@@ -157,11 +155,9 @@ def import_record(facts: Facts, record: Record) -> Imported:
         assumed.add("serial", "")
     record.is_parallel = any(map(owners.run_at_once, owners.makes))
     note_holes(facts.said, replay, owners, names, record)
-    elsewhere = Elsewhere(owners, names)
     ninjas, ties, holes = find_ninjas(replay.all, owners, names, facts.kept, record.status == 0)
     add_granted_by_ninjas(ninjas, ties, owners, assumed)
-    elsewhere.ninjas = ninjas
-    of_ninja, more = import_ninjas(ninjas, replay.all, elsewhere, names, assumed, Past(names.before, replay.changes))
+    of_ninja, more = import_ninjas(ninjas, replay.all, names, assumed, Past(names.before, replay.changes))
     record.holes += holes + more
     ahead = no_build(replay.all, record.status, record.first.setup if record.first else "")
     if ahead:
@@ -182,7 +178,7 @@ def import_record(facts: Facts, record: Record) -> Imported:
     if owners.makes and not facts.covered:
         assumed.add("preload", "")  # guard: where-library-is-in-environment
     past = Past(names.before, replay.changes)
-    builds = builds_of_makes(owners, elsewhere, past, names, assumed, record)
+    builds = builds_of_makes(owners, past, names, assumed, record)
     for path in made_unseen(owners.makes, ninjas, names, past.until(sys.maxsize)):
         record.holes.append("%s was absent, and something else made it while the build ran, so its recipe did not run: let nothing else build here, and record again" % path)
     builds = sorted(builds + of_ninja, key=lambda build: build.make.life.born)

@@ -156,14 +156,6 @@ def geteuid() -> int:
 
 
 @asked
-def mask() -> int:
-    """The bits that processes make names without."""
-    found = os.umask(0)
-    os.umask(found)
-    return found
-
-
-@asked
 def printed(*words: str) -> str:
     """What a program prints."""
     return subprocess.run(words, capture_output=True, text=True, errors="surrogateescape", stdin=subprocess.DEVNULL, check=False).stdout

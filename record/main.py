@@ -32,6 +32,7 @@ from record.judge import find_race, judge, no_race
 from record.ninja.retry import JOBS, TRIES, by_hand, hints, tops_of, undo, with_jobs
 from record.ninja.cold_copy import CannotClean, cold_copy, fresh_folder, has_ninja, saved_name
 from record.orders.builds import CannotTry, Plan, with_many
+from record.orders.graph import Graph
 from record.orders.exploring import MOST, beside, explore, new_room
 from record.orders.result import Orders, tried, whatever
 from record.orders.trees import CannotCopy
@@ -331,6 +332,7 @@ def record_all(options: argparse.Namespace, tools: Dict[str, str], out: Path, ra
         except (CannotCopy, CannotTry) as fault:
             why = str(fault)
         record.notes += ["not built in other orders: " + why] * bool(why)
+        record.note_pairs(*Graph(out).free_pairs() if record.status == 0 and (record.orders is None or record.orders["untried"]) else (0, ""))
         rewrite(out, record)
     return record
 

@@ -6,7 +6,6 @@ from typing import List, Optional
 from record.build.assumptions import Assumptions
 from record.build.work import Work
 from record.cleaned import Cleaned
-from record.commands import shelltext
 from record.make.owners import Make, Owners
 from record.make.words import makefiles
 from record.ninja.runs import Ninja
@@ -23,8 +22,6 @@ GROUPS = re.compile(r"(?:^|\s)(?:-[a-zA-Z]*O|--output-sync)")
 def add_granted(owners: Owners, assumed: Assumptions) -> None:
     """All that is counted over makes and their jobs."""
     for make in owners.makes:
-        for work in (w for w in (make.work.get(id(j)) for r in make.words.rounds for j in r.jobs) if w is not None):
-            interpreters(work, assumed)
         for job in (j for r in make.words.rounds for j in r.jobs):
             lucky(make.work.get(id(job)), job.target, assumed)
         runs_guile(make, assumed)
@@ -49,14 +46,6 @@ def idle_targets(owners: Owners, names: Names, cleaned: Cleaned) -> List[str]:
     return [path for path in found if names.before.get(path) in ("f", "l") or is_beyond(path, names)]  # guard: makes-outside-of-project
 
 
-def interpreters(work: Work, assumed: Assumptions) -> None:
-    """Programs of unknown words that ran in a recipe."""
-    for life in work.lives:
-        for argv in life.ran:
-            if shelltext.is_interpreter(argv):
-                assumed.add("interpreters", " ".join(argv)[:60])  # guard: interpreters
-
-
 def runs_guile(make: Make, assumed: Assumptions) -> None:
     """Makefiles that run programs inside of make."""
     for name in sorted(makefiles(make.words)):
@@ -67,7 +56,6 @@ def runs_guile(make: Make, assumed: Assumptions) -> None:
 def add_granted_by_ninja(ninjas: List[Ninja], assumed: Assumptions) -> None:
     """The same over the commands of ninjas."""
     for job in (j for ninja in ninjas for stage in ninja.stages for j in stage.jobs):
-        interpreters(job.work, assumed)
         lucky(job.work, job.edge.label if job.edge is not None else job.text[:60], assumed)
 
 

@@ -222,7 +222,7 @@ def checked(remedies: Sequence[Remedy], is_whole: bool) -> str:
 
 def assumptions_text(record: Dict[str, Any], is_safe: bool) -> List[str]:
     """What was taken for granted."""
-    texts, keys = granted(record), [one["kind"] for one in record["assumptions"]]
+    texts, keys = granted(record), [one["kind"] for one in record["assumptions"] if one["kind"] != "orders" or not record.get("orders")]
     lines = ["safe, if:" if is_safe else "Assumed:", *(line for text in texts for line in wrapped(text))]
     said = "race-explain says what to do about a line, by its key: " + ", ".join(keys)
     lines += textwrap.wrap(said, 78, initial_indent="  ", subsequent_indent="  ", break_on_hyphens=False) if keys else []
@@ -235,7 +235,7 @@ def granted(record: Dict[str, Any]) -> List[str]:
     if not record.get("orders"):
         return [text + example for _, text, example in found]
     tree = "; ".join(text + example for kind, text, example in found if kind in OF_TREE)
-    left = ", ".join(kind + example for kind, _, example in found if kind not in OF_TREE)
+    left = ", ".join(kind + example for kind, _, example in found if kind not in (*OF_TREE, "orders"))
     return [*result.premise(record["orders"]), *filter(None, [tree, left and UNJUDGED + left])]
 
 

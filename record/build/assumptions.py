@@ -14,30 +14,26 @@ TEXTS = {
     "unasked": "builds have the same goals: recipes that nothing asked for are not judged",
     "unwritten": "all processes of recipes that do not write their own target were seen",
     "luck": "processes that meet on a file come in this order in each build, though only a wait orders them that may have been luck",
-    "folders": "programs that look at a folder while another recipe changes it (names in it, its mode, its time) use no more than that it is there",
+    "orders": "recipes that nothing orders come to the same in either order, where the one sees of the other more than which files there are and what they hold, as their ages",
     "sockets": "servers that processes talk to keep no files of the build; ports that they open are free; memory is shared by processes of one recipe alone",
     "processes": "who lists the processes that run (ps, pgrep), signals or looks at one of another recipe, sets its limits (prlimit, renice, taskset), or waits for changes of files (inotify, leases), does the same whatever else runs",
     "locks": "who asks for a lock of a file, and does not wait for it, does the same where another one has it; recipes that take two locks take them in one order",
     "clock": "recipes that put the time into the name of a file have each another time there",
     "queries": "what a make that only asks (-n, -q, -t) runs by `+` or $(MAKE) does the same in any order",
-    "hard-links": "files that got or lost a second name, or have one and were written, have none outside of the project; interpreters and programs that nobody knows do not count the names of a file",
+    "hard-links": "files that got or lost a second name, or have one and were written, have none outside of the project",
     "ring": "a prerequisite that closes a ring, which make drops, is not needed",
-    "search": "what make keeps of the folders in which it looks for names while recipes run makes no difference, whichever recipe is first",
     "output": "what a make prints does the same in any order of its lines, where another program or a file of errors gets it",
     "jobs-said": "a make inside of a recipe, whose output or errors are kept, may print other lines there with several jobs (of a -j of its own, of jobs that it is not handed, of its folder under -O)",
     "outside": "names outside of the project that the build changed were there before it as they are on the disk after it",
     "preload": "recipes do the same where LD_PRELOAD names the library of the recorder, which lets make say what it does",
     "loaded": "objects that make loads (load), and $(guile ..), change no macros and keep nothing in memory from one recipe to the next: files alone settle what they do",
-    "makers": "scripts that make folders for themselves (install-sh, mkinstalldirs, libtool, cmake, ExtUtils of Perl, go build, g++ for modules) ask no more than that it is there; libtool compares no ages",
+    "makers": "scripts that make folders for themselves (install-sh, mkinstalldirs, libtool, cmake, ExtUtils of Perl, go build, g++ for modules) ask no more than that it is there",
     "bytecode": "what Python keeps in __pycache__ does what its source does, whichever recipe wrote it; its bytes may differ",
     "caches": "what ccache, cargo, go, guile, npm and fontconfig keep for themselves, and git's notes of what it looked at, change how long they take, and nothing else; what was taken from there needed no compiler, so files for which one would have looked were not seen (CCACHE_RECACHE=1 and an empty GOCACHE show them)",
     "progress": "what CMake counts in CMakeFiles/Progress changes the percentages that it prints, and nothing else; nobody else looks there",
     "tried": "what CMake's try_compile builds, in a folder that is gone when the build ends, comes to the same in any order",
     "tops": "two makes or ninjas that ran at once, and that no make or ninja started, do not meet",
     "beside": "files that a process which no recipe started changed while make ran are touched by no recipe",
-    "ages": "who looks at two files, as make does, comes to the same whichever of them is newer",
-    "afterwards": "who looks at two files when the build that made them has ended comes to the same whichever of them is newer",
-    "interpreters": "Perl, Python and other interpreters compare ages only of files that they looked at by name, and ask of a folder by its whole path no more than that it is there",
     # What the answer on missing inputs takes for granted.
     "later": "you edit sources, add and remove none, and what you edit gets a new time; in a clean tree recipes then read and write the files that they do now; makefiles, commands and the environment stay; each build ends well",
     "traces": "a recipe leaves the same after the same inputs, whatever it left before, and writes its target whenever it runs",
@@ -59,10 +55,9 @@ TEXTS = {
 }
 
 
-UNTRIED = ("luck", "folders", "ages", "afterwards", "search")  # what nobody has tried out: with --strict it bars the yes
+UNTRIED = ("luck", "orders")  # what nobody has tried out: with --strict it bars the yes
 # What builds in other orders try out, and the two serial builds among them.
-TRIED_OUT = ("serial", "ninja", "unwritten", "folders", "queries", "ring", "search", "output", "jobs-said", "makers",
-             "tried", "ages", "afterwards", "interpreters")
+TRIED_OUT = ("serial", "ninja", "unwritten", "queries", "ring", "output", "jobs-said", "makers", "tried")
 OF_TREE = ("unasked", "up-to-date", "configured")  # what is said of the goals and of the tree
 
 

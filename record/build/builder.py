@@ -1,38 +1,22 @@
 """A build in the making: its tasks, and what each of them reads and writes, for make and for ninja."""
 
 import os
-from typing import Dict, Iterable, List, NamedTuple, Optional, Protocol, Set, Tuple
+from typing import Dict, Iterable, List, Optional, Set, Tuple
 
 from record.build.assumptions import Assumptions
 from record.build.tasks import Build, Node, Task
 from record.build.work import Tool, Work, settle_parts
-from record.trace.events import AGE_SEEN, ASKS, BY_LIST, CHANGES, CREATED, ENTERED, FOLDER_ASKED, FOLDER_KEPT, FOLDER_REMOVED, LISTED, MAKES, REMOVED, TREE_CHANGES
+from record.trace.events import ASKS, BY_LIST, CHANGES, CREATED, ENTERED, FOLDER_KEPT, FOLDER_REMOVED, LISTED, MAKES, REMOVED, TREE_CHANGES
 from record.trace.lists import fits
 from record.trace.names import Names, join
 
 Events = List[Tuple[int, List[Tuple[str, str, int]]]]
 
 
-class Askers(NamedTuple):
-    """Who may ask for ages of what the recipes of a build leave: pairs of paths, what programs did, and names that take over an age there."""
-
-    pairs: List[Tuple[str, str]]
-    works: List[Tuple[str, Work]]  # with words for who it was
-    copies: Set[str]
-
-
-class Recording(Protocol):
-    """All makes, ninjas and programs of a recording that ask for ages."""
-
-    def beside(self, builder: "Builder") -> Askers:
-        """Those of them that may ask for what the recipes of a build leave."""
-
-
 class Builder:
     """What is known of a build so far."""
 
     events_of_all: Optional[Events] = None
-    elsewhere: Optional[Recording] = None
     works_late = False  # make does something for a recipe when that starts
 
     def __init__(self, make: Tool, number: int, names: Names, assumed: Assumptions, build: Build, before: Dict[str, str]) -> None:
@@ -43,12 +27,6 @@ class Builder:
         self.look_of: Dict[str, int] = {}
         self.made: Set[str] = set()
         self.tried: Set[str] = set()  # folders that a recipe could not remove, as they held something
-        self.timed: Dict[str, Set[int]] = {}  # name: who depends on its time
-        self.timers: Dict[str, Set[int]] = {}  # folder: who changes its time
-        self.births: Dict[str, Set[int]] = {}  # folder: who makes it, as far as its time is asked for
-        self.askers = Askers([], [], set())
-        self.aged: Dict[str, Set[int]] = {}  # name: who settles its age, as far as that was asked
-        self.sources: Dict[str, List[Set[str]]] = {}  # name: those whose ages it may have
 
     def looked_at(self, node: Node, own: int) -> List[str]:
         """The paths by which make decides whether a target is remade, its own first; ninja goes by its log."""
@@ -113,7 +91,7 @@ class Builder:
             return ()
         if not self.build.writers:
             return work.events
-        return [(k, p) for k, p in work.events if k not in ASKS + AGE_SEEN + ENTERED or self.is_written(p)]
+        return [(k, p) for k, p in work.events if k not in ASKS + ENTERED or self.is_written(p)]
 
     def note_writers(self) -> None:
         """Which recipe writes, creates or removes which name, and who makes which folder."""
@@ -164,19 +142,6 @@ class Builder:
                 for name, who in created.get(folder, {}).items():
                     if (who != {at}) and join(folder, name) not in self.made and fits(pattern, join(folder, name), self.names):  # guard: patterns-keep-other-names-out
                         task.read_by_list(join(folder, name))  # guard: listings-see-what-is-created
-            elif kind == FOLDER_ASKED:
-                folder, program = path.split("\0")[:2]
-                self.note_asked(at, folder, set().union(*created.get(folder, {}).values()), program)
-            elif kind == AGE_SEEN:
-                self.timed.setdefault(path, set())
-
-    def note_asked(self, at: int, path: str, others: Set[int], program: str) -> None:
-        """A task may see of a folder or file more than that it is there, as its time, its mode or its links, and others change that."""
-        if any(self.build.unordered(at, one) for one in others):  # guard: folders-that-nobody-changes
-            by, who = self.build.asked.setdefault(path, (set(), set()))
-            by.add(at)
-            who |= others
-            self.assumed.add("folders", "%s of %s in %s" % (program, path, self.build.tasks[at].label))
 
     def is_known(self, path: str) -> bool:
         """Whether the tree before the build says if a name was there."""

@@ -76,8 +76,6 @@ class Build:
     bits: List[int] = field(default_factory=list)
     writers: Dict[str, Set[int]] = field(default_factory=dict)
     meanings: Dict[str, str] = field(default_factory=dict)
-    looks: List[Tuple[int, Set[int]]] = field(default_factory=list)  # a task, or -1, may see in which order two of these ran, by ages
-    asked: Dict[str, Tuple[Set[int], Set[int]]] = field(default_factory=dict)  # by folder: some may see whether others have run, by its time, size or links
     tool = ""
 
     @property

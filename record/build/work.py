@@ -1,13 +1,11 @@
 """Who did what: what the processes of a recipe did, and the makes and ninjas below it."""
 
 from dataclasses import dataclass, field
-from typing import Dict, Iterable, Iterator, List, Set, Tuple
+from typing import Dict, List, Set, Tuple
 
 from record.trace.events import CHANGES
 from record.trace.courses import Course, Key
 from record.trace.lives import Life
-
-Pair = Tuple[str, str]  # an output, and an input whose age is compared with its own
 
 
 @dataclass
@@ -46,15 +44,6 @@ class Tool:
     folder: str
     acts: Dict[Tuple[int, str], Work]  # by number of the round and target: what it did by itself for a recipe
 
-    def compared_by_stage(self) -> List[Iterable[Pair]]:
-        """For each stage of a ninja: whose ages it compares."""
-        return []
-
-    def compared(self) -> Iterator[Pair]:
-        """The same of all stages."""
-        for pairs in self.compared_by_stage():
-            yield from pairs
-
 
 def settle_parts(work: Work) -> None:
     """The makes and ninjas of a recipe belong to its parts, and to that with which it ends what none of them did: what ninja itself does for it."""
@@ -70,7 +59,7 @@ def settle_parts(work: Work) -> None:
 def take_piece(work: Work, ran: Work, events: List[Tuple[str, str, int]]) -> None:
     """What make did by itself, and what it ran for that, belongs to a recipe."""
     work.lives += ran.lives
-    work.makes += ran.makes  # guard: makes-that-make-calls
+    work.makes += ran.makes
     for kind, path, place in events:
         work.add(kind, path, place)
 

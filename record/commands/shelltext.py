@@ -1,6 +1,5 @@
 """What the words of a process say: folders made for oneself, patterns of names, programs that are well known."""
 
-import getopt
 import os
 import re
 from functools import lru_cache
@@ -16,12 +15,6 @@ KEPT, LARGE = 4096, 1 << 22  # how many files are remembered; how much of a scri
 SHELLS = ("sh", "dash", "bash", "ksh", "zsh", "ash")
 NINJA = re.compile(r"(?:ninja|ninja-build|samu|samurai)(?:[-.\d]*)$")  # `ninja-1.11`
 INTERPRETERS = re.compile(r"(python|perl|ruby|node|lua|tclsh|php)[\d.]*$")  # `python3.11`
-# Programs that go by no times of what they look at, whatever their words are.
-AGELESS = frozenset((
-    "rm ln cat mkdir rmdir touch chmod chown install ginstall env dirname basename readlink realpath pwd head tail"
-    " sort uniq wc cmp grep egrep fgrep sed xargs gzip gunzip xz bzip2 tee tr cut paste od df sha256sum md5sum"
-    " mktemp flock which cc gcc c++ g++ cpp clang clang++ cc1 cc1plus collect2 lto1 as ld ld.bfd ld.gold gold lld ar ranlib nm strip objcopy objdump").split())
-VERSIONED = re.compile(r"(?:[\w.]+-linux-gnu-)?([a-z+\[.][a-z0-9+.]*?)(?:-[\d.]+)?$")  # one with a machine or a version: `x86_64-linux-gnu-gcc-12` is `gcc`
 PROGRESS = ("cmake_progress_start", "cmake_progress_report", "cmake_echo_color")  # what `cmake -E` does to count what is built
 # Scripts that make folders for themselves, and what Perl's makefiles make folders by.
 MAKERS, EXTUTILS = ("install-sh", "mkinstalldirs", "libtool"), re.compile(r"-MExtUtils::Command -e mkpath$|-MExtUtils::Install -e pm_to_blib\(")
@@ -157,20 +150,6 @@ def is_quiet_mkdir(argv: List[str]) -> bool:
     return name in ("install", "ginstall") and not loud and any(w == "--directory" or re.match(r"-[a-zA-Z]*[dD]", w) for w in words)
 
 
-@lru_cache(KEPT)
-def given_by(argv: Tuple[str, ...]) -> Tuple[str, Tuple[str, ...]]:
-    """The mode and the owner that `install -d` gives to the folders that it names, and these; nothing where it gives no owner."""
-    if base_name([*argv]) not in ("install", "ginstall"):
-        return "", ()
-    try:
-        options, names = getopt.gnu_getopt([*argv[1:]], "bcCDpsTvdm:o:g:t:S:Z", ["directory", "mode=", "owner=", "group=", "verbose", "preserve-timestamps"])
-    except getopt.GetoptError:
-        return "", ()
-    found = {name.lstrip("-")[0]: value for name, value in options}
-    is_known = "d" in found and ("o" in found or "g" in found)
-    return ("%s %s:%s" % (found.get("m", "755"), found.get("o", ""), found.get("g", "")), tuple(names)) if is_known else ("", ())  # guard: modes
-
-
 def maker_at(argv: List[str]) -> int:
     """Where the words behind the first name a script that builds carry, which makes folders for itself; -1 where none does."""
     name, words = base_name(argv), argv[1:]
@@ -211,12 +190,6 @@ def is_on_the_way(folder: str, word: str) -> bool:
     """Whether a folder is the one that a word names, or one above it."""
     parts = [p for p in os.path.normpath(word).split("/") if p not in ("", ".", "..")]
     return any(folder.endswith("/" + "/".join(parts[:count])) for count in range(1, len(parts) + 1))
-
-
-def is_ageless(argv: List[str]) -> bool:
-    """Whether a program is known to go by no times."""
-    match = VERSIONED.match(base_name(argv))
-    return match is not None and match.group(1) in AGELESS
 
 
 def shows_progress(argv: List[str]) -> bool:
@@ -272,6 +245,5 @@ class Traits:
         self.argv = argv
         self.makes_folders = maker_at(argv) >= 0 or output_folder(argv) != ""
         self.is_interpreter = is_interpreter(argv)
-        self.is_ageless = is_ageless(argv)
         self.is_shell = base_name(argv) in SHELLS
         self.shows_progress = shows_progress(argv)

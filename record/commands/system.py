@@ -4,4 +4,3 @@ import re
 
 OF_SYSTEM = re.compile(r"/(?:(?:usr/(?:local/)?)?(?:bin|sbin|lib(?:32|64|x32|exec)?|include|share)|etc|proc|sys|dev(?!/shm/))(?:/|$)")
 SETTINGS = re.compile(r"/(?:proc/)?sys/")  # of the kernel: who changes one may change what any process sees
-TEMPORARY = ("/tmp", "/var/tmp")  # any program of the machine changes their ages, so nobody goes by these

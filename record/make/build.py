@@ -4,12 +4,10 @@ import bisect
 from typing import Dict, List, Set
 
 from record.build.tasks import Build, Node, Task, befores, drop_lonely, order_tasks, renumber
-from record.make.ages import add_ages, note_inner
 from record.make.database import Base
-from record.make.elsewhere import add_elsewhere, find_askers
 from record.make.folders import add_folders
 from record.make.locks import pass_locks
-from record.make.memory import note_memory, place_listings
+from record.make.listings import place_listings
 from record.make.targets import RoundBuilder
 from record.make.unfiled import add_outputs
 from record.make.words import LATER, Words, makefiles, numbers_of
@@ -192,45 +190,30 @@ class MakeBuilder(RoundBuilder):
     # ---------------------------------------------------------------- footprints
     def fill(self) -> None:
         """What each task reads and writes."""
-        build, created, asked = self.build, self.created(), self.asked_ages()
+        build, created = self.build, self.created()
         for label, at in self.of_node.items():
             task, node = build.tasks[at], self.graph.nodes[label]
             self.add_events(at, self.events(task), created)
             looker = self.look_of.get(label, at)
             self.add_events(self.acts_at.get(label, at), self.acts_of(node), created)
             if task.kind != "group":
-                self.add_decision(looker, at, node, node.label in asked)
+                self.add_decision(looker, at, node)
         for at, task in enumerate(build.tasks):
             if task.kind == "part":
                 self.add_events(at, self.events(task), created)
         for label, at in self.first_of.items():
             build.tasks[at].reads.update(self.asked[label])
-        note_inner(self, created)
-        note_memory(self, created)
-        find_askers(self, created)
         add_outputs(self)
         add_folders(self)
-        add_ages(self)
-        add_elsewhere(self)
         pass_locks(self)
         # the next build reads the makefiles that this one looked for
         drop_lonely(self.build.tasks, {self.names.find(self.make.folder, name, True).path for name in makefiles(self.make.words)})
         self.note_late()
 
-    def asked_ages(self) -> Set[str]:
-        """The labels of targets with whose ages make compares those of others."""
-        return {one.label for node in self.graph.nodes.values() for one in self.deciding(node, self.of_node.get(node.label, -1))[1:]}
-
-    def add_decision(self, looker: int, at: int, node: Node, is_asked: bool) -> None:
-        """Make looks at a target and at its prerequisites. The age of a target alone counts where others ask for it."""
+    def add_decision(self, looker: int, at: int, node: Node) -> None:
+        """Make looks at a target and at its prerequisites."""
         task, writers = self.build.tasks[looker], self.build.writers
-        names = self.looked_at(node, at)
-        for path in names:
-            if path in writers and writers[path] - {at, looker}:
-                task.reads.add(path)
-            if len(names) > 1 or is_asked:
-                self.timed.setdefault(path, set()).add(looker)
-        task.reads.update(path for path in self.followed(node, at) if writers.get(path, set()) - {at, looker})  # guard: they-are-read
+        task.reads.update(path for path in self.looked_at(node, at) + self.followed(node, at) if writers.get(path, set()) - {at, looker})  # guard: they-are-read
 
 
 def is_row(base: Base, words: Words) -> bool:

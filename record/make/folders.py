@@ -1,4 +1,4 @@
-"""Folders that recipes make for themselves, and what else recipes may see of folders: times, modes, links.
+"""Folders that recipes make for themselves.
 
 Quiet makers, which do not show who was first, do not conflict; each user needs one maker before it. A strict maker, a look at a
 folder that is not there yet, and a removal conflict with all that nothing orders.
@@ -12,8 +12,7 @@ from typing import Dict, List, NamedTuple, Set
 
 from record.build.builder import Builder, Events
 from record.trace.events import (
-    ABSENT, CHANGES, CREATED, ENTERED, FOLDER_KEPT, FOLDER_REMOVED, LINKS_CHANGED, LISTED, LOCKED, LOOKS, MADE_BEFORE,
-    MADE_QUIETLY, MAKER_SEEN, MAKES, MODE_CHANGED, MODE_GIVEN, READ, REMOVED, SEEN, STRICT, TIME_CHANGED, TREE_CHANGES, WRITTEN,
+    ABSENT, CREATED, ENTERED, FOLDER_KEPT, FOLDER_REMOVED, LISTED, LOCKED, MADE_BEFORE, MADE_QUIETLY, MAKER_SEEN, MAKES, READ, REMOVED, SEEN, STRICT, TREE_CHANGES, WRITTEN,
 )
 
 
@@ -39,7 +38,6 @@ class Folder:
     scripts: Set[int] = field(default_factory=set)  # tasks with a script that makes it where it is not there
     first_made: Dict[int, int] = field(default_factory=dict)
     created: Set[int] = field(default_factory=set)
-    modes: Dict[str, Set[int]] = field(default_factory=dict)  # by mode: tasks that make it so
 
 
 class Makers(NamedTuple):
@@ -79,16 +77,13 @@ def parents_of_all(paths: Dict[str, int]) -> Dict[str, int]:
 def gather(builder: Builder) -> Dict[str, Folder]:
     """All folders that recipes make or remove, with who uses them."""
     table = {p: Folder() for p in builder.made | builder.tried}
-    never, more = 1 << 60, ""
+    never = 1 << 60
     for at, events in each(builder) if table else ():
         touched: Dict[str, int] = {}
         for kind, path, place in events:
-            if "\0" in path:
-                path, _, more = path.partition("\0")
+            path = path.partition("\0")[0]
             folder = table.get(path)
-            if folder is not None and kind == MODE_GIVEN:
-                folder.modes.setdefault(more, set()).add(at)
-            elif folder is not None and not path.endswith("/"):
+            if folder is not None and not path.endswith("/"):
                 note(folder, at, kind, place)
             if kind in TOUCHES and not path.endswith("/"):
                 touched[path] = min(never if kind in (READ, SEEN) else place, touched.get(path, never))
@@ -155,12 +150,10 @@ def add_folders(builder: Builder) -> None:
     for path, folder in table.items():
         add_folder(builder, path, folder)
     add_listed(builder, makers, {path: folder.first_made for path, folder in table.items()})  # guard: listed-when-made
-    add_times(builder)  # guard: times
-    add_modes(builder)  # guard: modes
 
 
 def add_folder(builder: Builder, path: str, folder: Folder) -> None:
-    """Names for who makes one folder first, for who sees whether it is there, for its mode, and for who removes it."""
+    """Names for who makes one folder first, for who sees whether it is there, and for who removes it."""
     tasks = builder.build.tasks
     for at in folder.scripts - folder.strict - folder.quiet if folder.created else ():
         folder.quiet.add(at)
@@ -169,8 +162,6 @@ def add_folder(builder: Builder, path: str, folder: Folder) -> None:
     if was_there(builder, path) and not folder.gone:  # guard: there-before-build
         makers = set()
     note_makers(builder, path, folder, makers)
-    if makers:
-        part_modes(builder, path, folder)
     for at in folder.strict & makers:  # guard: strict-makers-meet
         mark(builder, path + "/@make", "who makes the folder %s first" % path, makers - {at}, {at})
     for at in (folder.users | folder.absent) - makers:
@@ -202,14 +193,6 @@ def note_makers(builder: Builder, path: str, folder: Folder, makers: Set[int]) -
 def was_there(builder: Builder, path: str) -> bool:
     """Whether a folder was there before the build: the one that the build works in, and so those above it, are not made by it."""
     return builder.before.get(path) == "d" or path in builder.names.above
-
-
-def part_modes(builder: Builder, path: str, folder: Folder) -> None:
-    """Tasks that make a folder with other modes, or would do so where it is not there."""
-    everyone = set().union(*folder.modes.values())
-    for some in folder.modes.values():
-        for at in some if everyone - some else ():
-            builder.note_asked(at, path, everyone - some, "the mode")
 
 
 def shows_first(builder: Builder, path: str, folder: Folder, at: int, makers: Set[int]) -> bool:
@@ -263,34 +246,3 @@ def add_listed(builder: Builder, table: Dict[str, Makers], first_made: Dict[str,
 def matches(name: str, pattern: str) -> bool:
     """Whether a pattern can match the name of a folder; with a slash behind it, that of no file."""
     return fnmatch.fnmatchcase(name, pattern.rstrip("/"))
-
-
-def add_times(builder: Builder) -> None:
-    """Names that are created in or removed from a folder change its time."""
-    wanted = builder.timed
-    for at, events in each(builder):
-        for kind, path, _ in events:
-            if kind in MAKES and path in wanted:  # guard: age-of-empty
-                builder.births.setdefault(path, set()).add(at)
-            if kind not in (CREATED, REMOVED, FOLDER_REMOVED, TIME_CHANGED, LOCKED):  # guard: time-of-folder
-                continue
-            where = path if kind == TIME_CHANGED else dirname(path.rstrip("/"))
-            if where in wanted:
-                builder.timers.setdefault(where, set()).add(at)
-    for where, changers in builder.timers.items():
-        for at in wanted[where]:
-            builder.note_asked(at, where, changers, "the time")
-
-
-def add_modes(builder: Builder) -> None:
-    """Who may see the mode of a folder, or how many names a file has, that others change."""
-    changed: Dict[str, Set[int]] = {}
-    for at, events in each(builder):
-        given = {text for kind, text, _ in events if kind == MODE_GIVEN}
-        for kind, text, _ in events:
-            if kind in MODE_CHANGED + LINKS_CHANGED and text not in given:  # guard: modes-that-makers-give
-                changed.setdefault(text.partition("\0")[0], set()).add(at)
-    for at, events in each(builder) if changed else ():
-        paths = {path.partition("\0")[0].rstrip("/") for kind, path, _ in events if kind in LOOKS + CHANGES + ENTERED + LISTED + MODE_GIVEN + MODE_CHANGED}
-        for path in sorted({*paths, *map(dirname, paths)} & changed.keys()):  # guard: modes-of-those-in-which-one-is-made
-            builder.note_asked(at, path, changed[path] - {at}, "the mode or the links")

@@ -9,7 +9,7 @@ from typing import Dict, Set
 
 from record.build.builder import Builder
 from record.make.folders import each
-from record.trace.events import AGE_SEEN, CHANGES, CREATED, HELD, LOCKED, MODE_GIVEN
+from record.trace.events import CHANGES, CREATED, HELD, LOCKED
 
 
 
@@ -18,19 +18,18 @@ class Lock:
     """What tasks did to the file of a lock."""
 
     makers: Set[int] = field(default_factory=set)
-    modes: Set[str] = field(default_factory=set)  # the bits without which they make it
     askers: Set[int] = field(default_factory=set)
     is_changed: bool = False  # by more than a lock
 
 
 def pass_locks(builder: Builder) -> None:
-    """Tasks that only lock a file do not write it, where all of them make it alike, and each task that asks for it comes behind one of them."""
+    """Tasks that only lock a file do not write it, where each task that asks for it comes behind one of them."""
     tasks, build = builder.build.tasks, builder.build
     for path, lock in gather(builder).items():
         lock.askers |= {at for at, task in enumerate(tasks) if path in task.reads}  # guard: who-lists
         writers = {at for at, task in enumerate(tasks) if path in task.writes}
         is_seen = any(not any(build.is_before(maker, at) for maker in lock.makers - {at}) for at in lock.askers)  # guard: who-looks-at-one-behind-its-maker
-        if not (lock.is_changed or is_seen or len(lock.modes) > 1 or writers - lock.makers):  # guard: who-changes
+        if not (lock.is_changed or is_seen or writers - lock.makers):  # guard: who-changes
             for at in lock.makers:
                 tasks[at].writes.discard(path)  # guard: who-makes-one-first
 
@@ -39,14 +38,11 @@ def gather(builder: Builder) -> Dict[str, Lock]:
     """All files that recipes lock so."""
     table = {path: Lock() for _, events in each(builder) for kind, path, _ in events if kind == LOCKED}
     for at, events in each(builder) if table else ():
-        for kind, text, _ in events:
-            path, _, more = text.partition("\0")
+        for kind, path, _ in events:
             lock = table.get(path)
-            if lock is not None and kind == MODE_GIVEN:
-                lock.modes.add(more)
-            elif lock is not None and kind == LOCKED:
+            if lock is not None and kind == LOCKED:
                 lock.makers.add(at)
-            elif lock is not None and kind not in CREATED + HELD + AGE_SEEN:  # guard: what-is-under-the-lock
+            elif lock is not None and kind not in CREATED + HELD:  # guard: what-is-under-the-lock
                 lock.askers.add(at)
                 lock.is_changed = lock.is_changed or kind in CHANGES
     return table

@@ -97,14 +97,6 @@ class Make(Tool):
         """Those of some patterns that are about names in a folder."""
         return asked_in(patterns_of(self.words.is_deaf, tuple(patterns)), self.folder, folder, self.by_links)
 
-    def listed_in(self, start: int) -> Dict[str, Tuple[int, int]]:
-        """When each folder was listed after a start: when its list was begun, and when the last piece was read."""
-        found: Dict[str, Tuple[int, int]] = {}
-        for place, path in self.lists:
-            if self.begin(start) <= place < self.begin(start + 1):
-                found[path] = (found[path][0] if path in found else place, place)  # guard: pieces
-        return found
-
     def has_one_slot(self) -> bool:
         """Whether it runs one job at a time whatever the user says: by its words, or as no make above hands it jobs. The words of
         a make that none is above are the user's own."""

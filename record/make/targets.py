@@ -23,9 +23,7 @@ class RoundBuilder(Builder):
         self.graph = Graph(make, number)
         super().__init__(make, number, names, assumed, MakeBuild(make, self.graph), names.before if before is None else before)
         self.first_of: Dict[str, int] = {}
-        self.listed = make.listed_in(self.graph.round.start)
         self.asked: Dict[str, Set[str]] = {}  # by label of a first look: the names that it is about
-        self.began = -1
         self.works_late = are_inside(self.graph.base, make.folder, names.tops)  # guard: what-make-does-when-recipe-starts
 
     def path_of(self, name: str) -> str:
@@ -60,9 +58,8 @@ class RoundBuilder(Builder):
         return [path for path, place in self.seen(node).items() if place < began] or [node.path]  # guard: what-first-look-led
 
     def plain(self, node: Node) -> List[str]:
-        """Labels of the prerequisites whose ages count; the data base cuts names at blanks, so one of those for order alone may look like another."""
-        only = self.graph.base.order_only.get(node.name, set()).difference(self.graph.base.prerequisites.get(node.name, ()))
-        return [p for p in node.prerequisites if p in self.graph.nodes and p not in only and self.graph.nodes[p].name != node.name and not self.graph.nodes[p].phony]  # guard: order-only
+        """Labels of the prerequisites at which make looks."""
+        return [p for p in node.prerequisites if p in self.graph.nodes and self.graph.nodes[p].name != node.name and not self.graph.nodes[p].phony]
 
     def is_leaf(self, node: Node) -> bool:
         """Whether no recipe runs below a target: make then decides in its first pass."""

@@ -84,8 +84,8 @@ class Footprints:
 
     def take(self, at: int, kind: str, path: str) -> None:
         """One event."""
-        name, mark, other = path.rstrip("/").partition("\0")
-        if kind == "c" and mark and not other:
+        name = path.rstrip("/").partition("\0")[0]
+        if kind == "t" and not os.path.isdir(name):
             self.set_back.add(name)
         if kind not in "RSlNLWCDMTE":
             return

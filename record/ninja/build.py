@@ -7,14 +7,11 @@ from record.build.assumptions import Assumptions
 from record.build.builder import Builder
 from record.build.tasks import Build, Node, Task, befores, drop_lonely, order_tasks, renumber
 from record.build.work import Work
-from record.make.ages import ages_in_archives, compare, compared_inside, looked_at_ages, note_inner, note_sources
-from record.make.elsewhere import add_elsewhere, find_askers
 from record.make.folders import add_folders, apart, parents
 from record.make.locks import pass_locks
 from record.ninja.fix import owner_of
 from record.ninja.manifest import Edge
 from record.ninja.runs import NEVER, Job, Ninja, Stage
-from record.trace.events import FOLDER_ASKED
 from record.trace.lists import fits
 from record.trace.names import Names, join
 
@@ -237,37 +234,23 @@ class NinjaBuilder(Builder):
         created = self.created()
         for at, task in enumerate(self.build.tasks):
             self.add_events(at, self.events(task), created)
-        note_inner(self, created)  # guard: ages-of-folders-inside
-        find_askers(self, created)
         self.add_logs()  # guard: its-log
         add_folders(self)
         self.add_files_of_dyndep()  # guard: outputs-that-dyndep-file-adds
-        note_sources(self)
-        for at, task in enumerate(self.build.tasks):
-            for work in task.judged:
-                for first, second in compared_inside(self, work):
-                    compare(self, at, first, second)
-                looked_at_ages(self, at, work)
-                ages_in_archives(self, at, work)
-        add_elsewhere(self)
         pass_locks(self)  # guard: ninja
         drop_lonely(self.build.tasks, set())
         self.note_own()
         self.note_late()
 
     def add_logs(self) -> None:
-        """A command that reads the logs of its ninja sees which commands have ended: ninja writes a line for each. One that lists their folder, or
-        asks for its age, sees whether the first one has ended, as ninja makes its logs then."""
+        """A command that reads the logs of its ninja sees which commands have ended: ninja writes a line for each. One that lists their folder sees whether the
+        first one has ended, as ninja makes its logs then."""
         tasks, folder = self.build.tasks, self.full(self.stage.manifest.top.value("builddir") or ".")
         ran = {at for at, task in enumerate(tasks) if task.works}
         for name, makers in (LOG, ran), (DEPS, {at for at in ran if self.build.edges[at].value("deps")}):  # guard: its-log-of-headers-among-names
             path = join(folder, name)
             is_new = self.ninja.life.events.get(("C", path), -1) > self.stage.opened  # guard: ninjas-own-log
-            if is_new and folder in self.timed:
-                self.timers.setdefault(folder, set()).update(makers)
             for at in sorted(ran):
-                for asked in (text.split("\0") for work in tasks[at].works for kind, text in work.events if kind == FOLDER_ASKED and is_new):
-                    self.note_asked(at, folder, makers if asked[0] == folder else set(), asked[1])  # guard: its-log-and-time-of-folder
                 if any(kind in "RSNl" and found == path for work in tasks[at].works for kind, found in work.events):
                     apart(self, path + "/@output", "which commands stand in the log of ninja", at, ran - {at})
                 elif is_new and self.lists(at, path) and not any(self.build.is_before(maker, at) for maker in makers):  # guard: its-log-among-names

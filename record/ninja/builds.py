@@ -5,7 +5,6 @@ from typing import List, Tuple
 
 from record.build.assumptions import Assumptions
 from record.build.tasks import Build
-from record.make.elsewhere import Elsewhere
 from record.make.owners import Owners
 from record.ninja.build import NinjaBuild, NinjaBuilder
 from record.ninja.log import Kept, Missing, ask_missing, version_of
@@ -25,7 +24,7 @@ def find_ninjas(lives: List[Life], owners: Owners, names: Names, kept: Kept, has
     return runs.ninjas, runs.ties, runs.holes
 
 
-def import_ninjas(ninjas: List[Ninja], lives: List[Life], elsewhere: Elsewhere, names: Names, assumed: Assumptions, past: Past) -> Tuple[List[Build], List[str]]:
+def import_ninjas(ninjas: List[Ninja], lives: List[Life], names: Names, assumed: Assumptions, past: Past) -> Tuple[List[Build], List[str]]:
     """A build for each stage of a ninja in which commands ran, and the holes. `past`: which names were there when it began."""
     holes: List[str] = []
     builds: List[Build] = []
@@ -33,7 +32,6 @@ def import_ninjas(ninjas: List[Ninja], lives: List[Life], elsewhere: Elsewhere, 
     stages = [(stage, ninja, number) for ninja in ninjas for number, stage in enumerate(ninja.stages) if stage.jobs and stage.is_read]
     for stage, ninja, number in sorted(stages, key=lambda found: found[0].opened):
         builder = NinjaBuilder(ninja, number, past.until(stage.opened), removed, names, assumed)  # guard: folders-that-were-there-when-it-began
-        builder.elsewhere = elsewhere
         builds.append(builder.run())
         holes += builder.holes
     return builds, holes

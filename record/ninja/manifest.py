@@ -6,11 +6,8 @@ Values of rules are worked out when they are asked for, all others where they st
 import os
 import re
 from dataclasses import dataclass, field
-from functools import cached_property
 from typing import Callable, Dict, Iterator, List, Optional, Set, Tuple
 
-from record.ninja.depfile import depfile_inputs
-from record.ninja.log import read_deps
 
 VARIABLE = re.compile(r"\$(?:\{([A-Za-z0-9_.-]+)\}|([A-Za-z0-9_-]+)|(.?))", re.S)
 TOKEN = re.compile(r" *(?:(\|\||\|@|\||:)|((?:\$(?:\{[A-Za-z0-9_.-]+\}|[A-Za-z0-9_-]+|[ $:|])|[^ :|$])+)|$)")
@@ -225,36 +222,6 @@ class Manifest:
                 for path in edge.waits():
                     self._users.setdefault(path, []).append(edge)
         return self._users
-
-    def aged(self, edge: Edge) -> List[str]:
-        """The files whose ages ninja compares with those of a statement's outputs: through phony ones too, and those that its depfile names."""
-        found: Dict[str, None] = {}
-        todo = edge.inputs + edge.implicit + self.named(edge)  # guard: ages-of-what-depfile-names
-        while todo:
-            path = todo.pop()
-            if path not in found:
-                found[path] = None
-                maker = self.makers.get(path)
-                todo += maker.inputs + maker.implicit if maker is not None and maker.is_phony else []
-        return list(found)
-
-    def named(self, edge: Edge) -> List[str]:
-        """The inputs that a depfile names: one that ninja leaves where it is, or that it keeps in its log of headers."""
-        if edge.value("deps"):
-            return [name for path in edge.makes() for name in self.deps.get(path, ())]  # guard: ages-of-what-its-log-of-headers-names
-        path = edge.path("depfile")
-        return [canonical(name) for name in depfile_inputs(os.path.join(self.folder, path))] if path else []
-
-    @cached_property
-    def deps(self) -> Dict[str, List[str]]:
-        """What the log of headers says, when the build has ended."""
-        return read_deps(os.path.join(self.folder, self.top.value("builddir"), ".ninja_deps"))
-
-    def compared(self) -> Iterator[Tuple[str, str]]:
-        """Outputs, each with the inputs whose ages ninja compares with its own."""
-        for edge in self.edges:
-            if not edge.is_phony:
-                yield from ((target, asked) for asked in self.aged(edge) for target in edge.makes())
 
     def goals(self, names: List[str]) -> Optional[List[Edge]]:
         """The statements that words of the command line name; without words the default; None where a word is not known."""

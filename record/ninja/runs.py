@@ -5,10 +5,10 @@ import os
 import re
 from collections import Counter
 from dataclasses import dataclass, field
-from typing import Callable, Dict, Iterable, List, Optional, Set, Tuple
+from typing import Callable, Dict, List, Optional, Set, Tuple
 
 from record import machine
-from record.build.work import Pair, Tool, Work
+from record.build.work import Tool, Work
 from record.commands import shelltext
 from record.make.owners import Owners
 from record.ninja.dyndep import read_dyndep
@@ -83,9 +83,6 @@ class Ninja(Tool):
         maker = manifest.makers.get(canonical(self.file))
         return manifest.below([maker]) if maker is not None else set()
 
-    def compared_by_stage(self) -> List[Iterable[Pair]]:
-        return [stage.manifest.compared() for stage in self.stages]
-
 
 def options_of(argv: List[str]) -> "Optional[Tuple[Dict[str, str], List[str]]]":
     """The options and goals of a ninja that builds; None where it only looks, or cannot read its words."""
@@ -135,7 +132,7 @@ class Runs:
         works = [work for make in self.owners.makes for work in make.work.values()]
         works += [job.work for ninja in self.ninjas for stage in ninja.stages for job in stage.jobs]
         for work in works if by_life else []:
-            work.ninjas = [by_life[id(life)] for life in work.lives if id(life) in by_life]  # guard: ninja-below-command
+            work.ninjas = [by_life[id(life)] for life in work.lives if id(life) in by_life]
 
     # ---------------------------------------------------------------- processes
     def add(self, life: Life) -> None:

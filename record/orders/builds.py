@@ -36,7 +36,7 @@ from record.trace.names import mounts_below
 from record.watch.lay import BIND, LIBC, NAMES, Watch, leave, makes_of, mount
 
 PASSING = ("env", "nice", "ionice", "setsid", "timeout", "flock", "time", "stdbuf")  # programs that run what their words name
-MANY, ONE, OWN = 100, 1, 0  # jobs: with MANY all recipes that are ready wait at the gate; OWN: a make has as many as it has without a gate, and a ninja one
+MANY, ONE, OWN = 1000, 1, 0  # jobs: with MANY all recipes that are ready wait at the gate; OWN: a make has as many as it has without a gate, and a ninja one
 QUIET, TIMES = 20.0, 2.0  # a build hangs where nothing begins or ends for so many seconds, and so many times as long as the recorded one took
 ENDING = 2.0  # seconds that the output of a build has to come, when that has ended
 WITH_PARENT, TAKES_LEFT = 1, 36  # for prctl: which signal comes when the parent ends; who outlives its parent becomes a child of this process

@@ -98,5 +98,5 @@ def explore(room: Room, record: Record, out: Path, race: str, most: int, running
         join(graph, other)
     trial.soft, _ = conflicts(Graph(out), race, room.top)
     trial.cleared = [pair for pair in trial.cleared if pair in trial.soft]
-    trial.pairs = [pair for pair in trial.pairs if pair in trial.soft]
+    trial.left.soft = [pair for pair in trial.left.soft if pair in trial.soft]
     return trial.result()

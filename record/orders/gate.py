@@ -63,6 +63,8 @@ class Gate:
     targets: dict[int, str] = field(default_factory=dict)  # by process that a make has started: the target
     ended: set[tuple[int, str]] = field(default_factory=set)  # makes and targets whose recipes have ended
     read: dict[Path, int] = field(default_factory=dict)  # how much was read of the file of each make
+    come_from: dict[int, tuple[int, str, Key, str]] = field(default_factory=dict)  # by process that waits: its make or ninja, the target or the sum, the recipe around that, and where it works
+    born: dict[int, tuple[int, int]] = field(default_factory=dict)  # by process that waits: when it began
     since: float = 0.0  # when something happened last
     stalled: Stalled = field(default_factory=Stalled)
     choose: selectors.BaseSelector = field(init=False, repr=False)  # by descriptor: what is done when it is ready
@@ -82,6 +84,7 @@ class Gate:
         channel, _ = listener.accept()
         pid, _, _ = CREDENTIALS.unpack(channel.getsockopt(socket.SOL_SOCKET, socket.SO_PEERCRED, CREDENTIALS.size))
         self.waiting[pid] = channel
+        self.come_from.pop(pid, None)
 
     def hear_makes(self) -> None:
         """Reads what makes have said since: which process is for which target, and which recipes have ended."""
@@ -114,9 +117,11 @@ class Gate:
 
     def bare(self, pid: int) -> tuple[int, str, Key]:
         """Of a process that waits: its make or ninja, the target or the sum, and its recipe, as the next of that name."""
-        make = parent_of(pid)
-        name = self.targets.get(pid) or held_command(pid)
-        above, folder = self.outer(make), shown(self.folder_of(make))
+        if pid not in self.come_from:
+            make = parent_of(pid)
+            self.come_from[pid] = make, self.targets.get(pid) or held_command(pid), self.outer(make), shown(self.folder_of(make))
+            self.born[pid] = born(pid)
+        make, name, above, folder = self.come_from[pid]
         return make, name, (*above, (folder, name, self.counts.get((*above, (folder, name, 0)), 0) + 1))
 
     def is_over(self, key: Key) -> bool:
@@ -127,7 +132,7 @@ class Gate:
 
     def is_idle(self, root: int) -> bool:
         """Whether nothing else can happen in the build."""
-        return is_quiet(root, self.waiting) or self.stalled.is_so(root, ())
+        return is_quiet(root, self.waiting) or self.stalled.is_so(root, self.waiting)
 
     def may_begin(self, key: Key) -> bool:
         """Whether a recipe waits for no other one besides."""
@@ -141,7 +146,7 @@ class Gate:
         rows = {pid: self.bare(pid) for pid in self.waiting}
         further = [pid for pid, (make, name, _) in rows.items() if (make, name) in self.open]
         free = [pid for pid, (_, _, key) in rows.items() if self.may_begin(key)]  # guard: fixes-hold
-        pid = max(further or free or rows, key=lambda one: (self.places.get(rows[one][2], self.unknown), *(at if self.is_flipped else -at for at in born(one))))  # guard: last-that-came
+        pid = max(further or free or rows, key=lambda one: (self.places.get(rows[one][2], self.unknown), *(at if self.is_flipped else -at for at in self.born[one])))  # guard: last-that-came
         make, name, key = rows[pid]
         if (make, name) not in self.open:
             self.began.append(key)

@@ -29,6 +29,23 @@ class Task:
 
 
 @dataclass
+class Left:
+    """Pairs that no other order has tried yet: for each recipe the earlier ones, and those with soft conflicts, also of what make does by itself."""
+
+    recipes: list[int]
+    soft: list[Pair]
+
+    def all(self) -> Iterator[Pair]:
+        """All of them."""
+        yield from ((first, second) for second, some in enumerate(self.recipes) for first in numbers(some))
+        yield from (pair for pair in self.soft if not self.recipes[pair[1]] >> pair[0] & 1)
+
+    def count(self) -> int:
+        """How many there are."""
+        return size(self.recipes) + sum(not self.recipes[second] >> first & 1 for first, second in self.soft)
+
+
+@dataclass
 class Graph:
     """The tasks of a record in the order of its build: those of a make stand behind the recipe that runs it."""
 
@@ -108,7 +125,7 @@ class Graph:
         return next((self.at[number, other] for other, one in labels.items() if one["kind"] == "recipe" and one["target"] == found["target"]), self.at[number, label])
 
     def left_by(self, number: str, label: str) -> set[str]:
-        """What a task of a build writes, as far as that is kept: all of it, where the task has a part in a soft conflict."""
+        """What a task of a build writes."""
         build = self.builds[number]
         own: Sequence[str] = self.row_of.get((number, label), {"writes": ()})["writes"]
         return {os.path.normpath(os.path.join(build["folder"], path)) for path in (*own, *build["labels"].get(label, {}).get("leaves", ()))}
@@ -118,14 +135,9 @@ class Graph:
         """The line of each task, by its build and label."""
         return {(number, row["task"]): row for number, rows in self.rows.items() for row in rows}
 
-    def looked(self, after: Mapping[Key, set[Key]]) -> list[int]:
-        """For each recipe the earlier ones whose order with it somebody may have seen, who looked at ages or at a folder. `after`: which waits for which besides."""
-        found = [0] * len(self.tasks)
-        for number, build in self.builds.items():
-            for _, *sides in build["looks"]:
-                one, other = (self.bits(self.recipe_of(number, label) for label in side) for side in sides)
-                for at in numbers(one | other):
-                    found[at] |= self.free[at] & ((other if one >> at & 1 else 0) | (one if other >> at & 1 else 0))
+    def apart(self, after: Mapping[Key, set[Key]]) -> list[int]:
+        """For each recipe the earlier ones that nothing orders with it. `after`: which waits for which besides."""
+        found = [*self.free]
         for late, early in after.items():
             if late in self.keys:
                 found[self.keys[late]] &= ~self.bits(self.keys[key] for key in early if key in self.keys)
@@ -138,6 +150,11 @@ class Graph:
     def pairs(self) -> int:
         """How many pairs of recipes nothing orders."""
         return size(self.free)
+
+    def free_pairs(self) -> tuple[int, str]:
+        """The same, and the first of them."""
+        first = next(Left(self.free, []).all(), ())
+        return self.pairs(), " and ".join(self.tasks[at].label for at in first)
 
     def turned(self, began: Sequence[Key]) -> list[int]:
         """For each task those that came before it in the serial build, and behind it in another one, of which this is the log."""
@@ -160,27 +177,30 @@ class Graph:
                 found[at] = max((found[other] + 0.5 for other in numbers(one.before & self.recipes)), default=-0.5)  # guard: looks-of-make
         return found
 
-    def left(self, pairs: Sequence[Pair], began: Sequence[Key]) -> list[Pair]:
-        """The pairs that a build ran in the order of the serial one, too."""
+    def behind(self, left: Left, began: Sequence[Key]) -> Left:
+        """Those of some pairs that a build ran in the order of the serial one, too."""
         places = self.places(began)
-        return [(first, second) for first, second in pairs if not places[second] < places[first]]
+        return Left([some & ~earlier for some, earlier in zip(left.recipes, self.turned(began))], [pair for pair in left.soft if not places[pair[1]] < places[pair[0]]])
 
     def flipped(self) -> dict[Key, float]:
         """Always the last ready recipe of the serial order."""
         return {key: float(at) for key, at in self.keys.items()}
 
-    def covering(self, left: Sequence[Pair]) -> dict[Key, float]:
+    def covering(self, left: Left) -> dict[Key, float]:
         """An order that turns round as many of some pairs as it can, and at least the first of them."""
         score = [0] * len(self.tasks)
-        for first, second in left:
+        for first, second in left.all():
             score[second] += 1
             score[first] -= 1
-        order = self.schedule(score)
-        at = {task: place for place, task in enumerate(order)}
-        if not any(at[second] < at[first] for first, second in left):
-            need = self.tasks[left[0][1]].before | 1 << left[0][1]
-            order = self.schedule([int(need >> task & 1) for task in range(len(self.tasks))])
-        return placed([self.tasks[task].key for task in order])
+        found = self.ordered(score)
+        if self.behind(left, sorted(found, key=lambda key: -found[key])) == left:
+            first = next(left.all())[1]
+            found = self.ordered([int((self.tasks[first].before | 1 << first) >> task & 1) for task in range(len(self.tasks))])
+        return found
+
+    def ordered(self, score: Sequence[int]) -> dict[Key, float]:
+        """The places of all recipes in such an order."""
+        return placed([self.tasks[task].key for task in self.schedule(score)])
 
     def schedule(self, score: Sequence[int]) -> list[int]:
         """An order of all tasks that the record allows: of those that are ready the one that is wanted most, or that one waits for which is."""
@@ -216,7 +236,7 @@ class Graph:
                     score[at] += len(who)
                 for at in who if len(who) > 1 else ():
                     score[at] -= len(others)
-        return placed([self.tasks[at].key for at in self.schedule(score)]) if any(score) else None
+        return self.ordered(score) if any(score) else None
 
     def alone(self, pair: Pair) -> dict[Key, float]:
         """The serial order, with the second of two tasks before the first, and what it needs before both."""

@@ -88,6 +88,6 @@ class Ends(Gate):
             self.long += now - one.since > LONG
             if parent_of(pid) != one.above or now - one.since > LONG:
                 self.let_end(pid)
-        if self.held and self.stalled.is_so(root, self.held) and not is_reported(self.reports):  # guard: ends-that-nobody-has-heard-of
+        if self.held and self.stalled.is_so(root, self.waiting, self.held) and not is_reported(self.reports):  # guard: ends-that-nobody-has-heard-of
             self.let_end(min(self.held, key=lambda pid: len(children_of(self.held[pid].above))))
         return False

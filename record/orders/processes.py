@@ -51,13 +51,14 @@ def children_of(pid: int) -> list[int]:
     return found
 
 
-def below(root: int) -> Iterator[int]:
-    """A process, and all below it."""
+def below(root: int, but: Container[int] = ()) -> Iterator[int]:
+    """A process, and all below it, except some and those below these."""
     rest = [root]
     while rest:
         pid = rest.pop()
-        yield pid
-        rest += children_of(pid)
+        if pid not in but:
+            yield pid
+            rest += children_of(pid)
 
 
 def is_settled(pid: int, waiting: Container[int], seen: set[int]) -> bool:
@@ -87,12 +88,12 @@ def shown(pid: int, name: str) -> str:
         return ""
 
 
-def pulse(root: int, waiting: Container[int]) -> list[tuple[int, str]] | None:
-    """How long each process of a build has run so far; nothing where one runs, or lets a time pass. One that is held by who traces it does neither, and
-    `waiting` are those of which this is known."""
+def pulse(root: int, waiting: Container[int], held: Container[int]) -> list[tuple[int, str]] | None:
+    """How long each process of a build has run so far; nothing where one runs, or lets a time pass. Those that wait at the gate do neither, and have started
+    none; nor does one that is held by who traces it, and of those in `held` it is known."""
     found = []
-    for pid in below(root):
-        if pid in waiting:
+    for pid in below(root, waiting):
+        if pid in held:
             continue
         if words_of(pid)[0] not in "SZXt" or any(one in shown(pid, "wchan") for one in SLEEPS):  # guard: who-is-held-by-a-tracer
             return None
@@ -106,9 +107,9 @@ class Stalled:
 
     last: tuple[object, float] = (None, 0.0)  # the last pulse, and since when it is the same
 
-    def is_so(self, root: int, waiting: Container[int]) -> bool:
+    def is_so(self, root: int, waiting: Container[int], held: Container[int] = ()) -> bool:
         """Looks again."""
-        found, now = pulse(root, waiting), time.monotonic()
+        found, now = pulse(root, waiting, held), time.monotonic()
         if found is None or found != self.last[0]:
             self.last = (found, now)
         return found is not None and now - self.last[1] > STILL

@@ -11,12 +11,11 @@ from typing import Any, Optional
 
 from record.orders.builds import FLIPPED, MANY, ONE, OWN, SERIAL, Built, CannotTry, Plan, Room, Running, side_by_side
 from record.orders.gate import Key
-from record.orders.graph import Graph, Pair, numbers, placed, size
+from record.orders.graph import Graph, Left, Pair, placed, size
 from record.orders.trees import difference, differing, passing
 
 AT_ONCE = 4  # builds that run side by side
 SHOWN = 5  # differences that are named
-FEW = 6  # so many conflicts are tried alone
 
 
 @dataclass
@@ -60,34 +59,25 @@ class Trial:
     bases: set[int] = field(default_factory=set)  # with so many jobs the order of the serial build leaves the same
 
     def __post_init__(self) -> None:
-        self.pairs = [*self.soft]  # those that no other order has tried yet
-        self.looked = self.graph.looked(self.after)  # the same of recipes whose order somebody may have seen: for each the earlier ones  # guard: looks-are-tried
-        some = self.untried()
-        self.single = some if len(some) <= FEW else []  # those that are turned round alone
+        self.left = Left(self.graph.apart(self.after), [*self.soft])  # guard: all-pairs-are-tried
+        self.single = [*self.left.all()] if self.left.count() <= AT_ONCE else []  # those that are turned round alone
         self.turned = [0] * len(self.graph.tasks)
         self.unstable: list[set[str]] = [set() for _ in self.serial]  # names in which serial builds differ
         self.passing: list[list[re.Pattern[str]]] = [[] for _ in self.serial]
 
     def expected(self) -> int:
         """How many builds it will take if nothing differs, and each runs as its order says."""
-        orders = [self.graph.flipped()]
-        left, orders = self.unturned(orders, self.untried()), orders + self.each_alone()
-        while left and len(orders) < self.most:
-            orders.append(self.graph.covering(left))
-            left, known = self.unturned(orders, left), len(left)
-            if len(left) == known:
-                break
-        return 1 + len(orders) + len(self.one_by_one())
+        orders = [self.graph.ordered(range(len(self.graph.tasks))), *self.each_alone()]
+        builds, left, known = 1 + len(orders) + len(self.one_by_one()), self.unturned(self.left, *orders), self.left
+        while left.count() and left != known and builds < self.most:
+            builds, left, known = builds + 1, self.unturned(left, self.graph.covering(left)), left
+        return builds
 
-    def untried(self) -> list[Pair]:
-        """All pairs that no other order has tried yet."""
-        return list(dict.fromkeys(self.pairs + [(first, second) for second, some in enumerate(self.looked) for first in numbers(some)]))
-
-    def unturned(self, orders: Sequence[dict[Key, float]], pairs: list[Pair]) -> list[Pair]:
-        """The pairs that some orders do not turn round, where each build runs as its order says."""
+    def unturned(self, left: Left, *orders: dict[Key, float]) -> Left:
+        """Those of some pairs that some orders do not turn round, where each build runs as its order says."""
         for places in orders:
-            pairs = self.graph.left(pairs, sorted(places, key=lambda key: -places[key]))
-        return pairs
+            left = self.graph.behind(left, sorted(places, key=lambda key: -places[key]))
+        return left
 
     def each_alone(self) -> list[dict[Key, float]]:
         """What a look finds may depend on several: orders that turn round each pair alone, and where there are many, one in which all users come first."""
@@ -143,16 +133,16 @@ class Trial:
 
     def pass_unseen(self) -> None:
         """Conflicts of which nobody sees what they do stay races."""
-        self.pairs, self.cleared = ([pair for pair in some if not self.is_unseen(pair)] for some in (self.pairs, self.cleared))  # guard: what-is-not-compared-clears-nothing
+        self.left.soft, self.cleared = ([pair for pair in some if not self.is_unseen(pair)] for some in (self.left.soft, self.cleared))  # guard: what-is-not-compared-clears-nothing
 
     def is_unseen(self, pair: Pair) -> bool:
         """Whether what two tasks leave is not compared."""
-        return any(self.is_loose(number, {first, second}) for number, first, second in self.soft[pair])
+        return any(self.is_loose(number, first, second) for number, first, second in self.soft[pair])
 
-    def is_loose(self, number: str, labels: set[str]) -> bool:
-        """Whether two serial builds differ in what some tasks of a build leave, or perhaps in what somebody leaves who is no task."""
+    def is_loose(self, number: str, *labels: str) -> bool:
+        """Whether two serial builds differ in what some tasks of a build leave."""
         loose = {os.path.join(self.room.tops[number], name) for number, found in enumerate(self.unstable) for name in found}
-        return bool(loose) and ("" in labels or any(not loose.isdisjoint(self.graph.left_by(number, label)) for label in labels))
+        return bool(loose) and any(not loose.isdisjoint(self.graph.left_by(number, label)) for label in labels)
 
     def names(self, built: Built) -> list[tuple[int, str]]:
         """What a build left otherwise: the tree, and the name in it."""
@@ -177,22 +167,20 @@ class Trial:
     def note(self, built: Built) -> None:
         """A build that left the same clears what it turned round."""
         self.others += 1
-        for at, earlier in enumerate(self.graph.turned(built.began)):
-            self.turned[at] |= earlier
-            self.looked[at] &= ~earlier
-        left = self.graph.left(self.pairs, built.began)
-        self.cleared += [pair for pair in self.pairs if pair not in left]
-        self.pairs = left
+        self.turned = [one | earlier for one, earlier in zip(self.turned, self.graph.turned(built.began))]
+        known, self.left = self.left.soft, self.graph.behind(self.left, built.began)
+        left = {*self.left.soft}
+        self.cleared += [pair for pair in known if pair not in left]
 
     def run(self, running: Running) -> None:
-        """All builds: the flipped one, those in which one conflict alone is turned, and those that cover what is left, the first with two jobs."""
+        """All builds: the flipped one, that with one job, those in which one pair alone is turned, and those that cover what is left."""
         plans = self.begin(running)
-        covers = [] if plans or not self.count() else [self.cover(2)]  # beside the others, where the flipped one has shown what is left
+        covers = [] if plans or not self.left.count() else [self.cover()]  # beside the others, where the flipped one has shown what is left
         self.try_all(plans + covers + self.one_by_one() + [Plan("alone%d" % number, places, after=self.after) for number, places in enumerate(self.each_alone())])
-        left = self.count() + 1
-        while 0 < self.count() < left or self.pairs and len(covers) < 2:
-            left = self.count()
-            covers.append(self.cover(MANY if covers else 2))
+        left = self.left.count() + 1
+        while 0 < self.left.count() < left or self.left.soft and len(covers) < 2:
+            left = self.left.count()
+            covers.append(self.cover(not covers))
             self.try_all(covers[-1:])
             if not self.goes_on:
                 break
@@ -201,13 +189,9 @@ class Trial:
         """Where the recorded build ran several recipes at once, a build with one job: make goes through targets in another order then."""
         return [Plan("one", placed(self.order), ONE, self.after)] if self.is_parallel else []  # guard: jobs-of-the-recorded-build
 
-    def count(self) -> int:
-        """How many pairs no other order has tried yet."""
-        return len(self.pairs) + size(self.looked)
-
-    def cover(self, jobs: int) -> Plan:
-        """A build that turns round what no other has."""
-        return Plan("cover", self.graph.covering(self.untried()), jobs, self.after)
+    def cover(self, is_first: bool = True) -> Plan:
+        """A build that turns round what no other has; the first one with two jobs, where conflicts are left."""
+        return Plan("cover", self.graph.covering(self.left), 2 if is_first and self.left.soft else MANY, self.after)
 
     def try_all(self, plans: Sequence[Plan]) -> None:
         """Makes builds, some at once."""
@@ -241,8 +225,7 @@ class Trial:
                 return
             self.after.setdefault(found.second, set()).add(found.first)
             both = {self.graph.keys.get(found.first), self.graph.keys.get(found.second)}
-            self.pairs = [one for one in self.pairs if {*one} != both]
-            self.looked = [one & other for one, other in zip(self.looked, self.graph.looked(self.after))]
+            self.left = Left([one & other for one, other in zip(self.left.recipes, self.graph.apart(self.after))], [one for one in self.left.soft if {*one} != both])
             self.cleared = [one for one in self.cleared if {*one} != both]
             (built, ended), = self.make(Plan("again", built.plan.places, built.plan.jobs, self.after))
         self.note(built)
@@ -319,10 +302,10 @@ class Trial:
     def result(self) -> dict[str, Any]:
         """What a record keeps of it."""
         return {"builds": self.others, "failed": self.failed, "made": self.builds, "pairs": self.graph.pairs(), "turned": size(self.turned),
-                "untried": any(self.looked) or any(self.is_loose(number, {*by}) for number, build in self.graph.builds.items() for by, *_ in build["looks"]),
+                "untried": bool(self.graph.pairs()) and (any(self.left.recipes) or any(self.is_loose(number, *build["labels"]) for number, build in self.graph.builds.items())),
                 "files": sum(text.startswith("file") for held in self.serial for text in held.values()),
                 "unstable": sorted(os.path.join(self.room.tops[number], name) for number, found in enumerate(self.unstable) for name in found),
-                "cleared": [one for pair in self.cleared for one in self.soft[pair]], "left": [one for pair in self.pairs for one in self.soft[pair]], "shown": list(map(self.shown_labels, self.shown))}
+                "cleared": [one for pair in self.cleared for one in self.soft[pair]], "left": [one for pair in self.left.soft for one in self.soft[pair]], "shown": list(map(self.shown_labels, self.shown))}
 
     def shown_labels(self, one: Shown) -> dict[str, Any]:
         """A difference, by the build and the labels of its two recipes."""

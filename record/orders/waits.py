@@ -14,7 +14,7 @@ from typing import cast
 
 from record.folder import Record
 from record.judge import judge
-from record.orders.builds import Plan, Room, side_by_side
+from record.orders.builds import OWN, Plan, Room, side_by_side
 from record.orders.exploring import say
 from record.orders.trees import remove
 from record.report import read_json
@@ -34,7 +34,7 @@ def races_of(record: Path, race: str) -> set[tuple[str, str, str, str]]:
 
 def try_waits(room: Room, record: Record, out: Path, race: str, most: int) -> Record:
     """The record that counts: with what is known of its waits, or another one that shows a race which this one does not."""
-    plans = [Plan("held%d" % number, {}, 1, is_recorded=True, ends=frozenset(row)) for number, row in enumerate(record.apart[:min(MOST, most)])]
+    plans = [Plan("held%d" % number, {}, OWN, is_recorded=True, ends=frozenset(row)) for number, row in enumerate(record.apart[:min(MOST, most)])]
     if not plans:
         return record
     say(len(plans), record, ", in which processes are held at their end")

@@ -9,13 +9,12 @@ import re
 from typing import Callable, Dict, Iterable, List, Tuple
 
 from record.commands import shelltext
-from record.commands.system import SETTINGS, TEMPORARY
+from record.commands.system import SETTINGS
 from record.trace.arguments import TEXT_END, Opening, opening, spelled
 from record.trace.classes import COPIES, DOUBLES, LIMITS, NO_FILES, PAIRS, SHARING, SIGNALLED, SIGNALS, SLEEPS, WAITS, WRITES
 from record.trace.descriptors import CHANGING, OF_KERNEL, READING, requests
 from record.trace.events import (
-    ABSENT, AGE_SEEN, AGE_TAKEN, CREATED, ENTERED, FOLDER_ASKED, FOLDER_KEPT, FOLDER_REMOVED, HELD, LINKS_CHANGED, LISTED, MADE,
-    MADE_BEFORE, MADE_QUIETLY, MAKE_LISTED, MODE_CHANGED, MODE_GIVEN, READ, REFUSED, REMOVED, SEEN, TIME_CHANGED,
+    ABSENT, CREATED, ENTERED, FOLDER_CHANGED, FOLDER_KEPT, FOLDER_REMOVED, HELD, LISTED, MADE, MADE_BEFORE, MADE_QUIETLY, MAKE_LISTED, READ, REFUSED, REMOVED, SEEN, TIME_SET,
 )
 from record.trace.findwords import find_patterns
 from record.trace.lives import Life
@@ -37,7 +36,7 @@ CHANGES = {"chmod", "chown", "lchown", "utime", "utimes", "truncate", "setxattr"
            "setxattrat", "removexattrat", "file_setattr"}  # guard: new-names
 TIMES = {"utime", "utimes", "utimensat", "futimesat", "utimensat_time64"}
 BY_NUMBER = {"fchmod", "fchown", "fchown32", "ftruncate", "ftruncate64", "fsetxattr", "fremovexattr"}  # by a descriptor alone
-NUMBERED = {"umask", *SIGNALS, *LIMITS, *WAITS, *WRITES, *NO_FILES}  # calls whose first number is no descriptor  # guard: no-descriptors
+NUMBERED = {*SIGNALS, *LIMITS, *WAITS, *WRITES, *NO_FILES}  # calls whose first number is no descriptor  # guard: no-descriptors
 THERE = ("EEXIST", "EISDIR", "ENXIO", "EACCES", "ENOTEMPTY")  # errors of an open that say that something has the name
 
 # Parts of arguments, as strace shows them.
@@ -45,9 +44,7 @@ OF_PROCESS = re.compile(r"/proc/(?:(\d+)(?:/|$)|loadavg$)")  # `/proc/123/stat`:
 SOCKET = re.compile(r'sun_path="((?:[^"\\]|\\.)*)"')  # `{sa_family=AF_UNIX, sun_path="d/socket"}`
 ANY_PORT = re.compile(r"_port=htons\(0\)")  # `sin_port=htons(0)`: the kernel chooses the number
 GIVEN_TIME = re.compile(r"tv_[nu]sec=\d+\}(?: /\*[^*]*\*/)?\]|modtime=")  # `[.., {tv_sec=5, tv_nsec=0}]`: a time, and not UTIME_NOW or UTIME_OMIT
-MODE = re.compile(r", (0[0-7]*)$")  # of `mkdir("d", 0755)`
 GONE = " (deleted)"  # so strace 5.10 shows a name that is gone already
-GIVEN_MODE = re.compile(r", (0[0-7]+)(?:, [A-Z0-9_|]+)?$")  # of `fchmodat(AT_FDCWD</w>, "d", 0755, AT_SYMLINK_NOFOLLOW)`
 TIMED = re.compile(r"\s(-\w*w|--(wait|timeout))")  # words of a program that waits for a lock, but not for ever: `flock -w SECONDS`
 
 
@@ -98,44 +95,18 @@ class Calls(Started):
         return found.base, found.path
 
     def on_look(self, life: Life, call: Call, ok: bool) -> None:
-        """A look at a name: at what stands there, or at the link itself. All but a few calls show its age too."""
+        """A look at a name: at what stands there, or at the link itself."""
         base, path, folder, is_open, at_link = spelled(call.args)
         if folder:
             life.folder = folder
         if not path or is_open:
-            self.on_fstat(life, call, ok)
             return
         if path.startswith("/proc/"):
             self.note_watcher(life, path)  # guard: looks
         follow = not at_link and call.name not in NOFOLLOW
         plain = path if call.name == "stat" or (call.name == "newfstatat" and follow and not path.startswith("/")) else ""
         link = call.name.startswith("readlink") and ok
-        found = self.look(life, path, ok or call.error == "EINVAL", follow, READ if link else SEEN, base, plain)
-        is_folder = found.inode is not None and found.inode.kind == "d"
-        if "access" not in call.name and "readlink" not in call.name and not (is_folder and self.is_own(life, path, found)):  # guard: folders-for-what
-            self.note_times(life, found.path, is_folder)
-
-    def note_times(self, life: Life, path: str, is_folder: bool, how: str = "") -> None:
-        """Who looks at a file may go by its age; of a folder it also sees the size, and the number of links. `how`: a zero byte where it looks by a descriptor."""
-        if not self.goes_by_times(life) or path in TEMPORARY and not self.is_inside(path):
-            return
-        if is_folder and self.is_inside(path):
-            self.put(life, FOLDER_ASKED, "%s\0%s%s" % (path, shelltext.base_name(life.argv), how))  # guard: folders-that-are-asked
-        if not how:
-            self.put(life, AGE_SEEN, path)
-
-    def on_fstat(self, life: Life, call: Call, ok: bool) -> None:
-        """A look at what is open. Who lists a folder asks for its size on the way."""
-        if ok and "_mode=S_IFDIR" in call.args:
-            self.note_times(life, "".join(folders(call.args)[:1]), True, "\0")
-
-    @staticmethod
-    def is_own(life: Life, path: str, found: Found) -> bool:
-        """Whether a shell or an interpreter looks at the folder that it is in, or at one above, as they do by themselves; interpreters also at those in which
-        they look for modules, by their whole paths."""
-        traits = life.traits()
-        above = traits.is_interpreter or (life.folder.rstrip("/") + "/").startswith(found.path.rstrip("/") + "/")
-        return (traits.is_shell or traits.is_interpreter) and (path == "." or path.startswith("/") and above)  # guard: folders-by-whole-names
+        self.look(life, path, ok or call.error == "EINVAL", follow, READ if link else SEEN, base, plain)
 
     def on_chdir(self, life: Life, call: Call, ok: bool) -> None:
         """A process looks at a folder and enters it, with its threads."""
@@ -143,9 +114,6 @@ class Calls(Started):
         if not path:  # none that the process can read  # guard: folder-without-name
             return
         found = self.look(life, path, ok, True)
-        for key in ((AGE_SEEN, found.path), (FOLDER_ASKED, "%s\0%s" % (found.path, shelltext.base_name(life.argv)))) if ok else ():
-            if next(reversed(life.events), None) == key:  # `cd` looks before it enters  # guard: folders-that-are-entered
-                del life.events[key]
         if ok:
             life.enter(found.path)
             self.put(life, ENTERED, found.path)
@@ -189,8 +157,6 @@ class Calls(Started):
         if call.opened.startswith("/") and call.opened not in (found.path, found.path + GONE) and not DEVICES.match(call.opened):  # guard: names-that-are-gone
             self.holes.append("a name leads to another file than the record says: %s is %s, and not %s" % (path, call.opened, found.path))  # guard: hole
         life.handle = (call.result, found.path) if "O_PATH" in flags else (-1, "")  # guard: numbers-of-open-files
-        if "O_TRUNC" not in flags and life.traits().is_shell and path != shelltext.script_of(life.argv):
-            life.opened.add(found.path)
         self.note_stand_in(life, found.path)
         if changes or call.name == "creat":
             self.open_to_write(life, found, flags, call.name == "creat")
@@ -251,22 +217,18 @@ class Calls(Started):
         if is_folder and life.is_make and life.number >= 0:
             return self.open_by_make(life, found.path)
         self.put_look(life, found, True, SEEN if is_folder else READ)
-        traits = life.traits()
         if is_folder or life.is_query:
             return
         if life.is_make:
             self.is_open_shell = self.is_open_shell or shelltext.sets_options_in(found.path)  # guard: options-in-environment
-        elif traits.is_shell:
+        elif life.traits().is_shell:
             life.taken += (found.path,) if shelltext.takes_in(life.argv, found.path) else ()  # guard: what-they-read-first
-        elif not traits.is_interpreter and self.goes_by_times(life):
-            self.put(life, AGE_SEEN, found.path)  # guard: what-is-opened
 
     def on_list(self, life: Life, call: Call, ok: bool) -> None:
         """A folder is listed: the event says for which names. Make remembers what it lists."""
         where = folders(call.args)
         if not ok or not where:
             return
-        life.events.pop((FOLDER_ASKED, "%s\0%s\0" % (where[0], shelltext.base_name(life.argv))), None)  # guard: folders-that-are-listed
         if life.is_make:
             self.put(life, MAKE_LISTED, where[0])
         elif where[0] == "/proc":  # guard: listed-said
@@ -281,7 +243,7 @@ class Calls(Started):
         return ["*"] if self.is_open_shell or life.taken or life.cut else find_patterns(life) or shelltext.patterns(life.argv, False)  # guard: names
 
     def on_mkdir(self, life: Life, call: Call, ok: bool) -> None:
-        """A folder is made, or is there already: with a word where the program shows who was first, else quietly; and its mode."""
+        """A folder is made, or is there already: with a word where the program shows who was first, else quietly."""
         base, path = self.base_and_path(life, call)
         found = self.found(life, path.rstrip("/") or "/", False, base)
         quiet = shelltext.is_quiet_mkdir(life.argv) and not self.is_inside(life.program)  # guard: quiet-makers
@@ -301,20 +263,10 @@ class Calls(Started):
             self.put(life, MADE_QUIETLY if quiet else MADE_BEFORE, found.path)
             if found.inode is None or found.inode.kind != "d":  # guard: whose-name-file
                 self.put_look(life, found, True, SEEN)  # a file, or a link, has the name
-        if ok or call.error == "EEXIST":
-            mode = MODE.search(call.args)
-            given = self.given_by(life, found.path) or "%o" % (int(mode.group(1), 8) & ~life.mask if mode else -1)
-            self.put(life, MODE_GIVEN, found.path + "\0" + given)  # guard: modes-of-several-makers
         else:
             self.look(life, path, False, False, base=base)
             if found.missing:
                 self.put(life, ABSENT, found.missing)
-
-    def given_by(self, life: Life, path: str) -> str:
-        """The mode and the owner that a folder has when `install -d` has ended, which names it: who makes it, and in how many steps, makes no difference."""
-        given, names = shelltext.given_by(tuple(life.argv))
-        begun = next((up.programs[-1].folder for up in life.up() if up.programs), life.folder)  # it may go into a folder on the way  # guard: from-where-they-are-named
-        return given if given and any(self.names.find(begun, name, True).path == path for name in names) else ""  # guard: those-above
 
     def on_mknod(self, life: Life, call: Call, ok: bool) -> None:
         """A file, a pipe with a name or a device is made: it counts as a file that is written. Who opens such a pipe waits for the other end."""
@@ -328,7 +280,7 @@ class Calls(Started):
             self.put_absent(life, found, SEEN if call.error == "EEXIST" else ABSENT)
 
     def on_unlink(self, life: Life, call: Call, ok: bool) -> None:
-        """A name or a folder is removed, and a file has a name less; or it is looked at, and stays."""
+        """A name or a folder is removed; or it is looked at, and stays."""
         base, path = self.base_and_path(life, call)
         found = self.found(life, path.rstrip("/"), False, base)
         folder = call.name == "rmdir" or "AT_REMOVEDIR" in call.args
@@ -343,11 +295,9 @@ class Calls(Started):
             self.names.take(found.folder, found.name)
         self.put(life, FOLDER_REMOVED if folder else REMOVED, found.path)
         self.hard_links += others[:1]  # guard: one-that-is-removed
-        for other in others:
-            self.put(life, LINKS_CHANGED, other)
 
     def on_change(self, life: Life, call: Call, ok: bool) -> None:
-        """A file's length, mode, owner, time or attributes change: it is written. Of a folder the mode or the time changes."""
+        """A file's length, mode, owner, time or attributes change: it is written."""
         base, path = self.base_and_path(life, call) if call.name not in BY_NUMBER else ("", "")  # guard: number-of-file
         path = path or next(iter(folders(call.args)), "")
         if not path or not path.startswith("/") and call.name in BY_NUMBER:
@@ -356,14 +306,13 @@ class Calls(Started):
             self.look(life, path, False, True, base=base)
             return
         found = self.found(life, path, call.name not in NOFOLLOW and "NOFOLLOW" not in call.args, base)
-        if call.name in TIMES and GIVEN_TIME.search(TEXT_END.sub("", call.args)):
-            self.put(life, AGE_TAKEN, found.path + "\0")  # guard: that-are-set
-        if found.inode is not None and found.inode.kind == "d":
-            mode = GIVEN_MODE.search(call.args) if "chmod" in call.name else None  # guard: whose-owner-changes
-            given = self.given_by(life, found.path) or "%o" % (int(mode.group(1), 8) if mode else -1)  # guard: made-in-several-steps
-            self.put(life, *((TIME_CHANGED, found.path) if call.name in TIMES else (MODE_CHANGED, "%s\0%s" % (found.path, given))))
-        else:
+        is_folder = found.inode is not None and found.inode.kind == "d"
+        if call.name in TIMES and (is_folder or GIVEN_TIME.search(TEXT_END.sub("", call.args))):
+            self.put(life, TIME_SET, found.path)  # guard: that-are-set
+        if not is_folder:
             self.write(life, found)
+        elif call.name not in TIMES:
+            self.put(life, FOLDER_CHANGED, found.path)
 
     def on_ioctl(self, life: Life, call: Call, ok: bool) -> None:
         """A request about an open file: it may change the file, or the names in a folder."""
@@ -380,7 +329,6 @@ Handler = Callable[[Calls, Life, Call, bool], None]
 # The calls of Linux that each method takes. Their classes are in classes.py: a call without a class and without a method is a hole.
 METHODS: Tuple[Tuple[Handler, Iterable[str]], ...] = (
     (Calls.on_look, LOOKS),
-    (Calls.on_fstat, ("fstat", "fstat64", "oldfstat")),
     (Calls.on_change, CHANGES),
     (Calls.on_open, ("open", "openat", "openat2", "creat")),
     (Calls.on_list, ("getdents", "getdents64", "readdir")),
@@ -401,7 +349,6 @@ METHODS: Tuple[Tuple[Handler, Iterable[str]], ...] = (
     (Calls.on_ptrace, ("ptrace",)),
     (Calls.on_kill, SIGNALS),
     (Calls.on_limits, LIMITS),
-    (Calls.on_umask, ("umask",)),
     (Calls.on_unshare, ("unshare",)),
     (Calls.on_fcntl, ("fcntl", "fcntl64")),
     (Calls.on_ioctl, ("ioctl",)),

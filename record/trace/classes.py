@@ -10,7 +10,7 @@ from typing import Dict
 # What is left out of a trace, and why that hides no change and no look.
 REASONS: Dict[str, str] = {
     # Reads of what is open count where it is opened, and so do writes for who opens it: no call opens a file to write that does not say so.
-    "what is open": """read readv pread64 preadv preadv2 lseek _llseek llseek tee vmsplice fallocate fstatfs fstatfs64 fgetxattr flistxattr fsync fdatasync sync syncfs sync_file_range
+    "what is open": """read readv pread64 preadv preadv2 lseek _llseek llseek tee vmsplice fallocate fstatfs fstatfs64 fgetxattr flistxattr fsync fdatasync sync syncfs sync_file_range fstat fstat64 oldfstat umask
         sync_file_range2 arm_sync_file_range fadvise64 fadvise64_64 arm_fadvise64_64 readahead cachestat close close_range timerfd_gettime timerfd_gettime64 timerfd_settime timerfd_settime64
         io_setup io_submit io_cancel io_destroy io_getevents io_pgetevents io_pgetevents_time64 io_uring_enter io_uring_register getcwd""",
     # A socket counts where it is made, gets a name or is connected; who accepts has given it a name.

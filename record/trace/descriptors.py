@@ -5,7 +5,7 @@ from typing import List, Set
 
 from record.commands import shelltext
 from record.trace.classes import HIDING, LEFT_OUT, NO_FILES, SHARING, UNFOLLOWED, WRITES, named
-from record.trace.events import CREATED, HELD, LOCKED, MAKER_SEEN, MODE_GIVEN, OUTPUT
+from record.trace.events import CREATED, HELD, LOCKED, MAKER_SEEN, OUTPUT
 from record.trace.lives import Life
 from record.trace.names import Found, Inode
 from record.trace.processes import Processes
@@ -116,14 +116,12 @@ class Opened(Processes):
         return LOCK_FILE.match(flags) is not None and shelltext.base_name(life.argv) == "flock" and waits(life.argv) and not self.is_inside(life.program)  # guard: how-it-is-opened
 
     def open_to_lock(self, life: Life, found: Found) -> None:
-        """The file of a lock, and the bits without which it is made. What runs under the lock has it open, too."""
+        """The file of a lock."""
         if found.inode is None and found.folder is not None:
             found.inode = Inode("f")
             self.names.put(found.folder, found.name, found.inode)
             self.put(life, CREATED, found.path)
         self.put(life, LOCKED, found.path)
-        self.put(life, MODE_GIVEN, "%s\0%o" % (found.path, life.mask))  # guard: modes-of-time
-        life.opened.add(found.path)  # guard: number-of-open-file
 
     def note_stand_in(self, life: Life, path: str) -> None:
         """Who opens a make as a file finds the copy that lies over it: it sees another file than without the recorder."""

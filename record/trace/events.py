@@ -11,8 +11,6 @@ BY_LIST = "l"  # the same, and the process had listed the folder: the list has s
 ABSENT = "N"  # nothing was there; or a name could not be made, since its folder was absent
 WAY_ABSENT = "P"  # a folder on the way was absent
 ENTERED = "U"  # a folder was entered
-AGE_SEEN = "A"  # who looked sees its age, and may go by it
-FOLDER_ASKED = "g"  # who looked sees a folder's time, its size and the number of its links: FOLDER\0PROGRAM; with one more zero byte by a descriptor
 MAKER_SEEN = "K"  # a script looked at a folder that it makes for itself
 
 # Lists of folders.
@@ -28,14 +26,11 @@ CREATED = "C"  # a name came; that of a folder has a slash behind it
 REMOVED = "D"  # a name went
 HELD = "f"  # a lock on it was taken, or it is a pipe with a name
 LOCKED = "F"  # a file was opened for a lock: it is made where it is not there, and nothing is read or written
-LINKS_CHANGED = "H"  # a file has a name more or less
-AGE_TAKEN = "c"  # the age of another file was given to it: PATH\0OTHER; nothing behind the zero byte for one that the process looked at
 MADE = "M"  # a folder was made, by a program that shows whether it was there
 MADE_QUIETLY = "T"  # a folder was made, or was there: the program does not show which
 MADE_BEFORE = "E"  # a folder could not be made, since the name was there
-MODE_GIVEN = "o"  # the mode that a folder was made with: PATH\0MODE; of a lock the bits without which its file is made
-MODE_CHANGED = "m"  # the mode of a folder: PATH\0MODE
-TIME_CHANGED = "t"  # the time of a folder
+FOLDER_CHANGED = "m"  # what is known of a folder, as its mode
+TIME_SET = "t"  # the time of a folder was set; or that of a file, to another time than now
 FOLDER_REMOVED = "X"  # a folder went
 FOLDER_KEPT = "x"  # a folder could not be removed, since it held something
 

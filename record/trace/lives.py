@@ -59,10 +59,8 @@ class Life:
     is_heir: bool = False  # it was seen before the call that started it was finished, and has its folder from who began that call
     children: List["Life"] = field(default_factory=list)
     threads: List["Life"] = field(default_factory=list)  # those that change their folder together, with this one
-    mask: int = 0  # the bits that names are made without
     handle: Tuple[int, str] = (-1, "")  # the descriptor that it got last, and what stands behind it, where that only stands for a name
     taken: Tuple[str, ...] = ()  # files that a shell read which its text does not name as its input
-    opened: Set[str] = field(default_factory=set)  # files that it opened while it ran a shell: who it starts may have them open too
     known: Optional[Traits] = None
     begun: int = 0  # where the program began that runs now
     programs: List[Program] = field(default_factory=list)  # all that it ran itself
@@ -93,20 +91,6 @@ class Life:
         """Changes the folder, that of all threads with it."""
         for life in self.threads or (self,):
             life.folder = folder
-
-    def set_mask(self, mask: int) -> None:
-        """Changes the bits that names are made without, for all threads."""
-        for life in self.threads or (self,):
-            life.mask = mask
-
-    def handed(self) -> Set[str]:
-        """What may stand behind its descriptors: files that it has opened as a shell, or a shell of the same recipe above it."""
-        found: Set[str] = set()
-        for up in self.up():
-            if up.is_make or up.is_ninja:
-                break
-            found.update(up.opened)
-        return found
 
     def up(self) -> Iterable["Life"]:
         """This life, its parent, and so on."""

@@ -2,7 +2,7 @@
 
 from typing import Tuple
 
-from record.trace.events import ABSENT, AGE_TAKEN, CREATED, FOLDER_KEPT, FOLDER_REMOVED, LINKS_CHANGED, MADE, READ, REMOVED, SEEN, WRITTEN
+from record.trace.events import ABSENT, CREATED, FOLDER_KEPT, FOLDER_REMOVED, MADE, READ, REMOVED, SEEN, WRITTEN
 from record.trace.lives import Life
 from record.trace.names import Found, Inode
 from record.trace.replay import Replay
@@ -27,7 +27,7 @@ class Moves(Replay):
         self.holes.append("a file is known by the number of its descriptor alone: %s of %s" % (call.name, " ".join(life.argv)[:100]))
 
     def on_rename(self, life: Life, call: Call, ok: bool) -> None:
-        """The old name goes, and the new one has its file, with its age; what had the new name has a name less. Names below a folder go along."""
+        """The old name goes, and the new one has its file. Names below a folder go along."""
         if len(texts(call.args)) < 2:
             return
         old, new = self.two(life, call)
@@ -38,7 +38,6 @@ class Moves(Replay):
                 self.put(life, FOLDER_KEPT, new.path)  # that it holds something counts
             return
         self.put(life, READ, old.path)
-        self.put(life, AGE_TAKEN, new.path + "\0" + old.path)  # guard: what-is-moved
         if "RENAME_EXCHANGE" in call.args:
             self.holes.append("two names were exchanged in one step: " + old.path)  # guard: two-names-in-one-step
         if old.folder is None or new.folder is None:
@@ -46,12 +45,10 @@ class Moves(Replay):
         if old.inode is not None and old.inode is new.inode:  # guard: two-of-one-file
             return  # two names of one file: nothing happens
         inode = self.names.take(old.folder, old.name) or Inode("f")
-        gone = self.names.take(new.folder, new.name)
+        self.names.take(new.folder, new.name)
         self.put(life, REMOVED, old.path)
         self.put(life, CREATED, new.path)
         self.put(life, WRITTEN, new.path)
-        for other in self.names.aliases(gone):
-            self.put(life, LINKS_CHANGED, other)
         if inode.kind == "d":  # guard: all-below-goes
             self.move_folder(life, old.path, new.path)  # guard: come-and-go
             for name, child in self.names.below(inode, ""):
@@ -71,7 +68,7 @@ class Moves(Replay):
             one.folder = new if one.folder == old else one.folder  # guard: folders-that-are-moved
 
     def on_link(self, life: Life, call: Call, ok: bool) -> None:
-        """A file gets a second name: that is written, with the age of the first, and all names see one more."""
+        """A file gets a second name: that is written."""
         if len(texts(call.args)) < 2:
             return
         old, new = self.two(life, call)
@@ -83,9 +80,6 @@ class Moves(Replay):
         self.fresh.add(new.path)
         self.put(life, CREATED, new.path)
         self.put(life, WRITTEN, new.path)
-        self.put(life, AGE_TAKEN, new.path + "\0" + old.path)  # guard: second-name
-        for other in self.names.aliases(inode):  # guard: hard-links-are-counted
-            self.put(life, LINKS_CHANGED, other)
         if new.folder is not None:
             self.names.put(new.folder, new.name, inode)
         self.hard_links.append(new.path)

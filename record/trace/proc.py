@@ -3,12 +3,12 @@
 import re
 from typing import Mapping
 
-from record.trace.events import MODE_CHANGED, TIME_CHANGED, TREE_CHANGES
+from record.trace.events import FOLDER_CHANGED, TIME_SET, TREE_CHANGES
 from record.trace.lives import Life
 
 FOLDER = re.compile(r"/proc/(self|thread-self|\d+)/(?:task/\d+/)?(cwd|root)(/.*|$)", re.S)
 NUMBER = re.compile(r"(?:/dev/fd|/proc/(?:self|thread-self|\d+)/(?:task/\d+/)?fd)/(\d+)(/.*|$)|/dev/std(?:in|out|err)()$", re.S)
-CHANGING = TREE_CHANGES + MODE_CHANGED + TIME_CHANGED
+CHANGING = TREE_CHANGES + FOLDER_CHANGED + TIME_SET
 
 
 def plain_path(life: Life, path: str, lives: Mapping[int, Life]) -> str:

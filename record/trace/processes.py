@@ -97,10 +97,6 @@ class Processes(Moves):
         if match is None or match.group(1) != "0":  # guard: limits-of-their-own
             self.on_kill(life, call, ok)  # guard: limits-of-others
 
-    def on_umask(self, life: Life, call: Call, ok: bool) -> None:
-        """The bits that a process makes names without, as in `umask(022) = 0`."""
-        life.set_mask(int(call.args, 8))  # guard: masks
-
     def on_unshare(self, life: Life, call: Call, ok: bool) -> None:
         """A thread that asks for a folder of its own, or for what includes that."""
         if ok and re.search(r"CLONE_(?:FS|NEWNS|NEWUSER)\b", call.args):

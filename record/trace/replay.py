@@ -8,7 +8,7 @@ from record import machine
 from record.commands import shelltext
 from record.commands.system import OF_SYSTEM
 from record.trace.events import (
-    ABSENT, AGE_SEEN, BY_LIST, CHANGES, CREATED, ENTERED, FOLDER_REMOVED, MADE, MADE_QUIETLY, MAKER_SEEN, MAKE_OPENED, READ, REFUSED, REMOVED, SEEN, TREE_CHANGES, WAY_ABSENT, WRITTEN,
+    ABSENT, BY_LIST, CHANGES, CREATED, ENTERED, FOLDER_REMOVED, MADE, MADE_QUIETLY, MAKER_SEEN, MAKE_OPENED, READ, REFUSED, REMOVED, SEEN, TREE_CHANGES, WAY_ABSENT, WRITTEN,
 )
 from record.trace.courses import Course
 from record.trace.lives import Act, Life
@@ -26,8 +26,7 @@ KERNEL = ("/dev/", "/proc", "/sys")  # how a name begins that is a device, or th
 class Replay:
     """Plays the events of a trace in the name space and keeps what each life did."""
 
-    def __init__(self, names: Names, spool: str, real: str, folder: str, tops: List[str], mask: int = 0o22) -> None:
-        self.mask = mask
+    def __init__(self, names: Names, spool: str, real: str, folder: str, tops: List[str]) -> None:
         self.names, self.real, self.tops = names, real, tops
         self.own: Tuple[str, ...] = (spool,)  # folders of the recorder
         self.said = ""  # the one in which each make has a file for what it says
@@ -70,7 +69,7 @@ class Replay:
                     life.is_heir = True
                     life.parent = parents[0] if len(parents) == 1 else None  # guard: what-is-above-one-that-is-seen-first
             else:
-                life.adopted, life.mask = True, self.mask
+                life.adopted = True
             self.lives[pid] = life
             self.all.append(life)
         return life
@@ -83,9 +82,9 @@ class Replay:
 
     @staticmethod
     def inherit(child: Life, parent: Life) -> None:
-        """What a process has from who started it: its folder, its mask, and until it runs a program of its own the words."""
+        """What a process has from who started it: its folder, and until it runs a program of its own the words."""
         if not child.is_heir:  # else it may have changed these since  # guard: what-process-changed-before-its-start-is-finished
-            child.folder, child.mask = parent.folder, parent.mask
+            child.folder = parent.folder
             child.course.files = {**parent.course.files}  # guard: descriptors-of-who-started-it
             child.cut, child.taken = parent.cut, parent.taken
         child.argv = child.argv or parent.argv
@@ -110,7 +109,7 @@ class Replay:
         if life is not None and life.died > self.place or not self.all:
             return False
         parents = [self.lives[p] for p in self.begun if p in self.lives and p != pid]
-        return not self.sharing.isdisjoint(self.begun) or len({(p.folder, p.mask) for p in parents}) > 1  # guard: threads-wait-for-who-starts
+        return not self.sharing.isdisjoint(self.begun) or len({p.folder for p in parents}) > 1  # guard: threads-wait-for-who-starts
 
     def take(self, event: Event) -> None:
         """One event of a process that is known."""
@@ -159,8 +158,6 @@ class Replay:
         if path.startswith(KERNEL) and DEVICES.match(path) and not self.is_inside(path):  # guard: devices-are-no-files
             if is_hidden(kind, path):  # guard: numbers-hole
                 self.holes.append("a file is known by the number of its descriptor alone: %s of %s" % (path, " ".join(life.argv)[:100]))
-            for name in life.handed() if kind == AGE_SEEN and NUMBER.match(path) else ():  # guard: files-that-are-open
-                self.put(life, kind, name)
             return
         if path.startswith(self.own):
             return

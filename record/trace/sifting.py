@@ -23,7 +23,7 @@ READS = r", O_RDONLY(?:\|O_(?:CLOEXEC|NOCTTY|NONBLOCK|DIRECTORY|LARGEFILE|NOFOLL
 LOOKING = (
     r"\n\d+ +(?:(?:readlink|openat|newfstatat|access|faccessat2|readlinkat|open|faccessat|stat|statx|lstat|statfs)\(" + AT + r'"(FOLDERS[^"\n]*)"'
     r"(?:" + READS + r'|(?!, O_)[^"\n={]*(?:\{[^"\n]*\}[^"\n=]*|)= |, "[^"\n]*"[^"\n={]*= )' + RESULT  # guard: opens-that-change-something
-    + r'|(?:newfstatat\(\d+<[^>\n]*>, "", |fstat(?:64|)\(\d+<[^>\n]*>, )(?!\{st_mode=S_IFDIR)[^"\n]* = 0(?=\n|$)'  # guard: looks-at-open-folders
+    + r'|newfstatat\(\d+<[^>\n]*>, "", [^"\n]* = 0(?=\n|$)'
     + r'|(?:rt_sigprocmask\(|prlimit64\(0, )[^\n]*= 0(?=\n|$)'
     + r'|wait4\(-1, [^\n]*WNOHANG[^\n]* = (?:0|-1 ECHILD [^\n]*)(?=\n|$)'  # guard: waits-that-find-child
     + r'|fcntl\(\d+<[^/\n][^>\n]*>, F_DUPFD(?:_CLOEXEC|)\b[^\n]*= ' + RESULT  # guard: doubles-of-files

@@ -8,7 +8,7 @@ from record import machine
 from record.commands import shelltext
 from record.commands.copies import is_other_make
 from record.trace.descriptors import Opened
-from record.trace.events import AGE_SEEN, READ
+from record.trace.events import READ
 from record.trace.lives import Life
 from record.trace.loader import interpreter_words
 from record.trace.names import Found
@@ -45,7 +45,6 @@ class Started(Opened):
             self.unheard[id(life)] = " ".join(life.argv)[:200]
         self.look(life, words[0], True, True, READ)
         self.look_at_interpreters(life, words[0])  # guard: interpreters-are-read
-        self.note_handed(life)  # guard: what-unknown-programs-have-open
 
     def take_words(self, life: Life, call: Call, words: List[str], found: Found) -> None:
         """A life has other words from here on, those of a script as its interpreter gets them. `words`: the program, and the words that it is handed."""
@@ -83,12 +82,6 @@ class Started(Opened):
         self.look_at_interpreters(life, program)  # guard: interpreters
         life.taken += (found.path,) if error == "ENOEXEC" and life.traits().is_shell else ()  # guard: texts-that-bash-reads-itself
 
-    def note_handed(self, life: Life) -> None:
-        """A program may ask how old a file is that a shell has opened for it, and no call names that."""
-        traits = life.traits()
-        for path in life.handed() if not traits.is_interpreter and not traits.is_shell and self.goes_by_times(life) else ():
-            self.put(life, AGE_SEEN, path)
-
     def first_words(self, path: str) -> List[str]:
         """The words of a script's first line, read once: the build has ended."""
         if path not in self.firsts:
@@ -113,7 +106,3 @@ class Started(Opened):
             if self.is_real_make(found.path):  # the kernel runs make in the script's place
                 self.unheard.setdefault(id(life), " ".join(life.argv)[:200])
             self.put_look(life, found, found.inode is not None, READ)
-
-    def goes_by_times(self, life: Life) -> bool:
-        """Whether a program may go by the times of what it looks at. Makes and ninjas say which ages they compare, other than a make that only asks."""
-        return life.is_query or not (life.is_make or life.is_ninja or life.traits().is_ageless and not self.is_inside(life.program))  # guard: queries

@@ -27,6 +27,7 @@
 #include <link.h>
 #include <signal.h>
 #include <stdarg.h>
+#include <stdint.h>
 #include <stdio.h>
 #include <stdlib.h>
 #include <string.h>
@@ -284,10 +285,10 @@ static int is_word(int from_make) {
   return is_raised && from_make && (!is_open || is_base);
 }
 
-/* A part of such a word was written. */
-static void end_word(int is_end) {
+/* A part of such a word was written. Who holds recipes reads at once what make says of its children. */
+static void end_word(const char *format, int is_end) {
   is_inside = !is_end;
-  if (!is_base) fflush_unlocked(said);
+  if (!is_base && strstr(format, " child ")) fflush_unlocked(said);
 }
 
 static void note_text(int from_make, FILE *file, const char *text, size_t size) {
@@ -296,13 +297,31 @@ static void note_text(int from_make, FILE *file, const char *text, size_t size) 
   fputs_unlocked("SAID\n", said);
 }
 
+/* Whether make has said this of a child that lives: it says so of each of them whenever one ends. */
+static int is_repeated(const char *format, va_list words) {
+  static uint64_t sums[1 << 14]; /* of lines, by FNV-1a */
+  uint64_t sum = 0xcbf29ce484222325;
+  char *line;
+  va_list copy;
+  if (strncmp(format, "Live child ", 11)) return 0;
+  va_copy(copy, words);
+  int size = vasprintf(&line, format, copy);
+  va_end(copy);
+  for (int at = 0; at < size; at++) sum = (sum ^ (unsigned char)line[at]) * 0x100000001b3;
+  if (size >= 0) free(line);
+  uint64_t *known = &sums[sum >> 50], last = *known;
+  *known = sum;
+  return size >= 0 && last == sum;
+}
+
 static int print(int from_make, int flag, const char *format, va_list words) {
   if (!is_word(from_make)) return flag < 0 ? vfprintf(stdout, format, words) : __vfprintf_chk(stdout, flag, format, words);
-  note_growth();
   hold_after(in_english(format));
+  if (is_repeated(in_english(format), words)) return 0;
+  note_growth();
   int done = vfprintf(said, in_english(format), words);
   if (!strcmp(format, "%s")) fputc_unlocked('\n', said); /* why an object cannot be loaded: make ends no line there */
-  end_word(!strcmp(format, "%s") || (*format && format[strlen(format) - 1] == '\n'));
+  end_word(in_english(format), !strcmp(format, "%s") || (*format && format[strlen(format) - 1] == '\n'));
   return done;
 }
 
@@ -330,7 +349,7 @@ int puts(const char *text) {
   }
   is_reading = is_reading || !strcmp(text, "...");
   fprintf(said, "%s\n", in_english(text));
-  end_word(1);
+  end_word(text, 1);
   return 1;
 }
 

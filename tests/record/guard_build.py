@@ -7,7 +7,6 @@ from guard import FALSE_RACE, UNSAID, YES, Guard, guards
 GUARDS: List[Guard] = [
     *guards("build/builder.py",
         ("looks-by-list-are-soft", "task.read(path)", "orders.Orders.case_names_that_a_list_has_shown", UNSAID),
-        ("folders-that-nobody-changes", "if others:", "calls.Makefiles.folder_that_nobody_changes", "True is not false"),
         ("later-rules", "return self.make.acts.get((self.number, node.name)) if node.rule == 0 else None", "build.Makefiles.act_of_a_second_rule", YES),
         ("failed-looks-are-reads", 'elif kind in "RSPK" and path in writers:', "small.Makefiles.absent_file", YES),
         ("patterns-keep-other-names-out", "if (who != {at}) and join(folder, name) not in self.made:", "cases.Cases.glob_other_names", FALSE_RACE),
@@ -27,8 +26,5 @@ GUARDS: List[Guard] = [
     *guards("build/tasks.py",
         ("lists-of-folders-and-read-that-is-met", "pass", "build.Makefiles.list_of_a_folder_behind_a_read", "lists its folder"),
         ("lists-of-folders-and-read", "if True:", "build.Makefiles.list_of_a_folder_before_a_read", "lists its folder"),
-    ),
-    *guards("build/work.py",
-        ("makes-that-make-calls", "pass", "build.Makefiles.ages_in_a_make_of_a_function", UNSAID),
     ),
 ]

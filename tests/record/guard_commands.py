@@ -37,7 +37,6 @@ GUARDS: List[Guard] = [
         ("braces-with-blanks", 'found.append("*" if re.search(r"[{}]", pattern) or ends and "[" in bare else pattern)', "shelltext.Readings.brackets_that_a_quote_cuts"),
         ("word-that-is-cut", 'loud = any(w == "--verbose" or re.match(r"-[a-zA-Z]*v", w) for w in words)', "shelltext.Makefiles.folder_that_is_told", YES),
         ("mkdir-v-is-not-quiet", 'return any(w == "--parents" or re.match(r"-[a-zA-Z]*p", w) for w in words)', "cases.Cases.folder_mkdir_v", YES),
-        ("modes", 'return ("%s %s:%s" % ("755", found.get("o", ""), found.get("g", "")), tuple(names)) if is_known else ("", ())', "shelltext.Makefiles.folder_of_one_owner_and_two_modes", UNSAID),
         ("extutils-of-perl", "return -1", "small.Makefiles.folders_made_by_mkpath", FALSE_RACE),
         ("folder-that-it-makes", "return False", "shelltext.Folders.scripts_that_make_folders"),
         ("no-other-folder", 'return True or any(is_on_the_way(folder, name) for name in names) or any("/" + os.path.normpath(name) + "/" in folder for name in filled)',

@@ -6,7 +6,6 @@ from guard import FALSE_RACE, LOST_HOLE, LOST_RACE, UNSAID, WITHHELD, YES, Guard
 
 GUARDS: List[Guard] = [
     *guards("ninja/build.py",
-        ("its-log-and-time-of-folder", "pass", "ninja.Ninja.log_and_the_time_of_its_folder", UNSAID),
         ("header-that-log-knows-is-no-input", "after = [{place[m.number] for m in manifest.makers_of(edge) + [manifest.makers[p] for p in __import__('subprocess').run(['ninja', '-C', self.ninja.folder, '-t', 'deps', edge.label], capture_output=True, text=True).stdout.split() if p in manifest.makers] if m.number in place} for edge in kept]",
          "ninja.Ninja.warm_by_log_of_headers", LOST_RACE),
         ("header-that-log-knows-is-no-input", "after = [{place[m.number] for m in manifest.makers_of(edge) + [k for k in kept if k.value('pool') == edge.value('pool') != '' and k.number < edge.number] if m.number in place} for edge in kept]",
@@ -24,7 +23,6 @@ GUARDS: List[Guard] = [
         ("looks-for-inputs-that-dyndep-file-adds", "pass", "ninja.Ninja.dyndep_input_of_nobody", YES),
         ("its-folders-are-made-quietly", 'work.add("M", above, place)', "ninja.Ninja.folder_of_outputs", WITHHELD),
         ("folder-of-no-statement", 'str("ninja made the folder %s, and no statement needs it" % path)', "ninja_runs.Holes.folder_that_no_statement_needs"),
-        ("ages-of-folders-inside", "pass", "ninja.Ninja.age_of_a_folder_inside", UNSAID),
         ("its-log", "pass", "ninja_runs.Makefiles.log_of_ninja", YES),
         ("outputs-that-dyndep-file-adds", "pass", "ninja.Ninja.dyndep_output_of_another_file", YES),
         ("ninja", "pass", "locks.Others.ninja", FALSE_RACE),
@@ -63,8 +61,6 @@ GUARDS: List[Guard] = [
     ),
     *guards("ninja/manifest.py",
         ("validations-give-none", "return self.inputs + self.implicit + self.order_only + self.validations", "ninja.Ninja.validation", YES),
-        ("ages-of-what-depfile-names", "todo = edge.inputs + edge.implicit", "ninja.Ninja.ages_of_a_depfile", UNSAID),
-        ("ages-of-what-its-log-of-headers-names", "return [name for path in edge.makes() for name in ()]", "ninja.Ninja.ages_of_a_log_of_headers", UNSAID),
     ),
     *guards("ninja/retry.py",
         ("absent-files-first", "found[text] = min(found.get(text, 2), 0)", "ninja.Hints.absent_files_first"),
@@ -74,7 +70,6 @@ GUARDS: List[Guard] = [
     *guards("ninja/runs.py",
         ("all-below-goals", "numbers = set() if goals is not None else {edge.number for edge in manifest.edges}", "ninja.Ninja.warm", LOST_HOLE),
         ("ninja-of-another-name", "elif False:", "ninja.Ninja.another_name", LOST_HOLE),
-        ("ninja-below-command", "work.ninjas = [by_life[id(life)] for life in ()]", "ninja.Ninja.ages_of_an_inner_ninja", UNSAID),
         ("words-that-cannot-be-read", 'str("ninja ran commands, and its words cannot be read: " + " ".join(life.argv)[:100])', "ninja_runs.Holes.words_that_cannot_be_read"),
         ("no-manifest", 'str("a ninja read no manifest: " + " ".join(life.argv)[:100])', "ninja_runs.Holes.ninja_that_read_no_manifest"),
         ("manifest-that-is-remade-begins-again", 'elif act.place > begin and act.kind == "R" and act.path == target and not places:', "ninja.Ninja.remade_manifest", LOST_RACE),

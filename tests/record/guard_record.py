@@ -175,7 +175,6 @@ GUARDS: List[Guard] = [
         ("said", "pass", "premises.Makefiles.process_beside_make", UNSAID),
         ("what-make-with-nothing-to-do-finds", "found += paths", "warm.Warm.what_is_removed_and_made_by_several_makes", WITHHELD),
         ("makes-outside-of-project", 'return [path for path in found if names.before.get(path) in ("f", "l")]', "warm.Beyond.make_that_has_nothing_to_do"),
-        ("interpreters", "pass", "small.Makefiles.interpreters", UNSAID),
         ("another-language", "if False:", "premises.Loaded.text_in_another_language", UNSAID),
         ("tried-by-cmake", "pass", "ninja.Ninja.tried_by_cmake", UNSAID),
         ("two-beside-each-other", "pass", "ninja.Ninja.beside_each_other", UNSAID),

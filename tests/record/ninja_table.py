@@ -57,8 +57,6 @@ CASES = [
     Case("two-outputs", RACE, sh("h", "", "echo 1 > g; echo > h") + sh("a", "", USE)),
     Case("pool", RACE, "pool one\n  depth = 1\n" + sh("a", "", LOG, "pool = one") + sh("b", "", LOG, "pool = one"), ["both are in the pool one, which runs one at a time"]),
     Case("pool-deep", RACE, "pool two\n  depth = 2\n" + sh("a", "", LOG, "pool = two") + sh("b", "", LOG, "pool = two"), ["both are in the pool two of depth 2"]),
-    Case("age-of-a-folder-inside", SAFE, sh("pre", "", "ninja -C sub && touch pre") + sh("in", "pre", "ninja -C sub && touch in") + sh("gen", "", "touch sub/d/n gen"),
-         ["programs that look at a folder"], files={"sub/build.ninja": RULES + sh("out", "d", LOG)}, setup="mkdir sub/d"),
     Case("console", RACE, sh("a", "", LOG, "pool = console") + sh("b", "", LOG, "pool = console"), ["both are in the pool console"]),
     Case("response-file", RACE, named("f", "build a: s x\n  f = r\nbuild b: s y\n  f = r\n"), files={"x": "", "y": ""}),
     Case("response-file-own", SAFE, named("f", "build a: s x\n  f = r1\nbuild b: s y\n  f = r2\n"), files={"x": "", "y": ""}),
@@ -130,12 +128,9 @@ CASES = [
     Case("log-is-gone", NONE, GEN, ["ninja left no log"], words="sh ./all", files={"all": "ninja; rm .ninja_log\n"}),
     Case("several-at-once", RACE, GEN + sh("a", "", "sleep 1; " + USE), words="sh ./all", files={"all": "ninja -j4\n"}),
     Case("several-at-once-ordered", SAFE, GEN + sh("a", "g", USE) + sh("b", "", "sleep 0.3; touch b"), words="sh ./all", files={"all": "ninja -j4\n"}),
-    Case("ages", SAFE, sh("x", "", "touch x") + sh("y", "", "sleep 0.1; touch y") + sh("a", "x y", "if test x -nt y; then echo 1; fi > a"), ["who looks at two files"]),
     Case("link-through", RACE, sh("s", "", "mkdir -p real; ln -s real s; touch $out") + sh("a", "s", "echo > s/f; touch a") + sh("b", "s", "cat real/f > b; true")),
 ]
 CASES += [
-    Case("ages-of-an-inner-ninja", SAFE, sh("x", "", "touch x") + sh("y", "", "sleep 0.1; touch y") + sh("z", "x y", "ninja -C sub && touch z"), ["who looks at two files"],
-         files={"sub/build.ninja": RULES + "build ../y: sh ../x\n  c = touch ../y ran\n"}),
     Case("ages-of-two-inputs", SAFE, sh("x", "", "touch x") + sh("y", "", "sleep 0.1; touch y") + sh("z", "x y", "ninja -C sub && touch z"),
          files={"sub/build.ninja": RULES + sh("out", "../x ../y", "cat ../x ../y > out")}),
     Case("beside-each-other", SAFE, sh("g", "", "timeout 60 sh -c 'until test -e sub/began; do sleep 0.02; done'; echo 1 > g"), ["two makes or ninjas that ran at once"], words="sh ./all",
@@ -167,8 +162,6 @@ CASES += [
 ]
 GENERATOR = "rule gen\n  command = $c\n  generator = 1\nbuild h: gen s\n  c = cp s h\n"
 TRY = "set -e; d=CMakeFiles/CMakeScratch/TryCompile-aB1; mkdir -p $d; cp next $d/build.ninja; ninja -C $d; rm -r CMakeFiles\n"
-LATER = "build a: sh\n  c = sleep 0.1; touch a\nbuild x: sh%s\n  c = echo ran >> log; touch x\n"
-AGAIN = REMADE.replace("next.ninja\n", "next.ninja | a x\n")
 FILES = DYNDEP.replace("build a", "build m") % (" | m.x", "") + "a"
 CASES += [
     Case("warm-generator-that-is-up-to-date", NONE, GENERATOR + sh("a", "", "cat h > a"), ["WARM  1 file", "  h"], setup="touch -d 2001-01-01 s; cp s h", files={"s": ""}),
@@ -180,9 +173,6 @@ CASES += [
     Case("dyndep-output-of-another-file", RACE, sh("dda", "", FILES) + sh("dd", "", DYNDEP % ("", " | m.x")) + sh("m", "|| dda", "touch m m.x", "dyndep = dda") + sh("a", "|| dd m", "cat m.x > a", "dyndep = dd"),
          ["which dyndep files ninja has read before it"]),
     Case("dyndep-output-of-another-file-ordered", SAFE, sh("dda", "", FILES) + sh("dd", "dda", DYNDEP % ("", " | m.x")) + sh("m", "|| dda", "touch m m.x", "dyndep = dda") + sh("a", "|| dd", "cat m.x > a", "dyndep = dd")),
-    Case("ages-after-a-remade-manifest", SAFE, AGAIN + LATER % "", ["who looks at two files"], files={"next.ninja": RULES + AGAIN + LATER % " a"}, setup="touch -d 2001-01-01 build.ninja"),
-    Case("ages-after-a-remade-manifest-ordered", SAFE, AGAIN + LATER % " || a", files={"next.ninja": RULES + AGAIN + LATER % " a"}, setup="touch -d 2001-01-01 build.ninja"),
-    Case("ages-of-a-later-ninja", SAFE, LATER % "", ["who looks at two files"], words="sh ./all", files={"all": "ninja -j1; ninja -j1 -f next.ninja\n", "next.ninja": RULES + LATER % " a"}),
     Case("path", SAFE, sh("a", "", "echo $$PATH > a")),
     Case("tried-by-cmake", SAFE, sh("x", "", "./cmake && touch x"), ["CMake's try_compile builds"], setup="chmod +x cmake", files={"cmake": "#!/bin/sh\n" + TRY, "next": RULES + GEN + sh("a", "g", USE)}),
     Case("another-name", NONE, GEN + sh("a", "", USE), ["a ninja of another name ran past the recorder: ./n2"], setup="cp $(command -v ninja) n2", files={"Makefile": "x: ; ./n2 -j1\n"}, words="make"),
@@ -190,19 +180,12 @@ CASES += [
 ]
 LISTING, BESIDE = {"d/x": "", "e/x": ""}, sh("d/b", "", "touch $out")
 DEPS = "rule r\n  command = echo '$out: d/x' > $out.m; touch $out\n  deps = gcc\n  depfile = $out.m\nbuild d/b: r\n"
-NAMED = sh("h", "", "touch h") + sh("x", "", "sleep 0.1; echo 'x: h' > x.m; touch x")
 CASES += [
     Case("log-that-is-listed", RACE, BESIDE + sh("e/a", "", "ls -A . > e/a"), ["that the log of ninja is there"], files=LISTING),
     Case("log-that-is-listed-behind-another", SAFE, BESIDE + sh("e/a", "d/b", "ls -A . > e/a") + sh("d/c", "", "touch d/c"), files=LISTING),
     Case("log-that-a-pattern-does-not-fit", SAFE, BESIDE + sh("e/a", "", "echo *.x > e/a"), files=LISTING),
     Case("log-that-was-there", SAFE, BESIDE + sh("e/a", "", "ls -A . > e/a"), files=LISTING, setup="ninja -j1 d/b > /dev/null; rm d/b", options=["--warm"]),
     Case("log-of-headers-that-is-listed", RACE, sh("d/c", "", "touch d/c") + DEPS + sh("e/a", "d/c", "ls -A . > e/a"), files=LISTING),
-    Case("log-and-the-time-of-its-folder", SAFE, "builddir = l\n" + BESIDE + sh("e/a", "", "test l -nt e/x > e/a; touch e/a"), ["programs that look at a folder"], files={"l/x": "", **LISTING}),
-    Case("ages-of-a-later-make", SAFE, LATER % "", ["who looks at two files"], words="sh ./all", files={"all": "ninja -j1; make -f next.mk\n", "next.mk": "x: a ; touch x\n"}),
-    Case("ages-of-a-later-make-ordered", SAFE, LATER % " || a", words="sh ./all", files={"all": "ninja -j1; make -f next.mk\n", "next.mk": "x: a ; touch x\n"}),
-    Case("ages-that-a-script-compares", SAFE, LATER % "", ["who looks at two files"], words="sh ./all", files={"all": "ninja -j1; if test x -nt a; then touch y; fi\n"}),
-    Case("ages-of-a-depfile", SAFE, NAMED, ["who looks at two files"], words="sh ./all",
-         files={"all": "ninja -j1; ninja -f next.ninja\n", "next.ninja": "rule g\n  command = touch x y\n  generator = 1\nbuild x: g\n  depfile = x.m\n"}),
     Case("folder-that-was-removed-first", RACE, sh("a", "", "mkdir -p d; touch a") + sh("b", "", "echo > d/b; touch b"), ["that the folder"], words="sh ./all", files={"all": "rm -r d; ninja -j1\n", "d/x": ""}),
     Case("folder-that-a-stage-removed", RACE, REMADE.replace("next.ninja\n", "next.ninja | r\n") + sh("r", "", "rm -r d; touch r"), ["that the folder"], setup="touch -d 2001-01-01 build.ninja",
          files={"next.ninja": RULES + REMADE + sh("a", "", "mkdir -p d; touch a") + sh("b", "", "echo > d/b; touch b"), "d/x": ""}),
@@ -218,7 +201,6 @@ CASES += [
     Case("log-that-is-listed-for-the-manifest", SAFE, GLOBS % "ls -A . > /dev/null" + "build d/a: sh\n  c = touch d/a\ndefault d/a\n", files={"v": "", "w": "", "s": "", "d/x": ""}, setup=OLD),
     Case("statement-for-the-manifest-that-runs-later", RACE, (GLOBS % "touch s").replace("touch $out", "touch $out z") + "build a: sh\n  c = test -f z && echo 1 > a; touch a\ndefault w a\n",
          ["RACE  z"], files={"v": "", "w": "", "s": ""}, setup=OLD, races=1),
-    Case("ages-of-a-log-of-headers", SAFE, HEADS, ["who looks at two files"], files={"next.ninja": RULES + HEADS}, setup="touch -d 2001-01-01 build.ninja"),
     Case("ages-of-a-log-of-headers-ordered", SAFE, HEADS.replace("build x: r", "build x: r | h0"), files={"next.ninja": RULES + HEADS.replace("build x: r", "build x: r | h0")},
          setup="touch -d 2001-01-01 build.ninja"),
 ]

@@ -2,10 +2,7 @@
 
 from test_small import Small, makefiles
 
-PAIR = "all: c\na: ; touch a\nb: ; touch b\nc: a b ; "
 Makefiles = makefiles(__name__, {
-    # ages
-    "ages_in_a_make_of_a_function": Small("safe", PAIR + "echo '$(shell $(MAKE) -s -f in.mk)' > c\n", {"in.mk": "b: a ; touch b\n"}, says="who looks at two files"),
     # what make does itself
     "act_of_a_second_rule": Small("race", "all: s a b\ns: ; touch s\na:: ; touch a\na:: s ; $(file >x,1)echo >> a\nb: ; cat x > b || true\n"),
     # lists of folders, which are said to be that

@@ -8,7 +8,6 @@ from typing import Set, Tuple
 
 import support
 from record.trace.sifting import Skip
-from test_courses import RUN
 from test_replay import TOP, events_of, lives_of, played
 from test_small import Small, makefiles
 
@@ -43,19 +42,10 @@ TREE = "mkdir -p d/e; touch d/e/x.c"
 IS_THERE = "RACE  d  (that the folder"
 # b looks for a file by way of d, which a makes.
 WAY = "all: a b\na: ; mkdir d; touch a\nb: ; cat %s > b || echo none > b\n"
-OWNED = "U := $(shell id -un)\nall: a b\na: ; install -d -o $U -m %s d; touch d/$@ $@\nb: ; install -d -o $U d -m %s; touch d/$@ $@\n"
-FOLDERS = "programs that look at a folder"
-LINKS = """#include <fcntl.h>
-#include <stdio.h>
-#include <sys/stat.h>
-int main(int n, char **a) { struct stat s; stat(a[1], &s); printf("%d\\n", (int)s.st_nlink); return 0; }
-"""
-ASKED = "all: a b\na: ; mkdir d/n; touch a\nb: ; %s\n"
 Makefiles = makefiles(__name__, {
     # sockets
     "socket_without_a_file_that_nobody_opened": Small("safe", "all: ; python3 t/s.py; touch all\n", {"t/s.py": SOCKET}, says="servers that processes talk to"),
     # how many names a file has
-    "names_that_a_script_counts_less": Small("safe", "all: a u\na: ; rm y; touch a\nu: ; python3 n.py > u\n", {"x": "x", "n.py": "import os\nprint(os.lstat('x').st_nlink)\n"}, "ln x y", says="do not count the names of a file"),
     # names that cannot be made, as their folder is not there, or is full
     "socket_in_a_folder_that_is_absent": Small("race", ABSENT % "python3 t/s.py", {"t/s.py": "import socket\nsocket.socket(socket.AF_UNIX).bind('d/y')\n"}),
     "file_without_a_name_in_a_folder_that_is_absent": Small("race", ABSENT % "python3 t/t.py", {"t/t.py": "import os\nos.open('d', os.O_TMPFILE | os.O_WRONLY)\n"}),
@@ -65,13 +55,7 @@ Makefiles = makefiles(__name__, {
     "pattern_of_what_a_shell_reads_first": Small("race", BASH + "export BASH_ENV = s\nall: a b\na: ; echo a > d/n\nb: ; show > b; echo e/*.x >> b\n", {"s": FUNCTION, "d/k": "k", "e/1.x": ""}),
     "pattern_of_options_in_the_environment": Small("race", BASH + "export BASHOPTS = extglob\nall: a b\na: ; echo a > d/n\nb: ; echo d/@(n|m) e/*.x > b\n", {"d/k": "k", "e/1.x": ""}),
     # ages
-    "size_of_a_folder": Small("safe", "all: a b\na: ; echo 1 > d/n; touch a\nb: ; stat -c %s d > b\n", {"d/k": "k"}, below="/dev/shm", says="programs that look at a folder"),
     # what programs ask of a folder
-    "folder_that_a_shell_enters": Small("safe", BASH + HERE % "cat s", {"d/s": ""}, lacks="programs that look at a folder"),
-    "folder_that_an_unknown_program_asks_for": Small("safe", ASKED % "./l d > b", {"d/k": "", "l.c": LINKS}, "cc -o l l.c", says="(1, such as l of"),
-    "open_folder_that_an_unknown_program_asks_for": Small("safe", ASKED % "./l d > b", {"d/k": "", "l.c": LINKS.replace("stat(a[1]", "fstat(open(a[1], 0)")}, "cc -o l l.c", says="(1, such as l of"),
-    "folder_that_a_known_program_asks_for": Small("safe", ASKED % "cc -Id -c k.c -o b", {"d/k": "", "k.c": ""}, lacks=FOLDERS),
-    "folder_that_nobody_changes": Small("safe", (ASKED % "./l d > b").replace("b:", "b: a"), {"d/k": "", "l.c": LINKS}, "cc -o l l.c", lacks=FOLDERS),
     # what goes past files
     "name_of_a_socket": Small("race", "all: a b\na: ; python3 t/s.py; touch a\nb: ; if test -S s; then echo yes; fi > b\n", {"t/s.py": OTHER_SOCKET}),
     "memory": Small("safe", "all: ; python3 m.py; touch all\n", {"m.py": SHARED}, says="memory is shared"),
@@ -96,40 +80,24 @@ Makefiles = makefiles(__name__, {
     "folder_that_was_a_file_and_is_named": Small("race", SCRIPT % "rm y; mkdir y", {"s": "for f in y/*.c; do echo $f; done\n"}, TREE + "; touch y"),
     "folder_that_a_path_by_way_of_proc_leaves_again": Small("race", WAY % "/proc/self/cwd/d/../f", {"f": ""}, says=IS_THERE),
     # folders that several recipes give an owner
-    "folder_of_one_owner": Small("safe", OWNED % ("755", "755"), lacks="programs that look at a folder"),
-    "folder_of_one_owner_in_one_more": Small("safe", OWNED.replace(" d;", " d/e;").replace(" d -m", " d/e -m").replace("d/$@", "d/e/$@") % ("755", "755"), lacks="programs that look at a folder"),
 })
-
-
-class Strict(unittest.TestCase):
-    """With --strict what could be tried out bars the yes."""
-
-    def test_folders(self) -> None:
-        with support.Project({"Makefile": ASKED % "./l d > b", "d/k": "", "l.c": LINKS}) as project:
-            project.sh("cc -o l l.c")
-            outcome = project.record(["make"], ["--strict"])
-        self.assertEqual(2, outcome.status, outcome.text())
-        self.assertIn("--strict: programs that look at a folder", outcome.text())
 
 
 class Traces(unittest.TestCase):
     """Lines of a trace."""
-
-    def test_folder_that_is_open(self) -> None:
-        lines = [RUN % 1, '1 openat(AT_FDCWD<%s>, "d", O_RDONLY|O_DIRECTORY) = 3<%s/d>' % (TOP, TOP), '1 newfstatat(3<%s/d>, "", {st_mode=S_IFDIR|0755, st_size=40, ...}, AT_EMPTY_PATH) = 0' % TOP]
-        lists = "1 getdents64(3<%s/d>, 0x5 /* 0 entries */, 32768) = 0" % TOP
-        for more, wanted in (([], True), ([lists], False)):
-            found = events_of(lives_of(played(*lines, *more), 1)[0])
-            self.assertEqual(wanted, ("g", "d\0tool\0") in found, more)
 
     def test_attribute_by_a_number(self) -> None:
         for name in ("fsetxattr(3<%s/x>, \"user.k\", \"v\", 1, 0)", "fremovexattr(3<%s/x>, \"user.k\")"):
             life = lives_of(played("1 " + name % TOP + " = 0"), 1)[0]
             self.assertIn(("W", "x"), events_of(life), name)
 
+    def test_name_of_two_that_is_removed(self) -> None:
+        opened = f'1 openat(AT_FDCWD<{TOP}>, "x", O_WRONLY|O_CREAT, 0666) = 3<{TOP}/x>'
+        self.assertEqual([TOP + "/y", TOP + "/y"], played(opened, '1 link("x", "y") = 0', '1 unlink("x") = 0').hard_links)
+
     def test_owner_of_a_folder(self) -> None:
         life = lives_of(played('1 mkdir("d", 0777) = 0', '1 chown("d", 0, 0) = 0', '1 fchmodat2(AT_FDCWD<%s>, "d", 0750, 0) = 0' % TOP), 1)[0]
-        self.assertEqual({("m", "d\0-1"), ("m", "d\x00750")}, {event for event in events_of(life) if event[0] == "m"})
+        self.assertIn(("m", "d"), events_of(life))
 
     def test_settings_of_the_kernel(self) -> None:
         opened = '1 openat(AT_FDCWD</w>, "/proc/sys/kernel/hostname", %s) = 3</proc/sys/kernel/hostname>'
@@ -179,15 +147,6 @@ class Descriptors(unittest.TestCase):
         replay = played(made, '1 link("x", "y") = 0', '1 rename("x", "y") = 0', "1 vfork() = 2", made.replace("1", "2", 1))
         self.assertIn(("W", "y"), events_of(lives_of(replay, 2)[0]))
 
-    def test_what_an_unknown_program_looks_at(self) -> None:
-        for path, wanted in (("/var/x", True), ("/tmp", False)):
-            replay = played('1 execve("/opt/tool", ["tool", "x"], 0x1 /* 1 var */) = 0', '1 stat("%s", {st_mode=S_IFDIR|0777, st_size=4096, ...}) = 0' % path)
-            self.assertEqual(wanted, ("A", path) in lives_of(replay, 1)[0].events, path)
-
-    def test_looks_that_show_no_age(self) -> None:
-        for call in ('access("/var/x", R_OK) = 0', 'readlink("/var/x", "y", 8) = 1'):
-            self.assertNotIn(("A", "/var/x"), lives_of(played('1 execve("/opt/tool", ["tool", "x"], 0x1 /* 1 var */) = 0', "1 " + call), 1)[0].events)
-
     def test_folder_of_modules(self) -> None:
         opened = '1 openat(AT_FDCWD<%s>, "gcm.cache/m.gcm~", O_RDWR|O_CREAT|O_TRUNC|O_CLOEXEC, 0666) = ' % TOP
         lines = [opened + "-1 ENOENT (No such file or directory)", '1 mkdir("gcm.cache", 0777) = 0', opened + "3<%s/gcm.cache/m.gcm~>" % TOP]
@@ -205,12 +164,3 @@ class Descriptors(unittest.TestCase):
     def test_who_waits_for_changes(self) -> None:
         replay = played('1 execve("/opt/tool", ["tool", "x"], 0x1 /* 1 var */) = 0', '1 inotify_add_watch(3<anon_inode:inotify>, "d", IN_CREATE) = 1')
         self.assertEqual(["tool x"], replay.watchers)
-
-
-class OwnersOfFolders(unittest.TestCase):
-    """Lines of a trace."""
-
-    def test_folder_above_one_that_gets_an_owner(self) -> None:
-        run = '1 execve("/usr/bin/install", ["install", "-d", "-g", "w", "-o", "u", "-m", "750", "d/e"], 0x7 /* 9 vars */) = 0'
-        life = lives_of(played(run, '1 mkdir("d", 0755) = 0', '1 mkdir("d/e", 0700) = 0', '1 fchown(3<%s/d/e>, 1, 1) = 0' % TOP, '1 fchmod(3<%s/d/e>, 0750) = 0' % TOP), 1)[0]
-        self.assertEqual({("o", "d\0" + "755"), ("o", "d/e\x00750 u:w"), ("m", "d/e\x00750 u:w")}, {event for event in events_of(life) if event[0] in "om"})

@@ -8,8 +8,7 @@ import sys
 import tempfile
 import unittest
 from pathlib import Path
-from typing import Dict, List, Optional, Tuple
-from unittest import mock
+from typing import Dict, List, Tuple
 
 import forked
 import support

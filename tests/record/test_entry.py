@@ -10,7 +10,6 @@ import tempfile
 import unittest
 from pathlib import Path
 from typing import Dict, Sequence, Tuple
-from unittest import mock
 
 from support import TOP, Project, race_program
 

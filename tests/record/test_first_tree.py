@@ -103,8 +103,7 @@ class Left(unittest.TestCase):
 
     def test_folder_that_two_make(self) -> None:
         self.warm({"Makefile": "all: a b\na b: ; -mkdir obj\n"}, "mkdir obj", "obj")
-        self.warm({"Makefile": "all: a b\na: ; mkdir -p -m 700 obj\nb: ; mkdir -p obj\n"}, "mkdir obj", "obj")
-        self.assertEqual(0, self.recorded({"Makefile": "all: a b\na: ; mkdir -p -m 700 obj\nb: a ; mkdir -p obj\n"}, "mkdir obj").status)
+        self.assertEqual(0, self.recorded({"Makefile": "all: a b\na b: ; mkdir -p obj\n"}, "mkdir obj").status)
 
     def test_name_that_could_not_be_made(self) -> None:
         for recipe in ("ln -s src h", "python3 -c \"open('h', 'x')\""):

@@ -106,11 +106,6 @@ class Folders(unittest.TestCase):
         self.assertEqual(["d/@seen"], self.meet([("M", "d"), ("C", "d/")], [("L", "\0*")]))
         self.assertEqual([], self.meet([("M", "d"), ("C", "d/")], [("L", "\0*.c")]))
 
-    def test_what_others_change(self) -> None:
-        for first, second, path in (([("m", "d\0mode")], [("S", "d")], "d"), ([("H", "x")], [("R", "x")], "x"), ([("m", "d\0mode")], [("C", "d/n"), ("W", "d/n")], "d")):
-            found = build_of({"a": [], "b": []}, {"a": first, "b": second}, {"d": "d", "x": "f"}).asked
-            self.assertEqual({TOP + "/" + path: ({1}, {0})}, found, path)
-
     def test_scripts_that_make_it(self) -> None:
         self.assertEqual([], self.meet([("T", "d"), ("W", "d/x")], [("K", "d"), ("W", "d/y")]))
 
@@ -118,32 +113,9 @@ class Folders(unittest.TestCase):
 class Ages(unittest.TestCase):
     """Ages that somebody compares."""
 
-    def test_two_names_that_a_third_compares(self) -> None:
-        rules = {"a": [], "b": [], "c": ["a", "b"]}
-        done: Dict[str, Events] = {"a": [("C", "x"), ("W", "x")], "b": [("C", "y"), ("W", "y")], "c": [("A", "x"), ("A", "y")]}
-        self.assertEqual([(2, {0, 1})], build_of(rules, done).looks)
-        self.assertEqual([], build_of({"a": [], "b": ["a"], "c": ["a", "b"]}, done).looks)
-        self.assertEqual([], build_of(rules, {**done, "c": [("A", "x")]}).looks)
-        self.assertEqual([], build_of(rules, {**done, "b": [("W", "x")], "c": [("A", "x")]}).looks)
-
-    def test_many_names_by_few_writers(self) -> None:
-        names = ["n%d" % n for n in range(900)]
-        rules = {"a": [], "b": [], "c": ["a", "b"]}
-        build = build_of(rules, {"a": [("W", n) for n in names[:450]], "b": [("W", n) for n in names[450:]], "c": [("A", n) for n in names]})
-        self.assertEqual([(2, {0, 1})], build.looks)
-
-    def test_age_of_a_folder_by_what_is_in_it(self) -> None:
-        rules = {"a": [], "b": [], "c": ["a", "b"]}
-        done: Dict[str, Events] = {"a": [("C", "d/x")], "b": [("W", "y")], "c": [("A", "d"), ("A", "y")]}
-        self.assertEqual([(2, {0, 1})], build_of(rules, done, {"d": "d", "y": "f"}).looks)
-
-    def test_time_of_a_folder(self) -> None:
-        self.assertEqual({TOP + "/d": ({1}, {0})}, build_of(AB, {"a": [("C", "d/x")], "b": [("g", "d\0tool")]}, {"d": "d"}).asked)
-
 
 Makefiles = makefiles(__name__, {
     # names that cannot be made, as their folder is not there, or is full
-    "folder_that_is_closed": Small("safe", "all: a u\na: ; chmod 600 d; touch a\nu: ; cat d/x > u\n", {"d/x": "x"}, says="programs that look at a folder"),
     "folder_that_is_not_closed": Small("safe", "all: a u\na: ; chmod 700 d; touch a\nu: ; cat d/x > u\n", {"d/x": "x"}),
     # folders that several recipes give an owner
     "folder_of_one_owner_whose_mode_is_changed": Small("race", OWNED % ("755", "755; chmod 700 d"), is_tried=True),

@@ -10,7 +10,6 @@ INSIDE = "all: a b\na: ; $(MAKE) -f in.mk\nb: ; echo 'V = 2' > y.x; touch b\n"
 TAKES = "a: ; echo '$^$(V)' > a\n"
 LOOPS = "P = k\nF = $(wildcard $(P))\n%s\na: ; echo $(X) > a; rm -f *.q\n"
 # c lists d first; d/a looks for names there, and d/b, which nothing orders with d/a, makes one.
-FIRST = "all: c d/a d/b\ns: ; touch s\nc: s ; echo $(wildcard d/*.q) > c\nd/a: s ; %s > $@\nd/b: c ; touch d/z.q $@\n"
 ASKS = "X := $(wildcard $(P))\na: ; echo $(X) > a\n"
 # `a` starts when `s` has ended, and sets something of make; `b` may start before or after that.
 LATE = "V = 1\n%sall: a b\ns: ; touch s\na: s ; %stouch a\nb: ; %s > b\n"

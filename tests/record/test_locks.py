@@ -6,7 +6,7 @@ from typing import Dict
 
 import support
 from test_replay import TOP, events_of, played
-from test_small import LOOKS, Small, test_of
+from test_small import Small, test_of
 
 # Two recipes under one lock, which nothing orders, and a third one.
 BOTH = "all: a b c\na b: ; flock lock touch $@\n"
@@ -50,13 +50,6 @@ LOCKS: Dict[str, Small] = {
     "folder_that_comes_first": Small("safe", "all: a b\nd: ; mkdir d\na b: | d ; flock d/lock touch $@\n"),
     "folder_that_its_maker_uses_too_early": Small("race", "all: b a\nb: ; mkdir -p d; touch b\na: ; flock d/lock true || echo no > a; mkdir -p d; touch a\n"),
     "folder_that_is_removed": Small("race", "all: d a b c\nd: ; mkdir d\na b: | d ; flock d/lock touch $@\nc: | d ; rmdir d 2>/dev/null; touch c\n"),
-    "folder_of_which_somebody_asks_for_the_time": Small("safe", "all: c\nx: ; mkdir -p d; touch x\na: x ; flock d/lock touch $@\ny: ; touch y\nc: a y ; test d -nt y && echo yes > c || touch c\n", says=LOOKS),
-    "time_of_its_folder_by_the_second": Small("safe", "all: c\nx: ; mkdir -p d; touch x\na: x ; flock d/lock touch $@\nb: a z ; flock d/lock touch $@\n"
-                                              "e: z ; flock d/lock touch $@\nz: x ; touch z\ny: a ; touch y\nc: b e y ; test d -nt y && echo yes > c || touch c\n", says=LOOKS),
-    "masks_that_differ": Small("race", "all: a b\na: ; umask 077; flock lock touch $@\nb: ; flock lock touch $@\n"),
-    "masks_that_differ_and_change": Small("race", "all: a b\na: ; umask 077; flock -F lock sh -c 'umask 022; touch $@'\nb: ; flock lock touch $@\n"),
-    "age_behind_both": Small("safe", "all: c\na b: ; flock lock touch $@\ny: ; touch y\nc: a b y ; test lock -nt y && echo yes > c || touch c\n", says=LOOKS),
-    "file_by_its_number": Small("safe", "all: c\na: ; touch lock a\ny: ; touch y\nc: a y ; flock lock -c 'test /dev/fd/3 -nt y && echo yes' > $@ || true\n", says=LOOKS),
     # makes inside
     "age_that_an_unknown_program_under_it_asks_for": Small("safe", "all: a b\na b: ; flock lock ./s -Lc %s /dev/fd/3 > $@\n", {"s.c": ""}, setup="cp $(command -v stat) s"),
     "locks_of_two_makes": Small("safe", "all: a b\na b: ; $(MAKE) -f in.mk G=$@\n", {"in.mk": "all: $G.x $G.y\n$G.x $G.y: ; flock lock touch $@\n"}),

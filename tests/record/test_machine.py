@@ -12,6 +12,7 @@ from typing import Dict, Iterator, Set
 
 import support
 from record import machine
+from record.orders.graph import Graph
 from record.import_again import import_again
 from record.folder import rewrite
 
@@ -74,7 +75,9 @@ class Again(unittest.TestCase):
             self.assertEqual(status, ran.status, ran.stdout + ran.stderr)
             facts = shutil.move(room + "/record/trace", room + "/facts")
             shutil.rmtree(project.folder)
-            rewrite(Path(room, "again"), import_again(Path(facts), Path(room, "again"))[0])
+            record = import_again(Path(facts), Path(room, "again"))[0]
+            record.note_pairs(*Graph(Path(room, "again")).free_pairs() if record.status == 0 else (0, ""))
+            rewrite(Path(room, "again"), record)
             differs = subprocess.run(["diff", "-r", room + "/record", room + "/again"], capture_output=True, text=True, check=False)
             self.assertEqual("", differs.stdout)
 

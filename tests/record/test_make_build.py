@@ -49,10 +49,6 @@ Makefiles = makefiles(__name__, {
     "target_with_two_rules": Small("race", DOUBLE, {"t": "t", "p": "p", "x": "x"}, OLD + "x; touch -d 2002-01-01 p; touch -d 2003-01-01 t"),
     # ages of targets whose rule has no recipe
     "age_of_a_target_without_a_recipe_by_way_of_another": Small("safe", OBJECTS.replace("prog: o ", "prog: p ") % "" + "p: o\n"),
-    "age_of_a_target_without_a_recipe_that_counts": Small("safe", OBJECTS % "", {"prog": ""}, OLD + "prog", says="programs that look at a folder"),
-    "age_of_a_target_without_a_recipe_that_counts_for_one": Small("safe", OBJECTS % "" + "all: old\nold: o o/a o/b ; touch old\n", {"old": ""}, OLD + "old", says="programs that look at a folder"),
-    "age_of_a_target_without_a_recipe_that_counts_by_an_intermediate_one": Small("safe", OBJECTS % "" + "all: old\nold: mid ; touch old\nmid: o ; touch mid\n.INTERMEDIATE: mid\n", {"old": ""}, OLD + "old", says="programs that look at a folder"),
-    "age_of_a_target_without_a_recipe_that_is_a_goal": Small("safe", "all: ; $(MAKE) -f in.mk o prog\n", {"in.mk": OBJECTS % ""}, says="programs that look at a folder"),
     "search_in_a_make_inside": Small("race", INNER % "echo a > z.a", {"z.b": "b", "in.mk": "all: z.t\n" + TWO_RULES}, is_tried=True),
     "makefile_that_a_make_inside_looks_for": Small("race", "all: in gen\ngen: ; printf 'all: ; echo 2 > out\\n' > s/makefile; touch gen\nin: ; $(MAKE) -C s; touch in\n", {"s/Makefile": "all: ; echo 1 > out\n"}, is_tried=True),
     # what make looks for when it first considers a target, though what that needs is made later

@@ -43,7 +43,7 @@ CASES: Dict[str, Tuple[str, Dict[str, str], int, Tuple[str, ...]]] = {
     "targets with drawn names": ("all: a b\na: ; @$(MAKE) -s -f in.mk t$$(mktemp -u XXXXXX); echo > a\nb: ; @echo b > b\n", {"in.mk": "t%: ; @echo $@ > /dev/null\n"}, 0, ("in other orders left the same 4 files",)),
     "make in a recipe": ("all: d/a sub\nd/a: ; @echo a > d/a\nsub: ; @$(MAKE) -s -C s\n\t@touch sub\n", {"d/k": "", "s/Makefile": "list: ; @ls ../d > list\n"}, 1, (
         "  seen where sub runs before d/a:", "    s/list: line 1 is `k`, and `a` after a serial build")),
-    "look whose answer is not compared": ("all: c\n" + AB + "c: a b ; @test a -nt b && echo newer > c; date +%N >> c\n", {}, 0, ("ages (1, such as", "other orders are not compared there")),
+    "look whose answer is not compared": ("all: c\n" + AB + "c: a b ; @test a -nt b && echo newer > c; date +%N >> c\n", {}, 0, ("note: two builds in one order differ in c, so other orders are not compared there",)),
     "time of day": ("all: a b\na b: ; @date +%N > $@\n", {}, 0, ("note: two builds in one order differ in a, b, so other orders are not compared there",)),
     "hard conflict that another order shows": ("all: d/a x c\nd/a: ; @echo a > d/a\nx: ; @echo x > x\nc: ; @ls d | grep -q a || cat x > /dev/null 2>&1; echo c > c\n", {"d/k": ""}, 1, (
         "RACE  x", "  c  Makefile:4  reads it, and nothing orders the two")),
@@ -61,6 +61,14 @@ class Orders(unittest.TestCase):
         for line in wanted:
             self.assertIn(line, text)
         self.assertEqual(status, found.status, text)
+
+    def test_strict(self) -> None:
+        """A yes is barred where pairs ran in one order alone, or what they leave is not compared."""
+        for once, recipe, wanted in ((True, "echo a > a", "--strict: recipes that nothing orders come to the same in either order"), (False, "echo a > a", "SAFE"), (False, "date +%N > a", "(1, such as a and b)")):
+            with support.Project({"Makefile": "all: a b\na: ; @%s\nb: ; @echo b > b\n" % recipe}) as project:
+                found = project.record(options=("--strict",), once=once)
+            self.assertIn(wanted, found.text())
+            self.assertEqual(0 if wanted == "SAFE" else 2, found.status)
 
     def test_number_of_builds_is_said_before_they_begin(self) -> None:
         with support.Project({"Makefile": LISTS, "d/k": ""}) as project:

@@ -7,8 +7,6 @@ from test_small import COMMANDS, Small, makefiles
 
 WAIT = "until test -e %s; do sleep 0.05; done; "
 KEEPS = "all: ; %s -s -f in.mk %s\n"
-BESIDE = "all: ; %s; touch all\n"
-KEPT = {"k": "k"}
 COMPILES = "cc -shared -fPIC -o obj.so obj.c"
 OBJECT = """#include <stdio.h>
 int plugin_is_GPL_compatible;

@@ -3,7 +3,6 @@
 from test_small import COMMANDS, Small, makefiles
 
 KEPT = "all: gen t\nt: p ; touch t log\ngen: ; sleep 0.02; touch p gen\n"
-PAIR = "all: c\na: ; touch a\nb: ; touch b\nc: a b ; "
 # Two recipes with a file of their own, whose name has the time in thousandths of a second.
 TIMED = "a b: ; t=t.$$(date +%s%N | cut -c1-13); echo $@ > $$t; mv $$t $@\n"
 IDLE = "nothing was to be done"

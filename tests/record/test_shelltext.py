@@ -11,13 +11,11 @@ from record.commands import shelltext
 from record.commands.shelltext import glob_words, takes_in
 from record.commands.system import OF_SYSTEM
 from test_output import Output
-from test_small import LOOKS, Small, makefiles
+from test_small import Small, makefiles
 
 ORDER = ".PHONY: a b\nall: c\na b: ; touch d/s/$@\nr: a b ; %s; touch r\nc: r ; find e/s > c\n"
 LINKED = "all: a u\na: ; ln x y; touch a\nu: ; %s > u; touch u\n"
 OTHER_ORDER = "all: c\nd: ; mkdir d\na: | d ; touch d/a a\nb: | d ; touch d/b b\nc: a b ; %s\n"
-SIZE = "all: a b\na: ; touch d/x a\nb: ; %s > b\n"
-PAIR = "all: c\na: ; touch a\nb: ; touch b\nc: a b ; %s\n"
 BASH = "SHELL = /bin/bash\n"
 KEEPS = "all: ; %s -s -f in.mk %s\n"
 TWO = "all: a b\na b: ; @%s; touch $@\n"
@@ -27,7 +25,6 @@ OTHER_LISTS = "all: b a\na: ; touch z.i a\nb: ; %s > b\n"
 FOLDER = "all: a b\na: ; %s\nb: ; mkdir -p d; touch b\n"
 TEXT = "all: a b\na: ; %s > a\nb: ; %s; touch b\n"
 TREE = "mkdir -p d/e; touch d/e/x.c"
-OWNED = "U := $(shell id -un)\nall: a b\na: ; install -d -o $U -m %s d; touch d/$@ $@\nb: ; install -d -o $U d -m %s; touch d/$@ $@\n"
 
 
 def sh(text: str) -> List[str]:
@@ -115,12 +112,9 @@ Makefiles = makefiles(__name__, {
     # how many names a file has
     "names_that_gzip_counts": Small("race", LINKED % "gzip -k x || echo refused", {"x": "x"}, is_tried=True),
     "names_that_ls_shows_by_a_long_word": Small("race", LINKED % "ls --format=long x", {"x": "x"}, is_tried=True),
-    "names_that_a_script_counts": Small("safe", LINKED % "python3 n.py", {"x": "x", "n.py": "import os\nprint(os.lstat('x').st_nlink)\n"}, says="do not count the names of a file"),
     # the order in which a folder shows its names, and its size
     "order_that_ls_shows": Small("race", OTHER_ORDER % "ls -1U d > c", is_tried=True),
     "order_that_ls_does_not_show": Small("safe", OTHER_ORDER % "ls -1 d > c", is_tried=True),
-    "size_of_a_folder_by_ls": Small("safe", SIZE % "ls -sd d", setup="mkdir d", says="programs that look at a folder"),
-    "size_of_a_folder_by_find": Small("safe", SIZE % "find d -maxdepth 0 -size +5k", setup="mkdir d", says="programs that look at a folder"),
     # a script of which the recorder read the beginning alone
     # listings
     "pattern_of_a_quoted_word": Small("race", "all: a b\na: ; echo a > d/xayy\nb: ; echo d/x?\"yy\" > b\n", {"d/xbyy": "k"}),
@@ -132,7 +126,6 @@ Makefiles = makefiles(__name__, {
     "folder_made_or_true_for_a_program": Small("race", "all: a b\na b: ; python3 t/m.py; touch $@\n", {"t/m.py": "import subprocess\nsubprocess.run('mkdir d || true', shell=True)\n"}),
     "folder_made_or_true_behind_env": Small("safe", "all: a b\na b: ; env X=1 sh -c 'mkdir d || true'; touch $@\n", is_tried=True),
     # ages of files that somebody else has opened
-    "age_of_standard_input": Small("safe", PAIR % "stat -c %Y - < a > c; stat -c %Y b >> c", says=LOOKS),
     # folders that are made, where something shows who made them
     "folder_tested_or_made_in_a_make_with_errors": Small("safe", KEEPS % ("$(MAKE)", "> log 2>&1"), {"in.mk": TWO % "test -d d || mkdir -p d"}, is_tried=True),
     # patterns
@@ -150,7 +143,6 @@ Makefiles = makefiles(__name__, {
     "link_beside_folders_behind_a_quote": Small("race", TEXT % ("echo ''*/e/*.c", "ln -s d y"), {}, TREE),
     # a process in the background that has ended before another one begins
     # folders that several recipes give an owner
-    "folder_of_one_owner_and_two_modes": Small("safe", OWNED % ("755", "700"), says="programs that look at a folder"),
 })
 
 

@@ -30,7 +30,6 @@ class Small:
     is_tried: bool = False  # built in other orders too
 
 
-LOOKS = "who looks at two files, as make does, comes to the same"
 SMALL: Dict[str, Small] = {
     # devices, and folders that look like theirs
     "devices_are_no_files": Small("safe", "all: a b\na b: ; touch /dev/null; echo $@ > /dev/null; cat /dev/null > $@\n"),
@@ -89,10 +88,7 @@ SMALL: Dict[str, Small] = {
     "make_by_its_path": Small("race", "all: a b\na: ; echo a > a\nb: ; $(MAKE) -f in.mk\n", {"in.mk": "b: ; cp a b\n"}),
     "script_of_make": Small("race", "", {"rules": "#!%s -f\nall: a b\na: ; echo a > a\nb: ; cp a b\n" % shutil.which("make")}, "chmod +x rules"),
     # modes of folders that several make
-    "folder_of_two_masks": Small("safe", "all: a b\na: ; umask 077; mkdir -p d; touch a\nb: ; mkdir -p d; touch b\n", says="programs that look at a folder"),
     "folder_of_the_mode_that_it_is_given": Small("safe", "all: a b\na: ; umask 022; mkdir -p d; chmod 755 d; touch a\nb: ; umask 022; mkdir -p d/e; touch b\n"),
-    "folder_of_another_mode_in_which_one_is_made": Small("safe", "all: a b\na: ; chmod 755 d; touch a\nb: ; mkdir d/e; touch b\n", setup="mkdir -m 700 d", says="programs that look at a folder"),
-    "folder_of_the_mode_that_only_one_gives_it": Small("safe", "all: a b\na: ; umask 077; mkdir -p d; chmod 755 d; touch a\nb: ; umask 077; mkdir -p d/e; touch b\n", says="programs that look at a folder"),
     "folders_made_by_mkpath": Small("safe", "all: d/a d/e/b d/e/c\nd/a d/e/b d/e/c: ; umask 022; perl -MExtUtils::Command -e mkpath -- $(@D); chmod 755 $(@D); touch $@\n"),
     "folders_made_by_pm_to_blib": Small("safe", "all: d/auto/A/a d/a\nd/a: ; perl -MExtUtils::Install -e \"pm_to_blib({@ARGV}, 'd/auto', q[], '755')\" -- A.pm d/A.pm; touch $@\n"
                                         "d/auto/A/a: ; perl -MExtUtils::Command -e mkpath -- $(@D); touch $@\n", {"A.pm": "package A;\nuse AutoLoader;\n1;\n__END__\n"}, setup="umask 022"),
@@ -105,26 +101,20 @@ SMALL: Dict[str, Small] = {
     "folder_that_is_listed_later": Small("safe", "all: a b\na: ; mkdir -p p/q; ls p > a\nb: ; mkdir -p p/q; touch b\n", {"p/k": ""}),
     "folder_that_is_listed_for_modules_first": Small("safe", "all: a b\na b: ; python3 -S gen.py $@\n", {
         "gen.py": "import email, os, sys\nos.makedirs('out', exist_ok=True)\nopen('out/' + sys.argv[1], 'w').close()\nopen(sys.argv[1], 'w').close()\n"}, is_tried=True),
-    "folder_of_two_modes": Small("safe", "all: a b\na: ; mkdir -p -m 700 d; touch a\nb: ; mkdir -p d; touch b\n", says="programs that look at a folder"),
     "folder_of_one_mode": Small("safe", "all: a b\na: ; umask 022; mkdir -p -m 755 d; touch a\nb: ; umask 022; mkdir -p d; touch b\n"),
     # ages that are taken over
-    "age_that_touch_takes_over": Small("safe", "all: c\na b: ; touch $@\nr: a b ; touch r; touch -r a r\nc: r ; test r -nt b || true; touch c\n", says=LOOKS),
-    "age_that_cp_takes_over": Small("safe", "all: c\na b: ; touch $@\nr: a b ; cp -p a r\nc: r ; test r -nt b || true; touch c\n", says=LOOKS),
-    "age_of_a_file_that_is_moved": Small("safe", "all: c\na b: ; touch $@\nr: a b ; mv a x; touch r\nc: r ; test x -nt b || true; touch c\n", says=LOOKS),
-    "age_of_a_second_name": Small("safe", "all: c\na b: ; touch $@\nr: a b ; ln a x; touch r\nc: r ; test x -nt b || true; touch c\n", says=LOOKS),
-    "age_out_of_an_archive": Small("safe", "all: c\na b: ; touch $@\np: a b ; tar cf p a\nr: p ; mkdir o; tar xf p -C o; touch r\nc: r ; test o/a -nt b || true; touch c\n", says=LOOKS),
     "age_for_an_inner_make": Small("race", "all: c\na b: ; touch $@\nr: a b ; cp -p a x; touch r\nc: r ; $(MAKE) -f in.mk; touch c\n", {"in.mk": "x: b ; echo made > log\n"}, is_tried=True),
     "age_that_touch_sets_to_now": Small("safe", "all: c\na b: ; touch $@\nr: a b ; test -f a; cp a r; touch r\nc: r ; test r -nt b || true; touch c\n"),
     "age_of_a_copy_that_is_new": Small("safe", "all: c\na b: ; touch $@\nr: a b ; cp a r\nc: r ; test r -nt b || true; touch c\n"),
     "age_of_a_folder_and_a_source": Small("safe", "all: c\na b: ; touch d/$@ $@\nc: a b ; test d -nt s || true; touch c\n", {"s": ""}, setup="mkdir d"),
-    "ages_by_a_program": Small("safe", "all: c\nage: age.c ; cc -o age age.c\na b: ; touch $@\nc: a b age ; ./age a b > c\n", {
-        "age.c": "#include <sys/stat.h>\nint main(int n, char **v) { struct stat a, b; stat(v[1], &a); stat(v[2], &b); return a.st_mtime > b.st_mtime + 9; }\n"}, says=LOOKS),
-    "ages_by_a_program_with_a_known_name": Small("safe", "all: c\ncat: age.c ; cc -o cat age.c\na b: ; touch $@\nc: a b cat ; ./cat a b > c\n", {
-        "age.c": "#include <sys/stat.h>\nint main(int n, char **v) { struct stat a, b; return stat(v[1], &a) | stat(v[2], &b); }\n"}, says=LOOKS),
-    "ages_of_a_folder_by_its_whole_name": Small("safe", "all: c\na: ; touch d/n a\nb: ; touch y b\nc: a b ; test $(CURDIR)/d -nt $(CURDIR)/y && echo > c || touch c\n", setup="mkdir d", says=LOOKS),
     "ages_by_nobody": Small("safe", "all: c\na b: ; touch $@\nc: a b ; cp a b c 2>/dev/null || cat a b > c\n"),
     # listings
     "sorted_listing": Small("safe", ".PHONY: a b\nall: c\na b: ; touch d/$@\nc: a b ; ls d > c; echo d/* >> c\n", setup="mkdir d"),
+    "age_out_of_an_archive": Small("race", "all: c\na b: ; echo $@ > $@\np: a b ; tar -H posix -cf p a; mkdir o; tar xf p -C o\nc: p ; test o/a -nt b && echo newer > c || echo older > c\n", is_tried=True),
+    "ages_behind_make": Small("race", "all: x y\nx y: ; echo $@ > $@\n", is_tried=True),
+    "links_of_a_file": Small("race", "all: a b\na: ; ln x y; touch a\nb: ; stat -c %h x > b\n", {"x": "x"}, is_tried=True),
+    "folder_of_two_masks": Small("race", "all: a b\na: ; umask 077; mkdir -p d; touch a\nb: ; mkdir -p d; touch b\n", is_tried=True),
+    "lock_of_two_masks": Small("race", "all: a b\na: ; umask 077; flock lock touch $@\nb: ; flock lock touch $@\n", is_tried=True),
     "order_of_a_listing": Small("race", ".PHONY: a b\nall: c\na b: ; touch d/$@\nc: a b ; find d > c\n", setup="mkdir d", is_tried=True),
     # archives, intermediate files, patterns
     "members_of_one_archive": Small("race", "all: l.a(x.o) l.a(y.o)\n(%): % ; ar rcD l.a $<\n%.o: %.c ; cp $< $@\n", {"x.c": "x", "y.c": "y"}),
@@ -149,7 +139,6 @@ SMALL: Dict[str, Small] = {
     "double_colon_of_two_users": Small("race", "all: y u v\ny: ; touch y\nx:: ; echo 1 > one\nx:: ; echo 2 > two\nu: x ; touch u\nv: x ; cat two > v\n", says="advice: write the rules of x as one"),
     "double_colon_that_is_a_goal": Small("race", "x:: ; echo 1 > one\nx:: ; echo 2 > two\nu: x ; cat two > u\n", lacks="(checked"),
     "double_colon_that_reads": Small("race", "all: gen x\ngen: ; echo > gen\nx:: ; touch one\nx:: ; cat gen > two\n", says="fix: x:: gen ; cat gen > two          (in place of Makefile:4, checked: ends this race)"),
-    "double_colon_ages": Small("safe", "all: p dc\np: ; touch p\ndc:: ; echo 1 >> dc\ndc:: p ; echo 2 >> dc\n", {"dc": "dc"}, OLD + "dc", lacks="who looks at two files"),
     # the search for implicit rules
     "search_sees_a_name_that_goes": Small("race", "all: gen sub/z.t\n%.t: %.a ; cp $< $@\n%.t: %.b ; cp $< $@\ngen: ; rm sub/z.a; touch gen\n", {"sub/z.a": "a", "sub/z.b": "b"}, is_tried=True),
     # folders
@@ -157,9 +146,7 @@ SMALL: Dict[str, Small] = {
     "folder_whose_rule_comes_late_and_does_more": Small("race", "all: a b\na: ; mkdir -p d; touch d/a\nb: | d ; touch d/b\nd: ; mkdir -p $@; touch log\n"),
     "folder_whose_rule_comes_late_for_others": Small("race", "all: a b\na: ; mkdir -p d; touch d/a\nb: ; touch d/b\n.PHONY: all\nall: d\nd: ; mkdir -p $@\n"),
     "folder_whose_rule_comes_late_for_a_loud_maker": Small("race", "all: a b\na: ; mkdir d; touch d/a\nb: | d ; touch d/b\nd: ; mkdir -p $@\n"),
-    "folder_whose_age_is_asked_for": Small("safe", "all: a b\na: ; touch d/a\nb: d ; touch d/b\nd: ; mkdir -p $@\n", {"b": "b"}, "mkdir d; touch -d 2001-01-01 d; touch -d 2002-01-01 b", says="programs that look at a folder"),
     "folder_removed": Small("race", "all: b a\na: ; rmdir d\nb: ; test -d d && echo yes > b || echo no > b\n", setup="mkdir d"),
-    "folder_behind_a_bar": Small("safe", "all: gen u\ngen: ; echo x > d/n; touch gen\nu: s | d ; cat s > u\nd: ; mkdir d\n", {"s": "s", "u": "u"}, "mkdir d; " + OLD + "u", lacks="programs that look at a folder"),
     "folder_made_by_two_who_fail": Small("race", "all: a b\na b: ; mkdir d || echo second > $@\n"),
     "folder_made_or_true": Small("safe", "all: a b\na b: ; mkdir d 2>/dev/null || true; echo $@ > d/$@\n", is_tried=True),
     "folder_made_by_a_line_that_may_fail": Small("safe", "D = d\nall: a b\na:\n\t-mkdir d\n\techo $@ > d/$@\nb:\n\t@-$(MKDIR) $(D)\n\techo $@ > d/$@\nMKDIR = mkdir\n", is_tried=True),
@@ -172,7 +159,6 @@ SMALL: Dict[str, Small] = {
     "folder_that_cannot_be_removed": Small("race", "all: a b\na: ; echo x > d/f\nb: ; rmdir d || true\n", setup="mkdir d"),
     "folder_links_counted": Small("race", "all: a b\na: ; mkdir d/n\nb: ; stat -c %h d > b\n", setup="mkdir d", is_tried=True),
     # names
-    "links_of_a_file_counted": Small("safe", "all: a b\na: ; ln x y\nb: ; stat -c %h x > b\n", {"x": "x"}, says="programs that look at a folder"),
     "links_counted_by_a_text_of_python": Small("race", "all: a b\na: ; ln x y\nb: ; python3 -c 'import os; print(os.lstat(\"x\").st_nlink)' > b\n", {"x": "x"}, is_tried=True),
     "link_on_the_way": Small("race", "all: a b\na: ; ln -sfn e l\nb: ; cat l/x > b\n", {"d/x": "d", "e/x": "e"}, "ln -s d l"),
     "link_that_a_recipe_makes": Small("safe", "all: a b c\na: ; echo a > a\nb: a ; ln -sf a b\nc: b ; cat b > c\n"),
@@ -208,7 +194,6 @@ SMALL: Dict[str, Small] = {
     "pattern_that_a_recipe_includes": Small("race", "all: b a\nc: ; touch c\na: ; echo V = 1 > d/c.mk; touch a\nb: c ; $(eval -include d/*.mk) echo $V > b\n", {"d/k.c": "k"}),
     "script_that_compares_ages": Small("race", "all: c\na: ; touch x\nb: ; touch y\nc: a b ; ./newer > c\n", {
         "newer": "#!" + sys.executable + "\nimport os\nprint(os.stat('x').st_mtime > os.stat('y').st_mtime)\n"}, "chmod +x newer", is_tried=True),
-    "folder_as_prerequisite_cold": Small("safe", "all: d/a d/b\nd/a d/b: d ; echo $@ > $@\nd: ; mkdir d\n", lacks="programs that look at a folder"),
     # looks
     "look_behind_a_recipe": Small("race", "all: t u\nt: p ; touch t\np: ; echo p > p\nu: ; cat p > u || true\n", {"t": "t"}, OLD + "t"),
     "first_look_at_a_target": Small("race", "all: q g t\nq: ; touch q\ng: q ; echo g > t\nt: q | g ; echo t > t\n"),
@@ -226,8 +211,6 @@ SMALL: Dict[str, Small] = {
     "vpath_prerequisite": Small("race", "vpath %.v v\nall: gen t\ngen: ; echo x > v/a.v; touch gen\nt: a.v ; touch t\n", {"v/a.v": "a", "t": "t"}),
     "race_among_makefiles": Small("race", "include a.d b.d\nall: z\nz: ; touch z\nb.d: ; touch b.d c.d\na.d: ; cat c.d > a.d\n", later="no verdict"),
     # ages
-    "ages_in_an_inner_make": Small("safe", "all: in\na: ; touch x\nb: ; touch y\nin: a b ; $(MAKE) -f in.mk\n", {"in.mk": "y: x ; echo made >> log\n"}, says="who looks at two files"),
-    "age_of_a_folder": Small("safe", "all: c\na: ; touch d/n\nb: ; touch y\nc: a b ; test d -nt y && echo newer > c || echo older > c\n", setup="mkdir d", says=LOOKS),
     # acts of make between two jobs
     "act_before_the_next_target": Small("safe", ".PHONY: e\nall: g e u\ng: ; touch g\ne: g ; $(file >x,w)\nu: ; touch u\n"),
     "act_of_the_next_target": Small("race", ".PHONY: e\nall: g e r u\ng: ; touch g\ne: g ; $(if $(wildcard g),)\nr: ; cat x > r || true\nu: g ; $(file >x,w)touch u\n"),
@@ -242,7 +225,6 @@ SMALL: Dict[str, Small] = {
     "makers": Small("safe", "all: a b\na b: ; sh install-sh -d d; touch d/$@\n", {"install-sh": INSTALL}, says="scripts that make folders"),
     "makers_of_another_folder": Small("race", "all: a b\na: ; mkdir -p e; touch a\nb: ; sh install-sh -d d; touch d/b\n", {"install-sh": INSTALL + "test -d e && touch d/e\n"}),
     "libtool_makes_its_folder": Small("safe", "all: a b\na b: ; ./libtool --mode=compile; touch .libs/$@\n", {"libtool": "#!/bin/sh\ntest -d .libs || mkdir .libs\n"}, "chmod +x libtool"),
-    "interpreters": Small("safe", "all: ; python3 -c 'print(1)' > all\n", says="Perl, Python and other interpreters"),
     "hard_links": Small("safe", "all: ; ln x y\n", {"x": "x"}, says="files that got or lost a second name"),
     "sockets": Small("safe", "all: ; python3 -c \"import socket; socket.socket(socket.AF_UNIX).bind('s')\"\n", says="servers that processes talk to"),
     "port": Small("safe", "all: ; python3 -c \"import socket; socket.socket().bind(('127.0.0.1', 28917))\"\n", says="ports that they"),
@@ -262,6 +244,7 @@ COMMANDS: Dict[str, List[str]] = {
     "make_by_its_path": [str(shutil.which("make"))],
     "script_of_make": ["./rules", "all"],
     "jobs_of_a_makefile_and_one_job": ["make", "-j1"],
+    "ages_behind_make": ["sh", "-c", "make && if test x -nt y; then echo x > z; else echo y > z; fi"],
     "own_jobs_that_a_recipe_hands_on": ["make", "-j1"],
     "two_builds_at_once": ["sh", "-c", "make & make -f other.mk; wait"],
     "status_of_the_command": ["sh", "-c", "make; exit 3"],

@@ -1,15 +1,12 @@
 """Tests of record/trace/started.py."""
 
-from test_small import LOOKS, Small, makefiles
+from test_small import Small, makefiles
 
-PAIR = "all: c\na: ; touch a\nb: ; touch b\nc: a b ; %s\n"
 # A recipe that runs something in a folder, and another one that makes a name there.
 HERE = "all: a b\na: ; cd d && %s > ../a\nb: ; touch d/x b\n"
-IN_FOLDER = {"t": "if [ . -nt s ]; then echo newer; fi\n", "d/s": ""}
 # What a script of bash begins with, so that nobody reads all of its text.
 GETS = 'eval "$(echo x=1)"\n'
 # Two recipes that nothing orders make x and y, and a third one looks at both.
-SIDE = "all: c\nx: ; echo 1 > x\ny: ; echo 2 > y\nc: x y ; { %s; } > c || true\n"
 IS_THERE = "RACE  d  (that the folder"
 Makefiles = makefiles(__name__, {
     "text_without_a_first_line_that_bash_reads": Small("race", "SHELL = /bin/bash\n" "all: a b\na: ; touch h/x a\nb: ; ./u > b; ls h/*.h >> b\n", {"u": "echo h/*\n", "h/k.h": ""}, "chmod +x u"),
@@ -17,7 +14,6 @@ Makefiles = makefiles(__name__, {
     "loader_that_a_recipe_makes": Small("race", "all: use ld.so\nld.so: ; cp /bin/cat ld.so\nuse: ; ./prog > use || true\n", {"p.c": "int main(void) { return 0; }\n"}, "cc -Wl,--dynamic-linker=./ld.so -o prog p.c"),
     # what goes past files
     # ages of files that somebody else has opened
-    "age_of_what_an_unknown_program_has_open": Small("safe", PAIR % "./p b < a > c", {}, "cp /bin/cat p", says=LOOKS),
     # ages of the folder that a script is in
     "programs_that_bash_searches_for": Small("safe", HERE % "bash ../t", {"t": GETS + "x=$(cat s); date -u -d @0; cat s\n", "d/s": ""}),
     "programs_that_bash_searches_for_in_a_script_with_ages": Small("safe", HERE % "bash ../t", {"t": "[ s -nt t ] && echo newer; x=$(cat s); date -u -d @0\n", "d/s": "", "d/t": ""}),

@@ -1,8 +1,5 @@
-"""Tests of record/make/memory.py."""
+"""Tests of record/make/listings.py."""
 
-import unittest
-
-import support
 from test_small import Small, makefiles
 
 FOLDERS = {"d/k.h": "", "e/k.h": "", "k.c": "k"}
@@ -13,9 +10,6 @@ OTHER_FOLDERS = "mkdir d1 d2 'd 2'"
 LATER = "D = d1\nall: a c b.q\na: ; touch d2/n.x a\nc: ; touch c\n%s\n"
 WITH_K = FIRST.replace("d/a: s", "d/a: s d/k")
 FINDS = "all: a b\n%ss: ; touch s\na: s ; touch d/n.x a\nb: t ; echo %s > b\nt: ; touch t\n"
-# A folder that a recipe makes, and make opens it when it considers a.o; the next recipe has nothing to do with it.
-BESIDE = "all: dist a.o%s\n%%.o: %%.c gen/g.h ; cp $< $@\ngen/g.h: tool ; mkdir -p gen; sh tool > $@\ntool: tool.in ; %s; cp $< $@\ndist: ; mkdir -p gen; touch gen/list $@\n"
-TOOL = {"a.c": "", "tool.in": "echo 1\n"}
 # Patterns that nobody knows, a folder that make lists while recipes run, and a macro that works out its value once: the makefile of git has these.
 ONCE = "V := $(wildcard e/$(shell echo \\*))\nX = $(eval X := %s)$(X)\nall: a d/z d/y\na d/z: ; touch $@\nd/y: d/y.s ; echo $(X)%s; cp d/y.s d/y\n"
 # Make lists gen for a.o, when x1 is there with one job; it opens gen for a.o, when the recipe that makes it has ended with one job; the last recipe asks for names there.
@@ -25,13 +19,10 @@ HEADER = {"a.c": "", "gen/a.h": ""}
 Makefiles = makefiles(__name__, {
     # what make keeps of a folder
     "list_of_a_search": Small("race", LISTS % "", HEADER, later="safe", is_tried=True),
-    "list_of_a_search_that_is_said": Small("safe", LISTS % "", HEADER, says="what make keeps of the folders"),
-    "list_of_a_search_before_all_recipes": Small("safe", LISTS.replace("gen/x1 a.o", "a.o gen/x1") % "", HEADER, lacks="what make keeps of the folders", later="safe"),
     "folder_that_a_search_opens": Small("race", OPENS, {"a.c": ""}, later="safe", is_tried=True),
     # what a make inside a recipe asks of a list that it keeps of a folder
     "pattern_of_a_loop_over_targets": Small("race", "F = $(wildcard $@)\nall: a b\na: ; touch d/n.c a\nb: ; echo $(foreach @,d/*.c,$(F)) > b\n", {"d/m.c": ""}),
     "pattern_of_another_folder_in_a_recipe": Small("safe", "all: a b\na: ; touch d/n.c a\nb: ; echo $(wildcard d/*.h e/*.c) > b\n", FOLDERS),
-    # what goes on in the next line
     # where a recipe looks for names
     "wildcard_of_a_macro_in_a_loop": Small("race", LATER % "b.q: c ; echo $(foreach D,d2,$(wildcard $(D)/*.x)) > b.q", setup=OTHER_FOLDERS),
     "wildcard_of_a_macro_of_a_pattern": Small("race", LATER % "%.q: D = d2\n%.q: c ; echo $(wildcard $(D)/*.x) > b.q", setup=OTHER_FOLDERS),
@@ -53,8 +44,6 @@ Makefiles = makefiles(__name__, {
     "wildcard_that_was_asked_when_the_makefile_was_read": Small("safe", "HOME := $(CURDIR)/v\nT := $(wildcard ~/*.q)\n" + FIRST % "echo $(wildcard $@) $(T)", {"d/k": ""}),
     # a loop over the names of macros
     "wildcard_beside_one_whose_name_is_put_together": Small("race", FINDS % ("W = wild\n", "$(wildcard e/*.x)$(call $(W)card,d/*.x)"), {"d/k": "", "e/k": ""}),
-    # a search opens a folder, and no recipe asks for names there
-    "folder_whose_mode_a_recipe_changes": Small("race", BESIDE % (" m", ":") + "m: dist ; chmod 755 gen; touch m\n", TOOL, says="RACE  gen  (that the folder"),
     # folders that make lists
     "list_beside_a_value_that_is_worked_out_once": Small("safe", ONCE % ("$$(shell echo one)", ""), {"d/y.s": "s", "e/k": "k"}),
     "list_beside_a_value_of_names": Small("race", ONCE % ("$$(wildcard d/*)", ""), {"d/y.s": "s", "e/k": "k"}),
@@ -67,13 +56,3 @@ Makefiles = makefiles(__name__, {
     "search_of_a_make_that_begins_again": Small("safe", "V := $(wildcard e/$(shell echo \\*))\n-include no.mk gen.mk\nall: a d/z d/y\ngen.mk: ; touch gen.mk\na d/z: ; touch $@\nd/y: d/y.s ; cp d/y.s d/y\n", {"d/y.s": "s", "e/k": "k"}),
     "pattern_of_a_makefile_that_is_made_and_removed": Small("race", "-include no.mk\nall: b a\nno.mk: ; echo 'P = $$(wildcard d/*)' > no.mk\na: ; touch d/n a\ns: ; touch s\nb: s ; rm no.mk; echo $(P) > b\n", {"d/k": "k"}),
 })
-
-
-class Strict(unittest.TestCase):
-    """With --strict what could be tried out bars the yes."""
-
-    def test_folders_that_make_lists(self) -> None:
-        with support.Project({"Makefile": LISTS % "", **HEADER}) as project:
-            outcome = project.record(["make"], ["--strict"])
-        self.assertEqual(2, outcome.status, outcome.text())
-        self.assertIn("--strict: what make keeps of the folders", outcome.text())
