@@ -9,7 +9,7 @@ from typing import Dict, Set
 
 from record.build.builder import Builder
 from record.make.folders import each
-from record.trace.events import CHANGES, CREATED, HELD, LOCKED
+from record.trace.events import CHANGES, CREATED, LOCKED
 
 
 
@@ -42,7 +42,7 @@ def gather(builder: Builder) -> Dict[str, Lock]:
             lock = table.get(path)
             if lock is not None and kind == LOCKED:
                 lock.makers.add(at)
-            elif lock is not None and kind not in CREATED + HELD:  # guard: what-is-under-the-lock
+            elif lock is not None and kind != CREATED:  # guard: what-is-under-the-lock
                 lock.askers.add(at)
                 lock.is_changed = lock.is_changed or kind in CHANGES
     return table

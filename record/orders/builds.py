@@ -331,6 +331,7 @@ def work(room: Room, plan: Plan, heard: Callable[[], ContextManager[object]]) ->
     try:
         if signal.getsignal(signal.SIGINT) is not signal.SIG_IGN:
             signal.signal(signal.SIGINT, lambda *_: None)
+        os.dup2(os.open(os.devnull, os.O_WRONLY), 2)  # where a signal ends it, Python may have something to say
         LIBC.prctl(WITH_PARENT, signal.SIGTERM)
         LIBC.prctl(TAKES_LEFT, 1)
         with heard():

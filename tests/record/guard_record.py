@@ -99,7 +99,6 @@ GUARDS: List[Guard] = [
     *guards("folder.py",
         ("waits-that-are-not-all-known", "left = [example for example, waits in self.lucky.items() if not waits & known]", "waits.Names.what_is_left"),
         ("what-orders-try-out", "pass", "orders.Orders.premises"),
-        ("what-orders-try-out", 'self.assumptions = [one for one in self.assumptions if one["kind"] not in TRIED_OUT]', "orders.Orders.case_look_whose_answer_is_not_compared", UNSAID),
         ("who-waits-for-what-leaves-no-file", "is_loose = False and not machine.isfile(os.path.join(root, task.node.name))", "small.Makefiles.fix_by_what_leaves_no_file", UNSAID),
         ("where-nothing-can-be-removed", "pass", "ends.Moves.to_another_device"),
         ("older-record", "except ValueError as fault:", "ends.Moves.a_record_that_cannot_come_back"),

@@ -175,7 +175,7 @@ GUARDS: List[Guard] = [
         ("several", 'return known + ["number %d" % pid for pid, events in self.waiting.items()]', "replay.Traces.thread_that_only_ends"),
         ("what-process-changed-before-its-start-is-finished", "if True:", "replay.Lives.folder_of_a_process_that_changes_it_first"),
         ("what-process-changed-before-its-start-is-finished", "if True:", "replay.Lives.text_that_a_shell_reads_before_its_start_is_finished"),
-        ("threads-wait-for-who-starts", "return len({(p.folder, p.mask) for p in parents}) > 1", "replay.Lives.thread_that_is_seen_first"),
+        ("threads-wait-for-who-starts", "return len({p.folder for p in parents}) > 1", "replay.Lives.thread_that_is_seen_first"),
         ("threads-wait-for-who-starts", "return not self.sharing.isdisjoint(self.begun) or False", "replay.Lives.folder_of_a_child_that_two_may_have_started"),
         ("hole", 'str("a line of the trace cannot be read: " + event.text[:200])', "replay.Footprints.line_that_cannot_be_read_is_a_hole"),
         ("threads-change-their-folder-together", "if False:", "replay.Lives.threads_change_their_folder_together"),
