@@ -18,7 +18,7 @@ from record.cleaned import Cleaned
 from record.clock import named_by_time
 from record.configured import STATUS, find_configured, last_changes
 from record.facts import Facts
-from record.failed import answers, explained, lacked, no_build, tried
+from record.failed import answers, explained, lacked, no_build
 from record.first_tree import Release, left_behind
 from record.folder import Record, write_record
 from record.footprints import write_footprints
@@ -99,8 +99,6 @@ def settle_all(replay: Calls, facts: Facts, assumed: Assumptions, record: Record
         assumed.add("caches", words)
     markers = settle_exists(replay.all, logs)
     record.markers = sorted(markers.paths)
-    for name in record.markers:
-        assumed.add("makers", name)
     owners = Owners(replay.all, logs, replay.names.links)
     credit_makes(owners, markers)  # guard: makes-that-would-make-folder
     return owners
@@ -129,8 +127,6 @@ def add_seen(replay: Calls, assumed: Assumptions) -> None:
             assumed.add(kind, example)
     for name in replay.outside:
         assumed.add("outside", name)
-    for argv in replay.makers:
-        assumed.add("makers", argv)
     for path in sorted(set(replay.progress)):
         assumed.add("progress", path)  # guard: what-cmake-counts
 
@@ -167,8 +163,6 @@ def import_record(facts: Facts, record: Record) -> Imported:
         record.hints = lacked(owners.makes, names, folder)  # guard: what-recipe-lacked
     else:
         record.holes += answers(owners.makes, folder)  # guard: make-that-failed
-    for make in tried(owners.makes):
-        assumed.add("tried", make.folder)  # guard: what-cmake-tries-said
     if not owners.makes and not ninjas and not ahead:
         record.holes.append("no make and no ninja ran")  # guard: no-make-at-all
     for name in unasked(owners.makes, ninjas):

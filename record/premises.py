@@ -15,8 +15,6 @@ from record.trace.names import Names
 from record.warm import is_beyond
 
 GUILE = re.compile(r"\$[({]guile\s")
-HANDS_JOBS = re.compile(r"\$(?:\(MAKE\)|\{MAKE\})|^[\s@-]*\+")  # lines of recipes that get the jobs of their make
-GROUPS = re.compile(r"(?:^|\s)(?:-[a-zA-Z]*O|--output-sync)")
 
 
 def add_granted(owners: Owners, assumed: Assumptions) -> None:
@@ -29,10 +27,6 @@ def add_granted(owners: Owners, assumed: Assumptions) -> None:
             assumed.add("loaded", name)  # guard: loaded-objects-said
     side_by_side_makes(owners, assumed)
     beside(owners, assumed)  # guard: said
-    asked(owners, assumed)
-    for make in owners.makes:
-        if says_jobs(make):
-            assumed.add("jobs-said", "make " + make.words.args)
 
 
 def idle_targets(owners: Owners, names: Names, cleaned: Cleaned) -> List[str]:
@@ -61,9 +55,6 @@ def add_granted_by_ninja(ninjas: List[Ninja], assumed: Assumptions) -> None:
 
 def add_granted_by_ninjas(ninjas: List[Ninja], ties: List[str], owners: Owners, assumed: Assumptions) -> None:
     """What ninjas take for granted, whatever their tasks are."""
-    for ninja in ninjas:
-        if ninja.is_tried:
-            assumed.add("tried", ninja.folder)  # guard: tried-by-cmake
     for text in ties:
         assumed.add("ties", text[:60])
     for argv in side_by_side(ninjas, owners):
@@ -80,29 +71,6 @@ def side_by_side(ninjas: List[Ninja], owners: Owners) -> List[List[str]]:
     lives.sort(key=lambda life: life.born)
     pairs = [(a, b) for a, b in zip(lives, lives[1:]) if b.born < a.died and (a.is_ninja or b.is_ninja)]
     return [second.argv for _, second in pairs]
-
-
-def asked(owners: Owners, assumed: Assumptions) -> None:
-    """Makes that only ask (`make -n`), and yet run several lines, which have a `+` or name $(MAKE): these may run at once."""
-    for life in owners.lives:
-        if life.is_query and sum(1 for child in life.children if does_more(owners, child)) > 1:  # guard: lines-that-run-said
-            assumed.add("queries", " ".join(life.argv)[:60])
-
-
-def says_jobs(make: Make) -> bool:
-    """Whether a make whose errors are kept says there, with several jobs, that it is not handed the jobs of the make above, or does not take them;
-    one that groups what recipes print names its folder around each of them."""
-    words = make.words
-    if GROUPS.search(words.args + " " + words.flags) and words.output:  # guard: makes-that-group-what-they-print
-        return True
-    if not words.kept_errors or not (words.below or make.is_called):  # guard: makes-whose-errors-nobody-keeps
-        return False
-    return bool(words.slots) or not any(HANDS_JOBS.search(line) for line in make.callers)  # guard: makes-that-are-not-handed-jobs
-
-
-def does_more(owners: Owners, life: Life) -> bool:
-    """Whether a process or one below it changes files, or is a make, which prints."""
-    return any(one.is_make or any(kind in CHANGES + MAKES + FOLDER_REMOVED for kind, _ in one.events) for one in owners.below(life))
 
 
 def lucky(work: Optional[Work], target: str, assumed: Assumptions) -> None:

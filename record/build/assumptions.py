@@ -6,32 +6,25 @@ from typing import Dict, List, Set
 from record.trace.courses import Course
 
 TEXTS = {
-    "serial": "make decides goals in this order, without --shuffle, and recipes do the same on the same looks: they do not go by macros that another one sets ($(eval ..)) or that a target hands down (a: V = 1), how long things take, the space that is free, when a file was read last, the time of the folder that a shell runs in, MAKEFLAGS, the number of processors, a terminal, standard input, descriptors of a job server, or files that were opened for them before make began",
-    "ninja": "commands of ninja do the same on the same looks: they do not go by how long things take, the space that is free, when a file was read last, the time of the folder that a shell runs in, the number of jobs, the number of processors, a terminal, standard input, or files that were opened for them before ninja began; and nobody looks at the order of what ninja prints",
+    "serial": "make decides goals in this order, without --shuffle, and recipes do the same on the same looks: they do not go by macros that another one sets ($(eval ..)) or that a target hands down (a: V = 1), how long things take, the space that is free, when a file was read last, MAKEFLAGS, the order in which make prints, the number of processors, a terminal, standard input, descriptors of a job server, or files that were opened for them before make began",
+    "ninja": "commands of ninja do the same on the same looks: they do not go by how long things take, the space that is free, when a file was read last, the number of jobs, the number of processors, a terminal, standard input, or files that were opened for them before ninja began; and nobody looks at the order of what ninja prints",
     "ties": "build statements with one command ran in the order that the log of ninja shows",
     "up-to-date": "builds start from this tree: targets that were up to date stay so",
     "configured": "builds start when ./configure has run: what it makes is there and up to date",
     "unasked": "builds have the same goals: recipes that nothing asked for are not judged",
-    "unwritten": "all processes of recipes that do not write their own target were seen",
     "luck": "processes that meet on a file come in this order in each build, though only a wait orders them that may have been luck",
     "orders": "recipes that nothing orders come to the same in either order, where the one sees of the other more than which files there are and what they hold, as their ages",
     "sockets": "servers that processes talk to keep no files of the build; ports that they open are free; memory is shared by processes of one recipe alone",
     "processes": "who lists the processes that run (ps, pgrep), signals or looks at one of another recipe, sets its limits (prlimit, renice, taskset), or waits for changes of files (inotify, leases), does the same whatever else runs",
     "locks": "who asks for a lock of a file, and does not wait for it, does the same where another one has it; recipes that take two locks take them in one order",
     "clock": "recipes that put the time into the name of a file have each another time there",
-    "queries": "what a make that only asks (-n, -q, -t) runs by `+` or $(MAKE) does the same in any order",
     "hard-links": "files that got or lost a second name, or have one and were written, have none outside of the project",
-    "ring": "a prerequisite that closes a ring, which make drops, is not needed",
-    "output": "what a make prints does the same in any order of its lines, where another program or a file of errors gets it",
-    "jobs-said": "a make inside of a recipe, whose output or errors are kept, may print other lines there with several jobs (of a -j of its own, of jobs that it is not handed, of its folder under -O)",
     "outside": "names outside of the project that the build changed were there before it as they are on the disk after it",
     "preload": "recipes do the same where LD_PRELOAD names the library of the recorder, which lets make say what it does",
     "loaded": "objects that make loads (load), and $(guile ..), change no macros and keep nothing in memory from one recipe to the next: files alone settle what they do",
-    "makers": "scripts that make folders for themselves (install-sh, mkinstalldirs, libtool, cmake, ExtUtils of Perl, go build, g++ for modules) ask no more than that it is there",
     "bytecode": "what Python keeps in __pycache__ does what its source does, whichever recipe wrote it; its bytes may differ",
     "caches": "what ccache, cargo, go, guile, npm and fontconfig keep for themselves, and git's notes of what it looked at, change how long they take, and nothing else; what was taken from there needed no compiler, so files for which one would have looked were not seen (CCACHE_RECACHE=1 and an empty GOCACHE show them)",
     "progress": "what CMake counts in CMakeFiles/Progress changes the percentages that it prints, and nothing else; nobody else looks there",
-    "tried": "what CMake's try_compile builds, in a folder that is gone when the build ends, comes to the same in any order",
     "tops": "two makes or ninjas that ran at once, and that no make or ninja started, do not meet",
     "beside": "files that a process which no recipe started changed while make ran are touched by no recipe",
     # What the answer on missing inputs takes for granted.
@@ -57,7 +50,7 @@ TEXTS = {
 
 UNTRIED = ("luck", "orders")  # what nobody has tried out: with --strict it bars the yes
 # What builds in other orders try out, and the two serial builds among them.
-TRIED_OUT = ("serial", "ninja", "unwritten", "queries", "ring", "output", "jobs-said", "makers", "tried")
+TRIED_OUT = ("serial", "ninja")
 OF_TREE = ("unasked", "up-to-date", "configured")  # what is said of the goals and of the tree
 
 

@@ -11,7 +11,6 @@ from record.make.listings import place_listings
 from record.make.targets import RoundBuilder
 from record.make.unfiled import add_outputs
 from record.make.words import LATER, Words, makefiles, numbers_of
-from record.trace.events import CREATED, MAKES, WRITTEN
 
 
 CALLED = "$(shell ..)"  # the label of what a call of make leaves running
@@ -30,18 +29,9 @@ class MakeBuilder(RoundBuilder):
         self.make_decisions()
         self.note_writers()
         self.make_first_looks()  # guard: first-looks
-        self.note_unwritten()
         self.connect()
         self.fill()
         return self.build
-
-    def note_unwritten(self) -> None:
-        """Recipes that ran and left their own target alone: so would one of which the trace has lost a process."""
-        for label, at in self.of_node.items():
-            node = self.graph.nodes[label]
-            own = {node.path, self.names.find(self.make.folder, node.name, False).path, *self.seen(node)}
-            if node.jobs and not node.phony and not any(kind in WRITTEN + CREATED + MAKES and path in own for work in self.build.tasks[at].works for kind, path in work.events):
-                self.assumed.add("unwritten", node.name)  # guard: recipes-that-leave-their-target-alone
 
     # ---------------------------------------------------------------- tasks
     def add(self, node: Node, kind: str, label: str) -> int:
@@ -127,9 +117,7 @@ class MakeBuilder(RoundBuilder):
             earlier.discard(at)
         jobs = {label: n for n, label in enumerate(self.labels_of_jobs())}
         keys = [(t.node.first if t.kind == "first" else t.node.done, jobs.get(t.node.label, 0)) for t in tasks]
-        order, dropped = order_tasks(tasks, after, keys)
-        if dropped:
-            self.assumed.add("ring", "make %s" % self.make.words.args, dropped)
+        order, _ = order_tasks(tasks, after, keys)
         self.renumber(order, after)
 
     def labels_of_jobs(self) -> List[str]:

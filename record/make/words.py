@@ -94,10 +94,8 @@ class Words:
     environment: FrozenSet[str] = frozenset()  # the names of the variables that it found there
     below: bool = False  # a make above has handed it flags
     slots: str = ""  # how many jobs its own words ask for: digits, or `all`
-    output: str = ""  # where its output goes, if that is not the build's own: `file` or `pipe`
-    log: str = ""  # the path of the file that keeps its output
-    errors: str = ""  # the same of standard error, where that is not with its output
-    is_joined: bool = False  # standard error goes where its output goes
+    is_kept: bool = False  # its output goes to a file, and not where that of the build goes
+    log: str = ""  # the path of that file
     version: str = ""
     status: Optional[int] = None
     rounds: List[Round] = field(default_factory=list)
@@ -123,11 +121,6 @@ class Words:
     def has_failed(self) -> bool:
         """Whether it failed, or a signal ended it."""
         return self.status != 0
-
-    @property
-    def kept_errors(self) -> str:
-        """Where its errors go, and those of its recipes: `file`, `pipe`, or nothing."""
-        return self.output if self.is_joined else self.errors
 
     def values(self) -> Dict[str, str]:
         """The macros of its data bases; one that differs between them may be anything."""
@@ -329,18 +322,13 @@ def failures(words: Words) -> Iterator[str]:
 
 def begun(words: Words, start: Start, own: Container[Tuple[int, int]]) -> Words:
     """The words of a make as it was called. `own`: the files to which the output of the recorder itself goes."""
-    def leads(stream: int) -> str:
-        found = start.outputs.get(stream, Output())
-        return {"f": "file", "p": "pipe"}.get(found.kind, "") if (found.device, found.number) not in own else ""
-
-    first, second = start.outputs.get(1, Output()), start.outputs.get(2, Output())
+    first = start.outputs.get(1, Output())
     words.start, words.version, words.args = start, start.version, " ".join(start.args).replace("\n", " ")
     words.flags, words.environment = start.environment.get("MAKEFLAGS", ""), frozenset(start.environment)
     words.slots = own_jobs(start.args)
     words.below = {"MAKELEVEL", "MAKEFLAGS"} <= words.environment
-    words.output, words.log = leads(1), first.path if leads(1) == "file" else ""
-    words.is_joined = first[1:3] == second[1:3] and first.kind != "-"
-    words.errors = "" if words.is_joined else leads(2)
+    words.is_kept = first.kind == "f" and (first.device, first.number) not in own
+    words.log = first.path if words.is_kept else ""
     return words
 
 
@@ -364,8 +352,6 @@ def read_words(pid: int, life: int, lines: Iterable[str], place: str = "", start
     if base:
         take_base(words, base)
     words.holes += failures(words)  # guard: recipes-that-failed-for-makefile
-    for job in (job for one in words.rounds for job in one.jobs) if words.output == "pipe" else ():
-        job.is_said = True  # nobody sees what it prints
     if not words.read and not words.status:  # guard: makes-that-are-not-understood
         words.holes.append("a make says nothing that the recorder knows: make " + words.args)
     if bases != len(words.read) and words.read:  # guard: data-base-of-make-that-goes

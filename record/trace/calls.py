@@ -6,7 +6,7 @@ is printed under a yes (sockets, locks, watchers). moves.py, processes.py, descr
 
 import os
 import re
-from typing import Callable, Dict, Iterable, List, Tuple
+from typing import Callable, Dict, Iterable, Tuple
 
 from record.commands import shelltext
 from record.commands.system import SETTINGS
@@ -247,10 +247,7 @@ class Calls(Started):
         base, path = self.base_and_path(life, call)
         found = self.found(life, path.rstrip("/") or "/", False, base)
         quiet = shelltext.is_quiet_mkdir(life.argv) and not self.is_inside(life.program)  # guard: quiet-makers
-        script: List[str] = next((up.argv for up in life.up() if not up.is_make and shelltext.makes(up.argv, found.path)), [])
-        if script and not quiet:
-            self.makers.append(" ".join(script)[:60])  # guard: scripts-that-make-folders
-            quiet = True
+        quiet = quiet or any(not up.is_make and shelltext.makes(up.argv, found.path) for up in life.up())  # guard: scripts-that-make-folders
         if ok:
             self.fresh.add(found.path)
             if found.folder is not None and found.inode is None:

@@ -48,7 +48,6 @@ class Replay:
         self.hard_links: List[str] = []
         self.outside: Dict[str, None] = {}  # names that changed, and of which the disk alone says what they were before
         self.fresh: Set[str] = set()  # names that were surely absent when they were made
-        self.makers: List[str] = []
         self.progress: List[str] = []  # folders in which CMake counts what is built
         self.firsts: Dict[str, List[str]] = {}  # by program: the words of its first line, where it is a script
         self.makes_by_path: Dict[str, bool] = {}  # by program: whether it is the make that the recorder knows

@@ -44,8 +44,8 @@ COMPARES = (
 # Ways to call a make in the folder NAMEobj1 that ask for one job only by their looks.
 CALLS = ("$(MAKE) -CNAMEobj1", "cd NAMEobj1 && $(MAKE) -fobj1", "$(MAKE) -C NAMEobj1 'X=-v -j1'", "env -u MAKEFLAGS $(MAKE) $(MFLAGS) -C NAMEobj1",
          "$(MAKE) -kj 1 -C NAMEobj1")
-# Where what a make prints goes, and the assumption that this breaks.
-OUTPUTS = (("> $@", ""), ("> $@", ""), ("> $@ 2>&1", ""), ("| cat > $@", "output"), ("2> $@", "output"))
+# Where what a make prints goes.
+OUTPUTS = ("> $@", "> $@", "> $@ 2>&1", "| cat > $@", "2> $@")
 # Makes inside that print something of their own, with the files that they start from.
 PRINTS: Dict[str, Dict[str, str]] = {
     "all: x ; @echo done\nx: y | d ; @touch x\nd: ; @mkdir d\n": {"x": "", "y": ""},
@@ -72,7 +72,7 @@ if how == "1": first.wait()
 second.wait()
 if how == "2": time.sleep(0.1)
 """
-LISTS = (("find NAME.d > $@", ""), ("find NAME.d | sort > $@", ""), ("ls NAME.d > $@", ""), ("echo NAME.d/* > $@", ""))
+LISTS = ("find NAME.d > $@", "find NAME.d | sort > $@", "ls NAME.d > $@", "echo NAME.d/* > $@")
 
 
 class GadgetDraw(Draw):
@@ -169,14 +169,14 @@ class GadgetDraw(Draw):
 
     def kept(self, name: str) -> Block:
         """What a make inside a recipe prints goes into a file."""
-        where, breaks = self.random.choice(OUTPUTS)
+        where = self.random.choice(OUTPUTS)
         to = " >&2" if where.startswith("2") else ""
         inner = HEAD + "all: s0 s1\n" + self.plain("s0", "", "sleep 0.04; echo $@%s; touch $@" % to) + self.plain("s1", self.unless("s0"), "echo $@%s; touch $@" % to)
         files = {name + "/in.mk": inner, name + "/Makefile": inner}
         if self.random.random() < 0.3:
             files[name + "/Makefile"] = "all: ; @$(MAKE) -f in.mk\n"
         text = self.plain(name + ".log", " ".join(self.prerequisites()), "$(MAKE) -s --no-print-directory -C %s %s" % (name, where))
-        return Block([name + ".log"], text, files, {name + ".log": breaks} if breaks else {})
+        return Block([name + ".log"], text, files)
 
     def prints(self, name: str) -> Block:
         """A make inside a recipe prints what it does; a recording must add nothing to it."""
@@ -209,14 +209,13 @@ class GadgetDraw(Draw):
         text += self.plain("NAME.r", "NAME NAME.b", "sleep 0.02; " + take) + self.plain("NAME.c", "NAME.r", compare)
         files = {"NAME.mk": "all: X\nX: NAME.b ; @echo made > NAME.made\n", "NAME.sh": ". ./NAME.lib\nnewer $1 $2\n", "NAME.lib": "newer() { test $1 -nt $2; }\n"}
         files = {key.replace("NAME", name): one.replace("X", taken).replace("NAME", name) for key, one in files.items()}
-        breaks = {name + ".made": "ages"} if ".p -rs" in compare else {}
-        return Block([name + ".c"], text.replace("X", taken).replace("NAME", name), files, breaks)
+        return Block([name + ".c"], text.replace("X", taken).replace("NAME", name), files)
 
     def listing(self, name: str) -> Block:
         """A recipe lists a folder that others fill."""
-        how, breaks = self.random.choice(LISTS)
+        how = self.random.choice(LISTS)
         text = self.plain("NAME.d/a", "", "touch $@") + self.plain("NAME.d/b", self.unless("NAME.d/a"), "touch $@") + self.plain("NAME", "NAME.d/a NAME.d/b", how)
-        return Block([name], text.replace("NAME", name), {name + ".d/k": "k\n"}, {name: breaks} if breaks else {})
+        return Block([name], text.replace("NAME", name), {name + ".d/k": "k\n"})
 
     def processes(self, name: str) -> Block:
         """Two processes of one recipe meet on a file, which another recipe uses."""

@@ -9,7 +9,6 @@ GUARDS: List[Guard] = [
         ("rows-of-some-targets", "return base.serial and not base.prerequisites.get(\".NOTPARALLEL\")", "make_build.Builds.a_row_of_some_targets"),
         ("what-they-change", "return bool(others)", "small.Makefiles.first_look_that_changes_nothing", FALSE_RACE),
         ("first-looks", "pass", "small.Makefiles.first_look_at_a_target", YES),
-        ("recipes-that-leave-their-target-alone", "pass", "small.Makefiles.unwritten", UNSAID),
         ("what-stood-behind", "needed = self.looked_at(node, own)", "small.Makefiles.link_of_a_target_that_is_kept", YES),
         ("names-that-no-rule-makes", "if False:", "cases.Cases.no_rule", YES),
         ("looks-of-leaves", "elif False:", "small.Makefiles.two_own_acts_first"),
@@ -160,6 +159,5 @@ GUARDS: List[Guard] = [
         ("output-in-file", "if False:", "small.Makefiles.output_in_a_file", YES, "kept"),
         ("recipes-that-look-into", 'mark(builder, own_path(builder.make, "output"), "the order of what make prints, which is kept in a file", set(), set(said))',
          "unfiled.Makefiles.output_that_a_recipe_reads", YES),
-        ("output-for-others", '(lambda *_: None)("output", "make " + words.args if words.args else "make")', "small.Makefiles.output_for_a_program", UNSAID, "kept"),
     ),
 ]

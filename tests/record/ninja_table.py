@@ -174,7 +174,7 @@ CASES += [
          ["which dyndep files ninja has read before it"]),
     Case("dyndep-output-of-another-file-ordered", SAFE, sh("dda", "", FILES) + sh("dd", "dda", DYNDEP % ("", " | m.x")) + sh("m", "|| dda", "touch m m.x", "dyndep = dda") + sh("a", "|| dd", "cat m.x > a", "dyndep = dd")),
     Case("path", SAFE, sh("a", "", "echo $$PATH > a")),
-    Case("tried-by-cmake", SAFE, sh("x", "", "./cmake && touch x"), ["CMake's try_compile builds"], setup="chmod +x cmake", files={"cmake": "#!/bin/sh\n" + TRY, "next": RULES + GEN + sh("a", "g", USE)}),
+    Case("tried-by-cmake", SAFE, sh("x", "", "./cmake && touch x"), setup="chmod +x cmake", files={"cmake": "#!/bin/sh\n" + TRY, "next": RULES + GEN + sh("a", "g", USE)}),
     Case("another-name", NONE, GEN + sh("a", "", USE), ["a ninja of another name ran past the recorder: ./n2"], setup="cp $(command -v ninja) n2", files={"Makefile": "x: ; ./n2 -j1\n"}, words="make"),
     Case("tried-by-another", NONE, sh("x", "", "sh ./try && touch x"), ["nobody kept"], files={"try": TRY, "next": RULES + GEN + sh("a", "g", USE)}),
 ]

@@ -6,7 +6,6 @@ import support
 from test_small import COMMANDS, Small, makefiles
 
 WAIT = "until test -e %s; do sleep 0.05; done; "
-KEEPS = "all: ; %s -s -f in.mk %s\n"
 COMPILES = "cc -shared -fPIC -o obj.so obj.c"
 OBJECT = """#include <stdio.h>
 int plugin_is_GPL_compatible;
@@ -20,12 +19,6 @@ Makefiles = makefiles(__name__, {
     "process_beside_make": Small("safe", "all: ; touch go; " + WAIT % "x" + "touch all\n", says="files that a process which no recipe started"),
     "script_beside_make": Small("safe", "all: ; touch go; " + WAIT % "x" + "touch all\n", says="files that a process which no recipe started"),
     "script_before_make": Small("safe", "all: ; touch all\n", lacks="files that a process which no recipe started"),
-    # what makes print with several jobs alone
-    "make_without_jobs_that_keeps_errors": Small("safe", KEEPS % ("make", "2> log"), {"in.mk": "all: ; touch x\n"}, says="a make inside of a recipe, whose"),
-    "make_of_its_own_jobs_that_keeps_errors": Small("safe", KEEPS % ("$(MAKE) -j2", "> log 2>&1"), {"in.mk": "all: ; @touch x\n"}, says="a make inside of a recipe, whose"),
-    "make_that_groups_what_it_prints": Small("safe", KEEPS % ("$(MAKE) -O", "> log"), {"in.mk": "all: ; @echo x\n"}, says="a make inside of a recipe, whose"),
-    "make_with_jobs_that_keeps_errors": Small("safe", KEEPS % ("$(MAKE)", "2> log"), {"in.mk": "all: ; touch x\n"}, lacks="a make inside of a recipe, whose"),
-    "make_without_jobs": Small("safe", KEEPS % ("make", "> log"), {"in.mk": "all: ; @touch x\n"}, lacks="a make inside of a recipe, whose"),
 })
 
 
