@@ -7,7 +7,7 @@
    A life of a make has a file, SAID/PID.LIFE.make, where SAID lies beside this library. It holds
 
      MAKE, ARG, ENV      how make was called, its words, its environment, a line each
-     CWD, OUT            the folder in which it began; where standard output and standard error lead
+     CWD, OUT            the folder in which it began; where standard output leads
      SAYS                its version, where it says from here on what it does
      ASKS                else the flag of make by which it only answers
      lines of make       what it considers, and what it does with jobs, in English
@@ -229,7 +229,7 @@ __attribute__((constructor)) static void begin(int argc, char **argv) {
   for (int at = 1; at < argc; at++) put_line("ARG", argv[at]);
   for (char **one = environ; *one; one++) put_line("ENV", *one);
   put_line("CWD", getcwd(cwd, sizeof cwd) ? cwd : "");
-  put_output(1), put_output(2);
+  put_output(1);
   fflush_unlocked(said);
   if (signal(SIGPIPE, end_unread) != SIG_DFL) signal(SIGPIPE, SIG_IGN);
   errno = before;
