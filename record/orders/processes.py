@@ -33,11 +33,12 @@ def born(pid: int) -> tuple[int, int]:
 
 
 def folder_of(pid: int) -> str:
-    """The folder in which a process works."""
+    """The folder in which a process works, from its own root on: of one with other mounts the system names the root of a chroot, too."""
     try:
-        return os.readlink(f"/proc/{pid}/cwd")
+        folder, root = (os.readlink(f"/proc/{pid}/{name}") for name in ("cwd", "root"))
     except OSError:
         return ""
+    return folder.removeprefix(root.rstrip("/")) or "/"  # guard: folders-in-a-chroot
 
 
 def children_of(pid: int) -> list[int]:

@@ -12,7 +12,7 @@ import support
 
 from record.orders.gate import Gate, Key
 from record.orders.processes import end
-from record.watch.lay import Watch, makes_of
+from record.watch.lay import BELOW, BIND, Watch, leave, makes_of, mount
 
 
 class Gates(unittest.TestCase):
@@ -62,6 +62,21 @@ class Gates(unittest.TestCase):
     def test_fixes(self) -> None:
         """One waits for another that it does not name."""
         self.assertEqual([["a"], ["b"]], self.began({"Makefile": "all: a b\na b: ; @echo $@\n"}, ["make", "-j9"], lambda name: "ab".index(name), [("b", "a")]))
+
+    @unittest.skipUnless(os.geteuid() == 0, "needs root")
+    def test_fixes_in_a_chroot(self) -> None:
+        with tempfile.TemporaryDirectory(prefix="race-root-") as root:
+            child = os.fork()
+            if child == 0:
+                try:
+                    if leave() and mount("/", root, BIND | BELOW):
+                        os.chroot(root)
+                        self.test_fixes()
+                    self.doCleanups()
+                    os._exit(0)
+                finally:
+                    os._exit(1)
+            self.assertEqual(0, os.waitpid(child, 0)[1])
 
     def test_two_jobs(self) -> None:
         """With two jobs two wait at once."""
