@@ -87,7 +87,8 @@ class PlacedBuilds(unittest.TestCase):
             return judge(Project(1, [Block(["a"], text)], place=place), Path(room), 2, fake)
 
     def test_same(self) -> None:
-        self.assertEqual("safe", self.result('"$@" && echo SAFE\n').kind)
+        for script in ('"$@" && echo SAFE\n', '"$@" && printf "race-record: 0:02, 3 processes done\\033[K\\r\\r\\033[KSAFE\\n"\n'):
+            self.assertEqual("safe", self.result(script).kind, script)
         for outputs in ("joined", "files", "no errors", "no output"):
             self.assertEqual("safe", self.result('"$@" && echo SAFE\n', Place(stdin="text", outputs=outputs)).kind, outputs)
 
