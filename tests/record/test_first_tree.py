@@ -69,7 +69,7 @@ class Left(unittest.TestCase):
         self.assertEqual(0, outcome.status, outcome.text())
 
     def test_what_git_uses(self) -> None:
-        files = {"Makefile": "all: v\nv: ; git describe --tags > v; git -c user.name=x -c user.email=x@y commit -qm x --allow-empty\n"}
+        files = {"Makefile": "all: v\nv: ; git describe --tags > v; git -c maintenance.auto=false -c user.name=x -c user.email=x@y commit -qm x --allow-empty\n"}
         outcome = self.recorded(files, GIT + "; git tag one")
         self.assertEqual(0, outcome.status, outcome.text())
 
@@ -106,7 +106,7 @@ class Left(unittest.TestCase):
         self.assertEqual(0, self.recorded({"Makefile": "all: a b\na b: ; mkdir -p obj\n"}, "mkdir obj").status)
 
     def test_name_that_could_not_be_made(self) -> None:
-        for recipe in ("ln -s src h", "python3 -c \"open('h', 'x')\""):
+        for recipe in ("ln -s src h", "python3 -I -c \"open('h', 'x')\""):
             self.warm({"Makefile": "all: a b\na: ; -%s\nb: ; cat h > b\n" % recipe, "src": ""}, "echo > h", "h")
 
     def test_changed_files_are_counted(self) -> None:

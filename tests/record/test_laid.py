@@ -1,6 +1,7 @@
 """Builds that are recorded by the library in make: whichever way make is called, and whatever a recipe sees."""
 
 import os
+import re
 import shutil
 import sys
 import tempfile
@@ -136,7 +137,8 @@ class Covered(Recorded):
             with self.subTest(words), support.Project(files) as project:
                 project.sh("chmod +x rules")
                 plain, found = project.plain(words), project.record(words)
-                self.assertEqual((plain.stdout, plain.stderr), (found.stdout[:len(plain.stdout)], found.stderr), found.text())
+                wanted, said = (re.sub(rb"GMfifo\d+", b"GMfifo", one.stdout) for one in (plain, found))  # since GNU make 4.4 with its process
+                self.assertEqual((wanted, plain.stderr), (said[:len(wanted)], found.stderr), found.text())
         self.assertEqual(b"\x7fELF", Path(MAKE).read_bytes()[:4])
 
     def test_make_without_an_environment(self) -> None:

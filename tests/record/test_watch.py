@@ -11,6 +11,7 @@ from unittest import mock
 
 import support
 
+from record.make.words import LATER
 from record.watch import library
 from record.watch.elf import NotElf, Program
 from record.watch.files import Output, files_in, open_file, read_start, without_values
@@ -48,8 +49,8 @@ class Said(unittest.TestCase):
     def test_what_it_considers_and_runs(self) -> None:
         (lines,), ran = self.run_make("all: a b\na b: ; @echo $@\n")
         self.assertEqual(b"a\nb\n", ran.stdout)
-        for text in ("Reading makefile 'Makefile'...", "Considering target file 'all'.", "  Must remake target 'a'.", "# Make data base, printed on", "# Finished Make data base on"):
-            self.assertIn(text, lines)
+        for text in ("Reading makefile 'Makefile'...", "Considering target file 'all'.", "Must remake target 'a'.", "# Make data base, printed on", "# Finished Make data base on"):
+            self.assertIn(text, [line.strip() for line in lines])
         self.assertEqual(["(a)", "(b)"], [line.split()[3] for line in lines if line.startswith("Putting child ")])
 
     def test_patterns(self) -> None:
@@ -75,7 +76,7 @@ class Said(unittest.TestCase):
 
     def test_makes_that_only_answer(self) -> None:
         """They print what they print without the library, and say why they are silent."""
-        for words, asks in ((["-n"], "just_print_flag"), (["-q"], "question_flag"), (["-p"], "print_data_base_flag"), (["-v"], "print_version_flag"), (["--debug=b"], "db_level"), (["-h"], "")):
+        for words, asks in ((["-n"], "just_print_flag"), (["-q"], "question_flag"), (["-p"], "print_data_base_flag"), (["-v"], "" if support.make_version() >= LATER else "print_version_flag"), (["--debug=b"], "db_level"), (["-h"], "")):
             with self.subTest(words), support.Project({"Makefile": "all: ; echo x\n"}) as project:
                 (lines,), ran = self.run_make("all: ; echo x\n", words)
                 start = read_start(line + "\n" for line in lines)
