@@ -19,7 +19,7 @@ from record.make.one_job import has_one_job
 from record.make.programs import Programs
 from record.make.words import Job, Round, Words, makefiles
 from record.trace.events import ABSENT, ENTERED, INSIDE, LISTED, LOOKS, MAKE_LISTED, MAKE_OPENED, READ, REMOVED, SEEN
-from record.trace.lives import Life
+from record.trace.lives import Act, Life
 
 SHELL = re.compile(r"\$[({]shell\s|!=")  # what calls a program while make reads or expands a text
 
@@ -328,10 +328,11 @@ class Owners:
         jobs = [job for _, one in rounds for job in one.jobs if job.pids[1:]]
         names = {n for _, r in rounds for n in r.nodes} | {v for _, r in rounds for v in r.vpath.values()}
         apart = self.removed_last(make) | self.read_archives(make, names)  # guard: not-removal-of-intermediate-files
+        asked = self.asked_names(make, rounds)
         programs = Programs(make.words, make.life)
         pieces: List[Tuple[int, List[Tuple[str, str, int]], Work]] = []
         for act in make.life.acts:
-            if ready < act.place < end and (act.word not in names or programs.are_at(act.word)) and id(act) not in apart:  # guard: relative-folders
+            if ready < act.place < end and (act.word not in names or programs.are_at(act.word) or id(act) in asked) and id(act) not in apart:  # guard: relative-folders
                 pieces.append((act.place, [(act.kind, act.path, act.place)], Work()))
         for life in make.life.children:
             if id(life) not in self.jobs and ready < life.born < end:
@@ -356,6 +357,18 @@ class Owners:
         ended = max((life.died for life in make.life.children if id(life) in self.jobs), default=0)
         names = {os.path.normpath(os.path.join(make.folder, name)) for r in make.words.rounds if r.base is not None for name in r.base.intermediate}
         return {id(act) for act in make.life.acts if act.kind == REMOVED and act.place > ended and act.path in names}
+
+    def asked_names(self, make: Make, rounds: List[Tuple[int, Round]]) -> Set[int]:
+        """The looks at names for which recipes ask, as by `$(wildcard a)`: the last before a recipe begins. The C library of Debian 11 looks as make does at a
+        target, later ones by `lstat`. The acts, by their ids."""
+        acts: Dict[str, List[Act]] = {}
+        for act in make.life.acts if any(one.asked for _, one in rounds) else ():
+            acts.setdefault(act.path, []).append(act)
+        found: Set[int] = set()
+        for job, name in ((job, name) for _, one in rounds for job in one.jobs for name in one.asked.get(job.target, ())):
+            before = [act for path in make.looked.get(name, ()) for act in acts[path] if act.place < self.births.get(id(job), 0)]
+            found.update(map(id, sorted(before, key=lambda act: act.place)[-1:]))
+        return found  # guard: names-that-recipes-ask-for
 
     @staticmethod
     def read_archives(make: Make, names: Set[str]) -> Set[int]:

@@ -101,6 +101,7 @@ GUARDS: List[Guard] = [
     ),
     *guards("make/owners.py",
         ("calls-of-make-that-leave-processes", "if False:", "parts.Makefiles.process_that_a_function_leaves", YES),
+        ("names-that-recipes-ask-for", "return set()", "owners.Names.name_for_which_a_recipe_asks"),
         ("what-they-say", r'return "\n".join(map(text_of, [os.path.join(self.folder, name)]))', "owners.Texts.makefile_that_is_written_again"),
         ("users-own-j1", "pass", "small.Makefiles.jobs_of_a_makefile", YES, "own-jobs"),
         ("not-make-that-make-calls", "return has_one_job(self.words, self.life, self.callers)", "owners.Makefiles.make_that_make_calls", YES),

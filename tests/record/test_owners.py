@@ -8,7 +8,8 @@ import support
 from record.failed import failures
 from record.make.owners import Make, Owners
 from record.make.words import Words, read_words
-from record.trace.lives import Life
+from record.trace.events import ABSENT, SEEN
+from record.trace.lives import Act, Life
 from record.watch.files import Start
 from test_small import Small, makefiles
 
@@ -129,6 +130,19 @@ Makefiles = makefiles(__name__, {
     # branches that are not read
     "branch_with_a_macro_that_is_taken_away": Small("race", MAKES, {"in.mk": "N = 1\n" + LISTS + "ifdef N\nM = 1\nL := $(wildcard *.x)\nendif\nundefine M\n"}),
 })
+
+
+class Names(unittest.TestCase):
+    """At what make itself looks."""
+
+    def test_name_for_which_a_recipe_asks(self) -> None:
+        """By `stat`, as make looks at targets, or by `lstat`: the look is of that recipe."""
+        for word in ("a", ""):
+            lives = make_of((8, 5), (9, 10))
+            lives[0].acts = [Act(3, ABSENT, "/w/a", "a"), Act(8, SEEN, "/w/a", "a"), Act(9, SEEN, "/w/a", word)]
+            words = words_of("Considering target file 'a'.", "Must remake target 'a'.", Holes.JOB, "Considering target file 'b'.", "Must remake target 'b'.", "GLOB a", Holes.AGAIN)
+            (make,) = Owners(lives, [words]).makes
+            self.assertEqual({(0, "b"): {(SEEN, "/w/a"): 9}}, {owner: work.events for owner, work in make.acts.items()}, word)
 
 
 class Texts(unittest.TestCase):
