@@ -7,6 +7,7 @@ import os
 import struct
 from pathlib import Path
 
+from record.orders.processes import leads_to
 from record.orders.reported import Call, filter_of
 
 # The numbers of a call on x86-64 and arm64, what it does, and where it has its paths: the place of each among what it is given, behind that of its folder.
@@ -52,7 +53,7 @@ def paths_of(call: Call, where: str) -> list[str]:
         text = os.fsdecode(memory_of(call.pid, call.given[int(place[-1])], LONGEST).partition(b"\0")[0])
         folder = ctypes.c_int(call.given[int(place[0])] & 0xFFFFFFFF).value if len(place) > 1 else HERE
         try:
-            above = os.readlink(f"/proc/{call.pid}/{'cwd' if folder == HERE else f'fd/{folder}'}") if text[:1] != "/" else "/"
+            above = leads_to(call.pid, "cwd" if folder == HERE else f"fd/{folder}") if text[:1] != "/" else "/"
         except OSError:
             continue
         if text:

@@ -32,13 +32,18 @@ def born(pid: int) -> tuple[int, int]:
     return int((words_of(pid)[19:20] or ["0"])[0]), pid
 
 
+def leads_to(pid: int, name: str) -> str:
+    """Where a link of a process leads (proc(5), `cwd`, `fd/3`), from its own root on: of one with other mounts the system names the root of a chroot, too."""
+    path, root = (os.readlink(f"/proc/{pid}/{it}") for it in (name, "root"))
+    return path.removeprefix(root.rstrip("/")) or "/"  # guard: folders-in-a-chroot
+
+
 def folder_of(pid: int) -> str:
-    """The folder in which a process works, from its own root on: of one with other mounts the system names the root of a chroot, too."""
+    """The folder in which a process works."""
     try:
-        folder, root = (os.readlink(f"/proc/{pid}/{name}") for name in ("cwd", "root"))
+        return leads_to(pid, "cwd")
     except OSError:
         return ""
-    return folder.removeprefix(root.rstrip("/")) or "/"  # guard: folders-in-a-chroot
 
 
 def children_of(pid: int) -> list[int]:

@@ -56,7 +56,7 @@ GUARDS: List[Guard] = [
         ("races-of-build-that-holds", "if False:", "waits.Waits.case_wait_for_another_one", YES),
     ),
     *guards("orders/processes.py",
-        ("folders-in-a-chroot", "return folder", "gate.Gates.fixes_in_a_chroot"),
+        ("folders-in-a-chroot", "return path", "gate.Gates.fixes_in_a_chroot"),
         ("who-is-held-by-a-tracer", 'if words_of(pid)[0] not in "SZX" or any(one in shown(pid, "wchan") for one in SLEEPS):', "orders.Orders.case_folder_that_two_make", UNSAID),
         ("who-does-something-of-its-own", "return all([is_settled(one, waiting, seen) for one in live])", "gate.Gates.order_while_one_sleeps"),
     ),
