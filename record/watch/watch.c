@@ -374,6 +374,10 @@ int (fputc)(int sign, FILE *file) {
   return put_sign(FROM_MAKE, sign, file);
 }
 
+int _IO_putc(int sign, FILE *file) { /* `putchar` of programs that were built before glibc 2.28 */
+  return put_sign(FROM_MAKE, sign, file);
+}
+
 int fputs(const char *text, FILE *file) {
   note_text(FROM_MAKE, file, text, strlen(text));
   return NEXT(fputs)(is_base && file == stdout ? in_english(text) : text, file);
