@@ -88,26 +88,51 @@ __attribute__((constructor(101))) static void find_gate(int argc, char **argv) {
   is_each = !access(each, F_OK);
 }
 
-int posix_spawn_file_actions_adddup2(posix_spawn_file_actions_t *files, int from, int to) {
+static void note_output(int from, int to) {
   struct stat found;
   is_function |= to == STDOUT_FILENO && !fstat(from, &found) && S_ISFIFO(found.st_mode);
+}
+
+int posix_spawn_file_actions_adddup2(posix_spawn_file_actions_t *files, int from, int to) {
+  note_output(from, to);
   return NEXT(posix_spawn_file_actions_adddup2)(files, from, to);
 }
 
-static int waits(const char *path) {
+static int waits(void) {
   int is_first = is_ninja || (is_making && (!is_later || is_each) && !is_function);
   is_function = 0;
-  return *gate && is_first && !access(path, X_OK);
+  return *gate && is_first;
+}
+
+/* The words of a copy that waits; NULL where the process begins at once. */
+static char **held_words(const char *path, char *const words[]) {
+  size_t count = 0;
+  while (words[count]) count++;
+  char **held = waits() ? malloc((count + 3) * sizeof *held) : NULL;
+  if (!held) return NULL;
+  held[0] = is_ninja ? HOLD "-ninja" : HOLD, held[1] = (char *)path;
+  memcpy(held + 2, words, (count + 1) * sizeof *held);
+  return held;
 }
 
 int posix_spawn(pid_t *pid, const char *path, const posix_spawn_file_actions_t *files, const posix_spawnattr_t *flags, char *const words[], char *const environment[]) {
-  size_t count = 0;
-  while (words[count]) count++;
-  char **held = waits(path) ? malloc((count + 3) * sizeof *held) : NULL;
-  if (!held) return NEXT(posix_spawn)(pid, path, files, flags, words, environment);
-  held[0] = is_ninja ? HOLD "-ninja" : HOLD, held[1] = (char *)path;
-  memcpy(held + 2, words, (count + 1) * sizeof *held);
+  char **held = held_words(path, words);
+  if (!held || access(path, X_OK)) {
+    free(held);
+    return NEXT(posix_spawn)(pid, path, files, flags, words, environment);
+  }
   int fault = NEXT(posix_spawn)(pid, holder, files, flags, held, environment);
   free(held);
   return fault;
+}
+
+/* GNU make before 4.3 starts a copy of itself by vfork: that is to become the process. */
+int dup2(int from, int to) {
+  note_output(from, to);
+  return NEXT(dup2)(from, to);
+}
+
+__attribute__((visibility("hidden"))) void hold_child(const char *file, char *const words[]) {
+  char **held = held_words(file, words);
+  if (held) execv(holder, held);
 }

@@ -40,7 +40,7 @@ enum { RAISED = 0x107, HIGH = 900, LONGEST = 4096, MOST = 1 << 20, REMEMBERED = 
 
 extern char **environ;
 extern int __vfprintf_chk(FILE *, int, const char *, va_list);
-extern void hold_after(const char *); /* hold.c */
+extern void hold_after(const char *), hold_child(const char *, char *const[]); /* hold.c */
 
 static FILE *said;          /* the file of this make; NULL in other programs */
 static int number;          /* its descriptor */
@@ -188,9 +188,10 @@ static void end_unread(int number_of_signal) {
   raise(number_of_signal);
 }
 
-/* Make begins again: a job is another process. */
+/* Make begins again, or is a job, which is another process. */
 int execvp(const char *file, char *const words[]) {
   put_base();
+  if (said && getpid() != own) hold_child(file, words);
   return NEXT(execvp)(file, words);
 }
 
