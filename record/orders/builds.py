@@ -195,6 +195,7 @@ class Room:
             with in_one_step() as heard:
                 pid = os.fork()
                 if pid == 0:
+                    listener.close()  # guard: builds-that-are-left
                     self.become(plan, gate, output, heard)
             ended: list[int] = []
 

@@ -61,6 +61,7 @@ static void wait_at_gate(void) {
   strcpy(address.sun_path, gate);
   if (channel >= 0 && !connect(channel, (struct sockaddr *)&address, sizeof address)) {
     ssize_t size = answer_of(channel, rows, sizeof rows);
+    if (size <= 0) _exit(127); /* the gate is gone: so is who wants this build */
     if (size >= (ssize_t)sizeof *rows) be_reported(channel, rows, size / sizeof *rows);
   }
   close(channel);

@@ -13,6 +13,7 @@ GUARDS: List[Guard] = [
         ("what-builds-beside-could-see", "if False:", "orders.Orders.what_the_recorded_build_changes_elsewhere"),
     ),
     *guards("orders/builds.py",
+        ("builds-that-are-left", "pass", "ends.Signals.builds_that_are_left"),
         ("makes-that-another-program-runs", "if name in NAMES:", "orders.Orders.where_one_job_is_asked_for"),
         ("ports-of-their-own", "if False:", "orders.Orders.port_that_each_build_opens"),
         ("folders-of-their-own", "pass", "orders.Orders.what_copies_write_elsewhere"),

@@ -123,6 +123,19 @@ class Signals(unittest.TestCase):
                 process.communicate(timeout=60)
                 self.assertEqual((2, [], []), (len(outputs), [pid for pid in pids if is_alive(str(pid))], [path for path in outputs if os.path.exists(Path(path).parents[1])]))
 
+    def test_builds_that_are_left(self) -> None:
+        """They end where nobody lives who could let their recipes begin."""
+        with support.Project({"Makefile": "all: a b\na b: ; : > begun; sleep 1; touch $@\n"}) as project:
+            process, until = started(project), time.monotonic() + 60
+            while "hold\n" not in [shown(pid, "comm") for pid in below(process.pid)] and time.monotonic() < until:
+                time.sleep(0.01)
+            pids = [*map(str, below(process.pid))]
+            os.killpg(process.pid, signal.SIGKILL)
+            process.communicate(timeout=60)
+            while any(map(is_alive, pids)) and time.monotonic() < until:
+                time.sleep(0.05)
+            self.assertEqual((True, []), (len(pids) > 3, [*filter(is_alive, pids)]))
+
     def test_terminated(self) -> None:
         self.stopped(signal.SIGTERM)
 
