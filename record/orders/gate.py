@@ -13,7 +13,7 @@ import selectors
 import socket
 import struct
 import time
-from collections.abc import Callable, Mapping
+from collections.abc import Callable, Mapping, Sequence
 from dataclasses import dataclass, field
 from pathlib import Path
 
@@ -26,6 +26,7 @@ OF_CHILD = re.compile(rb"(?:Putting|Live) child \S+ \((.*)\) PID (\d+)|Removing 
 CREDENTIALS = struct.Struct("3i")  # of who has connected: process, user, group
 LEAST, MOST = 0.001, 0.032  # seconds from one look at the processes to the next
 LAST = float("inf")
+BY_NINJA = b"race-hold-ninja"  # the first word of a process that waits for a ninja
 CLOCK_OF_FILES = 5  # CLOCK_REALTIME_COARSE of Linux
 
 
@@ -37,26 +38,36 @@ def sum_of(command: bytes) -> str:
     return "%016x" % found
 
 
+def held_words(pid: int) -> list[bytes]:
+    """The words of a process that waits (watch/hold.c)."""
+    try:
+        return Path(f"/proc/{pid}/cmdline").read_bytes().split(b"\0")
+    except OSError:
+        return []
+
+
 def held_command(pid: int) -> str:
     """The sum of the command that a process which waits is to run for a ninja: the last of its words."""
-    try:
-        return sum_of(Path(f"/proc/{pid}/cmdline").read_bytes().split(b"\0")[-2])
-    except (OSError, IndexError):
-        return ""
+    return sum_of(next(iter(held_words(pid)[-2:-1]), b""))
 
 
 @dataclass
 class Gate:
     """What waits, and what has begun. `places`: of each recipe its place in the order; of those that wait the one with the greatest begins. `after`: those
-    that one waits for besides. `is_flipped`: of those without a place, or of one place, the last that came begins, and else the first."""
+    that one waits for besides. `is_flipped`: of those without a place, or of one place, the last that came begins, and else the first. `at_once`: so many
+    may run side by side, of those that wait for no other one and are not `alone`."""
 
     top: Path  # the folder of the build: `gate` in it is the socket
     places: Mapping[Key, float]
     after: Mapping[Key, set[Key]] = field(default_factory=dict)
     is_flipped: bool = False
+    at_once: int = 1
+    alone: frozenset[Key] = frozenset()
     unknown: float = LAST  # the place of recipes that have none
     waiting: dict[int, socket.socket] = field(default_factory=dict)
     began: list[Key] = field(default_factory=list)
+    running: dict[Key, tuple[tuple[int, str], int]] = field(default_factory=dict)  # the make and the target, and the first process
+    over: set[Key] = field(default_factory=set)
     owners: dict[int, Key] = field(default_factory=dict)  # by first process of a recipe
     open: dict[tuple[int, str], Key] = field(default_factory=dict)  # by make and target
     counts: dict[Key, int] = field(default_factory=dict)
@@ -126,9 +137,11 @@ class Gate:
 
     def is_over(self, key: Key) -> bool:
         """Whether a recipe has begun, and ended."""
-        found = next((at for at, one in self.open.items() if one == key), None)
-        pid = next((at for at, one in self.owners.items() if one == key), 0)
-        return found is not None and (found in self.ended or pid not in self.targets and words_of(pid)[0] in "ZX")
+        found, pid = self.running.get(key, (None, 0))
+        if found in self.ended or found is not None and pid not in self.targets and words_of(pid)[0] in "ZX":
+            del self.running[key]
+            self.over.add(key)
+        return key in self.over
 
     def is_idle(self, root: int) -> bool:
         """Whether nothing else can happen in the build."""
@@ -136,28 +149,47 @@ class Gate:
 
     def may_begin(self, key: Key) -> bool:
         """Whether a recipe waits for no other one besides."""
-        return all(map(self.is_over, self.after.get(key, ())))
+        return self.over.issuperset(self.after.get(key, ()))
+
+    def is_named(self, pid: int) -> bool:
+        """Whether it is known for what a process is that waits: a make says that when it has started it."""
+        return pid in self.targets or held_words(pid)[:1] == [BY_NINJA]
+
+    def beside(self, rows: Mapping[int, tuple[int, str, Key]], free: Sequence[int]) -> list[int]:
+        """Those of some processes that may begin beside what runs. A recipe with a make in it runs what that starts."""
+        outer = {key[:length] for key in (*self.running, *(key for _, _, key in rows.values())) for length in range(1, len(key))}
+        is_full = len(self.running.keys() - outer) >= self.at_once
+        return [pid for pid in free if not is_full and rows[pid][2] not in self.alone]  # guard: recipes-that-run-alone
 
     def turn(self, root: int) -> bool:
-        """Lets a recipe begin, if nothing else can happen; whether one does."""
-        if not self.waiting or not self.is_idle(root):
+        """Lets a recipe begin, if nothing else can happen, or if it may run beside others; whether one does."""
+        is_idle = bool(self.waiting) and self.is_idle(root)
+        if not self.waiting or not is_idle and self.at_once == 1:
             return False
         self.hear_makes()
-        rows = {pid: self.bare(pid) for pid in self.waiting}
+        for key in [*self.running]:
+            self.is_over(key)
+        rows = {pid: self.bare(pid) for pid in self.waiting if is_idle or self.is_named(pid)}
         further = [pid for pid, (make, name, _) in rows.items() if (make, name) in self.open]
         free = [pid for pid, (_, _, key) in rows.items() if self.may_begin(key)]  # guard: fixes-hold
-        pid = max(further or free or rows, key=lambda one: (self.places.get(rows[one][2], self.unknown), *(at if self.is_flipped else -at for at in self.born[one])))  # guard: last-that-came
+        some = further or free or [*rows] if is_idle else self.beside(rows, free)
+        if some:
+            self.begin(max(some, key=lambda one: (self.places.get(rows[one][2], self.unknown), *(at if self.is_flipped else -at for at in self.born[one]))), rows)  # guard: last-that-came
+        return bool(some)
+
+    def begin(self, pid: int, rows: Mapping[int, tuple[int, str, Key]]) -> None:
+        """Lets a process begin."""
         make, name, key = rows[pid]
         if (make, name) not in self.open:
             self.began.append(key)
             self.open[make, name] = key
+            self.running[key] = (make, name), pid
             self.counts[(*key[:-1], (*key[-1][:2], 0))] = key[-1][2]
         self.owners[pid] = self.open[make, name]
         wait_for_tick()
         end = os.pidfd_open(pid)
         self.choose.register(end, selectors.EVENT_READ, lambda: self.leave(end))
         self.let_go(pid, self.waiting.pop(pid))
-        return True
 
     def let_go(self, pid: int, channel: socket.socket) -> None:
         """Answers a process that waits."""
@@ -193,7 +225,7 @@ class Gate:
                     key.data()
                 began = not found and self.turn(root)
                 if found or began:
-                    self.since, pause = time.monotonic(), MOST if began else LEAST  # the end of what begins is heard
+                    self.since, pause = time.monotonic(), MOST if began and self.at_once == 1 else LEAST  # the end of what begins is heard
                 elif pause == MOST and time.monotonic() - self.since > limit():
                     return False
                 else:

@@ -198,6 +198,20 @@ class Graph:
             found = self.ordered([int((self.tasks[first].before | 1 << first) >> task & 1) for task in range(len(self.tasks))])
         return found
 
+    def kept_apart(self, left: Left, places: Mapping[Key, float]) -> tuple[dict[Key, set[Key]], frozenset[Key]]:
+        """What keeps some pairs apart in an order, where others run side by side: which recipe waits for which, and which run alone, as make does something
+        by itself before or behind them."""
+        after: dict[Key, set[Key]] = {}
+        alone: set[Key] = set()
+        for first, second in left.all():
+            one, other = self.tasks[first].key, self.tasks[second].key
+            if one is None or other is None:
+                alone.update(filter(None, (one, other)))
+            else:
+                early, late = (one, other) if places[one] > places[other] else (other, one)
+                after.setdefault(late, set()).add(early)
+        return after, frozenset(alone)
+
     def ordered(self, score: Sequence[int]) -> dict[Key, float]:
         """The places of all recipes in such an order."""
         return placed([self.tasks[task].key for task in self.schedule(score)])

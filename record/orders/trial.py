@@ -112,6 +112,7 @@ class Trial:
         if again.status != 0:
             raise CannotTry("of a second serial build, in a copy: " + "; ".join(again.message()))
         self.compare(again)
+        self.room.forget(again.plan)
         self.builds += 1
         if not running.children:
             return [flip]
@@ -129,7 +130,6 @@ class Trial:
             self.unstable[number] |= differing(one, other)
             self.passing[number] += passing(one.keys() - other.keys(), other.keys() - one.keys())
         self.pass_unseen()
-        self.room.forget(again.plan)
 
     def pass_unseen(self) -> None:
         """Conflicts of which nobody sees what they do stay races."""
@@ -190,8 +190,12 @@ class Trial:
         return [Plan("one", placed(self.order), ONE, self.after)] if self.is_parallel else []  # guard: jobs-of-the-recorded-build
 
     def cover(self, is_first: bool = True) -> Plan:
-        """A build that turns round what no other has; the first one with two jobs, where conflicts are left."""
-        return Plan("cover", self.graph.covering(self.left), 2 if is_first and self.left.soft else MANY, self.after)
+        """A build that turns round what no other has, and in which the rest runs side by side; the first one with two jobs, where conflicts are left."""
+        places = self.graph.covering(self.left)
+        after, alone = self.graph.kept_apart(self.left, places)
+        for late, early in self.after.items():
+            after.setdefault(late, set()).update(early)
+        return Plan("cover", places, 2 if is_first and self.left.soft else MANY, after, at_once=os.cpu_count() or 1, alone=alone)
 
     def try_all(self, plans: Sequence[Plan]) -> None:
         """Makes builds, some at once."""
@@ -256,13 +260,14 @@ class Trial:
         self.cleared = [pair for pair in self.cleared if pair not in left]
 
     def made_again(self, plan: Plan) -> tuple[Built, Optional[Ended]]:
-        """Makes a build in which something differs again, and a serial one beside it: that shows what goes by the time. What another build has shown is no
-        difference any more, and neither is what the recorded build did meanwhile."""
-        again, built = side_by_side(self.room, [Plan(SERIAL, {}, OWN), plan])
+        """Makes a build in which something differs again, one recipe at a time, and a serial one beside it: that shows what goes by the time. What another build
+        has shown is no difference any more, and neither is what the recorded build did meanwhile."""
+        again, built = side_by_side(self.room, [Plan(SERIAL, {}, OWN), replace(plan, at_once=1)])
         if again.status == 0:
             self.compare(again)  # guard: what-goes-by-the-time
         ended = self.ended(built)
-        self.room.forget(plan)
+        for one in (again.plan, plan):
+            self.room.forget(one)
         return built, ended
 
     def narrow(self, built: Built, ended: Ended) -> Shown:
