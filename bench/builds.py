@@ -35,14 +35,14 @@ def own(names):
 
 
 def lay_log(folder, most=BEHIND):
-    """1,414 recipes that all append to one log, each behind a given number before it."""
+    """1,414 recipes that append to one log, each behind the 120 before it: 998,991 pairs conflict, all in order. The 120 may be another number."""
     names = [f"r{i}" for i in range(1_414)]
     rules = behind(names, most) if most else below_all(names)
     write(folder, rules, [(name, [], [name, "build.log"]) for name in names] + [("all", [], [])])
 
 
 def lay_free(folder):
-    """The same recipes, none behind another."""
+    """1,414 recipes that append to one log, none behind another: 998,991 races."""
     lay_log(folder, 0)
 
 
@@ -54,7 +54,7 @@ def lay_sparse(folder):
 
 
 def lay_paths(folder):
-    """10 recipes of 100,000 paths each."""
+    """10 recipes of 100,000 paths each, of which no two share one."""
     names = [f"r{i}" for i in range(10)]
     lines = [(name, [f"{name}/{k:05}" for k in range(99_999)], [name]) for name in names]
     write(folder, [*behind(names[:-1], 0), (names[-1], names[:-1])], lines)
@@ -78,26 +78,26 @@ def lay_trees(folder):
 
 
 def lay_readers(folder, headers=1, readers=19_998):
-    """Recipes that each read a folder of headers, none behind the recipes that write these."""
+    """19,998 recipes that read a folder with one header, and do not wait for it: 19,998 races. Both numbers may be others."""
     made, names = [f"h/{i}" for i in range(headers)], [f"r{i}" for i in range(readers)]
     lines = own(made) + [(name, ["h/"], [name]) for name in names]
     write(folder, below_all(made + names), [*lines, ("all", [], [])])
 
 
 def lay_temporaries(folder):
-    """19,999 recipes, of which 50 each write one temporary, none behind another."""
+    """19,999 recipes, of which 50 each write one temporary, none behind another: 489,951 races."""
     names = [f"r{i}" for i in range(19_999)]
     lines = [(name, [], [name, f"t{i // 50}"]) for i, name in enumerate(names)]
     write(folder, below_all(names), [*lines, ("all", [], [])])
 
 
 def lay_headers(folder):
-    """440 headers, and as many recipes that read all of them."""
+    """440 recipes that read 440 headers: 193,600 races and as many edges, for which a makefile has no room."""
     lay_readers(folder, 440, 440)
 
 
 def lay_many_headers(folder):
-    """1,000 headers, and as many recipes that read all of them."""
+    """1,000 recipes that read 1,000 headers: 1,000,000 races and as many edges."""
     lay_readers(folder, 1_000, 1_000)
 
 

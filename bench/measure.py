@@ -1,4 +1,4 @@
-"""One run of a program: its times, its peak memory and what it printed; and what Python takes for the same text."""
+"""One run of a program: its times, its peak memory and what it printed; what Python takes for the same text; and the tables of the benches."""
 from __future__ import annotations
 
 import json
@@ -10,6 +10,7 @@ import sys
 import tempfile
 import time
 from dataclasses import dataclass
+from typing import Callable
 
 PEER = pathlib.Path(__file__).resolve().parent / "peer"
 # Where Debian's packages put the sources of crates.
@@ -27,6 +28,14 @@ class Run:
     memory: float
     status: int
     out: bytes
+
+    def cost(self) -> str:
+        """The seconds of the clock and the memory, as a cell of a table."""
+        return f"{self.seconds:.2f} s, {self.memory:,.0f} MiB"
+
+    def first(self) -> str:
+        """The first line of the output."""
+        return self.out.split(b"\n", 1)[0].decode(errors="replace")
 
 
 def once(folder: pathlib.Path, command: list[str]) -> Run:
@@ -46,6 +55,32 @@ def best(runs: int, folder: pathlib.Path, command: list[str]) -> Run:
     made = [once(folder, command) for _ in range(runs)]
     least = [min(getattr(it, name) for it in made) for name in ("seconds", "user")]
     return Run(*least, max(it.memory for it in made), made[-1].status, made[-1].out)
+
+
+def row(*cells: str) -> None:
+    """Prints a row of the table that a bench makes: `bench/all` puts it into docs/MEASUREMENTS.md."""
+    print(f"| {' | '.join(cells)} |", flush=True)
+
+
+def head(*cells: str) -> None:
+    """Prints the head of that table."""
+    row(*cells)
+    print("|---" * len(cells) + "|", flush=True)
+
+
+def note(name: str, *runs: Run) -> None:
+    """Says on standard error what the runs on an input answered."""
+    print(f"{name}: {'; '.join(it.first() for it in runs)}", file=sys.stderr, flush=True)
+
+
+def about(lay_out: Callable[..., object]) -> str:
+    """What an input is: the first sentence of the docstring of what lays it out."""
+    return " ".join((lay_out.__doc__ or "").split()).partition(". ")[0].rstrip(".")
+
+
+def size(count: int) -> str:
+    """A number of bytes, as a cell of a table."""
+    return f"{count} B" if count < 1_000 else f"{count / 1e3:.0f} kB" if count < 1e6 else f"{count / 1e6:.1f} MB"
 
 
 def read_by_python(log: pathlib.Path) -> float:

@@ -3,22 +3,15 @@
 
     bench/check/run.py [--runs N] [--keep FOLDER] [PROGRAM]
 
-PROGRAM is the built program (crates/race/out/race). The builds:
+PROGRAM is the built program (crates/race/out/race). The builds are those of BUILDS, as bench/builds.py has them, and a certificate of a
+million chains through 1,415 of 20,000 nodes, of which none clash, for `race verify`.
 
-  log       1,414 recipes that all append to one log, each behind the 120 before it: 998,991 pairs clash, all are in order,
-            and the certificate has a chain for each
-  free      the same recipes, none behind another: the first pair races
-  sparse    19,999 recipes of 50 paths each, of which no two share one: no pair clashes
-  paths     10 recipes of 100,000 paths each: 1,000,000 paths of footprints
-  dense     20,000 nodes with nearly 200,000 edges; two recipes, the first and the last but one, share a file
-  trees     9,999 pairs of recipes, of which one reads a folder and the other writes a file in it, in order
-
-Printed are, for each, the best wall time of N runs (three) of `race check` and its user time; the wall time of the part that
-makes the jobs (`race verify` with a proof that is none, which is refused once the jobs are made), of `race verify` with the
-proof that `race check --print-proof` gives, and of Python's json module on the footprints alone; the user time of a Rust
+Printed are, for each, the best wall time of N runs (three) and the greatest peak memory of `race check`, and its user time; the wall
+time of the part that makes the jobs (`race verify` with a proof that is none, which is refused once the jobs are made), of `race verify`
+with the proof that `race check --print-proof` gives, and of Python's json module on the footprints alone; the user time of a Rust
 program without a proof that reads the footprints and sorts their paths, or makes the chains of `log` (bench/peer; it wants cargo
-and Debian's package librust-serde-json-dev, and is left out without); and the greatest peak memory of a `race check`. Last come a million chains through 1,415 of 20,000 nodes, of which none clash, for `race verify`. With
---keep the inputs are left in FOLDER. Nothing here is a test.
+and Debian's package librust-serde-json-dev, and is left out without). What was answered goes to standard error. With --keep the inputs
+are left in FOLDER. Nothing here is a test.
 """
 import argparse
 import math
@@ -32,7 +25,7 @@ sys.dont_write_bytecode = True
 sys.path.insert(0, str(TOP / "bench"))
 
 from builds import BEHIND, lay_dense, lay_free, lay_hostile, lay_log, lay_paths, lay_sparse, lay_trees
-from measure import Run, best, built_peer, read_by_python
+from measure import Run, about, best, built_peer, head, note, read_by_python, row, size
 
 BUILDS = {"log": lay_log, "free": lay_free, "sparse": lay_sparse, "paths": lay_paths, "dense": lay_dense, "trees": lay_trees}
 
@@ -57,19 +50,18 @@ class Bench:
 
 
 def bench_build(bench, name, lay_out, folder):
+    """Prints the row of a build."""
     lay_out(folder)
-    size = sum((folder / it).stat().st_size for it in ("makefile", "footprints"))
+    inputs = sum((folder / it).stat().st_size for it in ("makefile", "footprints"))
     check = bench.best(folder, "check")
     (folder / "none").write_text("")
     jobs = bench.best(folder, "verify", "--proof", "none")
     (folder / "proof").write_bytes(bench.best(folder, "check", "--print-proof").out)
     verify = bench.best(folder, "verify", "--proof", "proof")
-    words = " ".join(it.out.split(b"\n", 1)[0].decode() for it in (check, verify))
-    if not jobs.out.startswith(b"refused\nF25 "):
-        words += ", and the jobs are not made"
-    times = (check.seconds, check.user, jobs.seconds, verify.seconds, read_by_python(folder / "footprints"), bench.peer_seconds(name, folder))
+    note(name, check, jobs, verify)
+    times = (check.user, jobs.seconds, verify.seconds, read_by_python(folder / "footprints"), bench.peer_seconds(name, folder))
     proof = (folder / "proof").stat().st_size
-    print(f"{name:>8}{size:11}{proof:11}{''.join(f'{it:8.2f}' for it in times)}{check.memory:8.1f}  {words}", flush=True)
+    row(about(lay_out), size(inputs), size(proof), check.cost(), *("" if math.isnan(it) else f"{it:.2f} s" for it in times))
 
 
 def main():
@@ -78,7 +70,7 @@ def main():
     parser.add_argument("--runs", type=int, default=3)
     parser.add_argument("--keep", type=pathlib.Path)
     args = parser.parse_args()
-    print(f"{'build':>8}{'bytes':>11}{'proof':>11}{'check':>8}{'user':>8}{'jobs':>8}{'verify':>8}{'python':>8}{'rust':>8}{'MiB':>8}  answers")
+    head("build", "inputs", "proof", "`race check`", "user", "of which the jobs", "`race verify`", "Python", "Rust")
     with tempfile.TemporaryDirectory(prefix="race-bench-") as scratch:
         bench = Bench(os.path.abspath(args.program), args.runs, built_peer(pathlib.Path(scratch)))
         for name, lay_out in BUILDS.items():
@@ -89,8 +81,8 @@ def main():
         folder.mkdir(parents=True, exist_ok=True)
         lay_hostile(folder)
         run = bench.best(folder, "verify", "--proof", "proof")
-        size, answer = (folder / "proof").stat().st_size, run.out.decode().strip()
-        print(f" hostile: {size} bytes of proof, verify {run.seconds:.2f} s, {run.memory:.1f} MiB: {answer}")
+        note("hostile", run)
+        row(about(lay_hostile), "", size((folder / "proof").stat().st_size), "", "", "", run.cost(), "", "")
 
 
 if __name__ == "__main__":

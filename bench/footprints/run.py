@@ -28,7 +28,7 @@ TOP = pathlib.Path(__file__).resolve().parents[2]
 sys.dont_write_bytecode = True
 sys.path.insert(0, str(TOP / "bench"))
 
-from measure import best
+from measure import best, head, note, row, size
 
 LINES, PATHS, NAMES = 1_000, 1_000, 100_000
 WORDS = ["check", "--makefile", "makefile", "--listing", "listing", "--footprints", "footprints", "--root", "/w"]
@@ -81,15 +81,15 @@ def main() -> int:
     parser.add_argument("--keep", metavar="FOLDER", type=pathlib.Path, help="where to leave the inputs")
     args = parser.parse_args()
     program = os.path.abspath(args.program)
-    print(f"{'paths':>9}{'bytes':>11}{'check':>8}{'python':>8}{'MiB':>8}  answer")
+    head("paths", "footprints", "`race check`", "Python")
     with tempfile.TemporaryDirectory(prefix="race-bench-") as scratch:
         folder = args.keep or pathlib.Path(scratch)
         for lines in (LINES // 4, LINES // 2, LINES):
             write_inputs(folder, lines)
             check = best(args.runs, folder, [program, *WORDS])
             python = best(args.runs, folder, [sys.executable, "-c", UNITE, "footprints"])
-            size, answer = (folder / "footprints").stat().st_size, check.out.split(b"\n", 1)[0].decode()
-            print(f"{lines * PATHS:9}{size:11}{check.user:8.2f}{python.user:8.2f}{check.memory:8.1f}  {answer}", flush=True)
+            note(f"{lines * PATHS}", check)
+            row(f"{lines * PATHS:,}", size((folder / "footprints").stat().st_size), f"{check.user:.2f} s, {check.memory:,.0f} MiB", f"{python.user:.2f} s")
         if shutil.which("valgrind"):
             print(share_of_reading(folder, program))
     return 0

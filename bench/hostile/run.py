@@ -1,14 +1,15 @@
 #!/usr/bin/env python3
 """Times the built program on inputs that were made to cost it much time or memory.
 
-    bench/hostile/run.py [--only NAME ..] [--seconds N] [--gigabytes N] [PROGRAM]
+    bench/hostile/run.py [--only NAME ..] [--large] [--seconds N] [--gigabytes N] [PROGRAM]
 
 PROGRAM is the built program (crates/race/out/race). Each input is as large as a limit allows, or as its line in docs/SAFETY.md
 says, and is made at half of that size first. Printed are the size of the texts, the seconds of a processor and the peak
 memory of one run of each, as GNU time reports them (Debian's package `time`), the power of the size that the time grows with, the
 status, and whether the whole is over its bound: five seconds and a twentieth for each megabyte of the texts, and 64 MiB with 24 times the texts; and besides, for
 inputs that are named in LINES, what a line of the makefile is allowed there. A run that takes more than N seconds (100) is
-stopped, and one that wants more than N gigabytes (6) is refused memory. Nothing here is a test.
+stopped, and one that wants more than N gigabytes (6) is refused memory. With --large only those inputs are printed that take three seconds
+or 500 MiB, or are over their bound. Nothing here is a test.
 """
 import argparse
 import json
@@ -447,17 +448,21 @@ def main():
     parser = argparse.ArgumentParser(description=__doc__, formatter_class=argparse.RawDescriptionHelpFormatter)
     parser.add_argument("program", nargs="?", default=str(TOP / "crates/race/out/race"))
     parser.add_argument("--only", action="append", metavar="NAME", help="the inputs whose name begins so")
+    parser.add_argument("--large", action="store_true")
     parser.add_argument("--seconds", type=int, default=100)
     parser.add_argument("--gigabytes", type=float, default=6)
     args = parser.parse_args()
     args.program = os.path.abspath(args.program)
-    print("| input | size | half: time, memory | whole: time, memory | growth | status | |\n|---|---|---|---|---|---|---|")
+    print("| input | size | half | whole | growth | status | bound |\n|---|---|---|---|---|---|---|")
     for name, make_input in INPUTS.items():
         if args.only and not any(name.startswith(it) for it in args.only):
             continue
         half, whole = run(args, make_input, 1 / 2), run(args, make_input, 1)
-        times = " | ".join(f"{seconds:.2f} s, {memory:.0f} MiB" for _, seconds, memory, _ in (half, whole))
-        print(f"| {name} | {whole[0] / MEGABYTE:.1f} MB | {times} | {math.log2(max(whole[1], 0.01) / max(half[1], 0.01)):.1f} | {whole[3]} | {'over' if is_over(name, *whole) else ''} |", flush=True)
+        is_over_bound = is_over(name, *whole)
+        if args.large and whole[1] < 3 and whole[2] < 500 and not is_over_bound:
+            continue
+        times = " | ".join(f"{seconds:.2f} s, {memory:,.0f} MiB" for _, seconds, memory, _ in (half, whole))
+        print(f"| {name} | {whole[0] / MEGABYTE:.1f} MB | {times} | {math.log2(max(whole[1], 0.01) / max(half[1], 0.01)):.1f} | {whole[3]} | {'over' if is_over_bound else ''} |", flush=True)
 
 
 if __name__ == "__main__":

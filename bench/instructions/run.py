@@ -11,12 +11,12 @@
 PROGRAM is the built program (crates/race/out/race). Times differ by half from one minute to the next on a busy machine; an
 instruction count is the same in each run of one program on one input. `counts` beside this script has a line for each
 input: its name and its count in millions. The script runs valgrind's callgrind (Debian's package `valgrind`) on each
-input, prints the count, the one in the file and the change, and ends with status 1 where a count moved by more than two
+input, prints the count in millions and the change from the one in the file, and ends with status 1 where a count moved by more than two
 percent, and 3 where valgrind is missing. Run it before a change that claims speed lands. Nothing here is a test.
 
-With --times N each line has the best user time and wall time of N runs and the greatest peak memory too. With --peers each
-input has a line for each peer that is on this machine: GNU make and bmake that read the same makefile (`-n -r`), or Python's
-json module that reads the footprints, the tasks or the log. A peer that takes more than two seconds is not counted.
+With --times N each cell has the best user time of N runs and the greatest peak memory too. With --peers each input has a cell for each
+peer that is on this machine: GNU make and bmake that read the same makefile (`-n -r`), or Python's json module that reads the
+footprints, the tasks or the log. The instructions of a peer that takes more than two seconds are not counted.
 
 An instruction count is no time: an ordered map looks dear and is cheap on rising names. docs/MEASUREMENTS.md has both.
 """
@@ -38,7 +38,7 @@ TOP = pathlib.Path(__file__).resolve().parents[2]
 sys.path.insert(0, str(pathlib.Path(__file__).resolve().parent))
 
 from inputs import INPUTS, ORDER, Input, Words
-from measure import Run, best
+from measure import Run, best, head, row
 
 COUNTS = pathlib.Path(__file__).resolve().parent / "counts"
 SHARE = 0.02
@@ -97,12 +97,13 @@ def change_of(line: Line, kept: float | None) -> str:
     return "new" if kept is None or line.count is None else f"{100 * (line.count / kept - 1):+.1f} %"
 
 
-def text_of(name: str, line: Line, kept: float | None) -> str:
-    """What is printed of a tool on an input."""
-    of_race = f"{kept or 0:12.1f}{change_of(line, kept):>10}" if line.tool == "race" else " " * 22
-    counted = "     too long" if line.count is None else f"{line.count:13.1f}"
-    timed = f"{line.run.user:9.3f}{line.run.seconds:9.3f}{line.run.memory:9.1f}" if line.run else ""
-    return f"{name:38}{line.tool:8}{counted}{of_race}{timed}"
+def cell_of(lines: list[Line], tool: str) -> str:
+    """What was measured of a tool on an input; nothing where it was not."""
+    for line in lines:
+        if line.tool == tool:
+            timed = [f"{line.run.user:.3f} s", f"{line.run.memory:,.1f} MiB"] if line.run else []
+            return ", ".join(["not counted" if line.count is None else f"{line.count:,.1f}", *timed])
+    return ""
 
 
 def arguments() -> argparse.Namespace:
@@ -126,12 +127,12 @@ def main() -> int:
         return 3
     chosen = [it for it in INPUTS if not args.only or it.name.startswith(tuple(args.only))]
     before, now = kept_counts(), {}
-    heads = f"{'user':>9}{'wall':>9}{'MiB':>9}" if args.times else ""
-    print(f"{'input':38}{'tool':8}{'instructions':>13}{'kept':>12}{'change':>10}{heads}   (millions of instructions, seconds)")
+    peers = {"make": "GNU make", "bmake": "bmake", "python": "Python"} if args.peers else {}
+    head("input", "`race`", "change", *peers.values())
     with ThreadPoolExecutor(1 if args.times else args.jobs) as pool:
         for it, lines in zip(chosen, pool.map(lambda it: measured(args, it), chosen)):
             now[it.name] = lines[0].count
-            print(*(text_of(it.name, line, before.get(it.name)) for line in lines), sep="\n", flush=True)
+            row(f"`{it.name}`", cell_of(lines, "race"), change_of(lines[0], before.get(it.name)), *(cell_of(lines, tool) for tool in peers))
     if args.keep_counts:
         names = [it.name for it in INPUTS]
         counts = {name: found for name, found in {**before, **now}.items() if name in names}

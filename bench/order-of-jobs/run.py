@@ -1,7 +1,7 @@
 #!/usr/bin/env python3
 """Times the calls that make jobs, put them in order, find what clashes, decide, and accept certificates, one by one.
 
-    bench/order-of-jobs/run.py [--runs N] [--only BUILD] [--keep FOLDER] [PROGRAM]
+    bench/order-of-jobs/run.py [--runs N] [--only BUILD] [--large] [--keep FOLDER] [PROGRAM]
 
 The calls are timed in a small program of their own, whose text stands in timed/. It is no crate of the repository, so that
 the gate need not prove it; as the gate takes no .rt file outside crates/, the files there end in .rattle. Without
@@ -14,11 +14,11 @@ the jobs that these made, each in a run of its own: `rows` (Rows::new), `least` 
 (clashing_pairs), `decide`, and `accept` behind `proof` (read_proof). Where a build has no certificate, one of no chains is
 asked about, which is refused where anything clashes.
 
-A line for each build and call says the seconds (the best of N runs, three, by the program's clock; reading the files and
-freeing what was found are not counted), the greatest peak memory of a run up to that call in MiB (with the texts and the
-jobs; as GNU time reports it), the bound that is asked, where one is, and what was found: rules, nodes, bytes, nodes, whether the
-first node is before the last, the race, pairs, the verdict with its chains, chains, whether they are accepted. Nothing here is
-a test.
+A row for each build and call says the seconds (the best of N runs, three, by the program's clock; reading the files and freeing what
+was found are not counted) with the greatest peak memory of a run up to that call (with the texts and the jobs; as GNU time reports it),
+the bound that is asked, where one is, and what was found: rules, nodes, bytes, nodes, whether the first node is before the last, the
+race, pairs, the verdict with its chains, chains, whether they are accepted. With --large only those calls are printed that take a
+second, or more than half of what is asked. Nothing here is a test.
 """
 import argparse
 import pathlib
@@ -31,8 +31,8 @@ TOP = pathlib.Path(__file__).resolve().parents[2]
 sys.dont_write_bytecode = True
 sys.path.insert(0, str(TOP / "bench"))
 
-from measure import once
-from sizes import SIZES
+from measure import head, once, row
+from sizes import READING, SIZES
 
 LIBRARIES = "mk_decide mk_cert mk_proof mk_foot mk_graph mk_rules mk_macro mk_jobs mk_text mk_name".split()
 CALLS = ["read", "plan", "footprints", "attach", "rows", "least", "pairs", "decide", "accept"]
@@ -85,15 +85,22 @@ def measured(program, folder, runs):
     return seconds, memory, found
 
 
-def bench_build(program, runs, size, folder):
-    """Prints the lines of a build."""
+def is_large(seconds, call, bound):
+    """Whether a call takes a second, or more than half of what is asked."""
+    half = seconds["footprints"] if bound == READING else float(bound[:-2]) / 2 if bound.endswith(" s") else 1
+    return seconds[call] >= min(half, 1)
+
+
+def bench_build(program, runs, size, folder, is_large_only):
+    """Prints the rows of a build."""
     folder.mkdir(parents=True, exist_ok=True)
     size.lay(folder)
     seconds, memory, found = measured(program, folder, runs)
     for call in seconds:
-        peak = f"{memory[call]:9.1f}" if call in memory else " " * 9
-        bound = size.asked.get(call, "")
-        print(f"{size.name:10}{call:11}{seconds[call]:10.4f}{peak}  {bound:20}{found[call]}", flush=True)
+        if is_large_only and not is_large(seconds, call, size.asked.get(call, "")):
+            continue
+        peak = f", {memory[call]:,.0f} MiB" if call in memory else ""
+        row(size.name, call, f"{seconds[call]:.4f} s{peak}", size.asked.get(call, ""), found[call])
 
 
 def main():
@@ -102,15 +109,16 @@ def main():
     parser.add_argument("program", nargs="?", metavar="PROGRAM", type=pathlib.Path)
     parser.add_argument("--runs", metavar="N", type=int, default=3)
     parser.add_argument("--only", metavar="BUILD", action="append", choices=names, help=f"one of {', '.join(names)}")
+    parser.add_argument("--large", action="store_true")
     parser.add_argument("--keep", metavar="FOLDER", type=pathlib.Path)
     args = parser.parse_args()
     with tempfile.TemporaryDirectory(prefix="race-bench-") as scratch:
         room = (args.keep or pathlib.Path(scratch)).resolve()
         program = args.program.resolve() if args.program else build(room)
-        print(f"{'build':10}{'call':11}{'seconds':>10}{'MiB':>9}  {'asked':20}found")
+        head("build", "call", "it takes", "asked", "found")
         for size in SIZES:
             if size.name in (args.only or names):
-                bench_build(program, args.runs, size, room / size.name)
+                bench_build(program, args.runs, size, room / size.name, args.large)
 
 
 if __name__ == "__main__":

@@ -1,12 +1,12 @@
 #!/usr/bin/env python3
 """Times `race order` beside `make -n -r` and `bmake -n -r` on the same large makefiles.
 
-    bench/order/run.py [--runs N] [--only NAME] [PROGRAM]
+    bench/order/run.py [--runs N] [--only NAME ..] [PROGRAM]
 
 PROGRAM is the built program (crates/race/out/race). Each input is made in a folder of its own, with every listed file
-present, so that all three tools look at the same build. It prints the best wall time of N runs (five), the best user
-time, and the greatest peak memory of a run, as GNU time reports it (Debian's package `time`). A tool that is not on this
-machine is left out. Nothing here is a test.
+present, so that all three tools look at the same build. It prints, for each tool that is on this machine, the best wall time of N runs
+(five) and the greatest peak memory, as GNU time reports it (Debian's package `time`), and the seconds of `race` at an eighth, a quarter
+and a half of the input. Nothing here is a test.
 """
 import argparse
 import os
@@ -20,7 +20,7 @@ TOP = pathlib.Path(__file__).resolve().parents[2]
 sys.dont_write_bytecode = True
 sys.path.insert(0, str(TOP / "bench"))
 
-from measure import best
+from measure import about, best, head, row
 
 # GNU make goes down a chain by calls, and needs more stack than it is given.
 WITH_STACK = ("sh", "-c", 'ulimit -s unlimited; exec "$@"', "sh")
@@ -108,7 +108,7 @@ def includes(part):
 
 
 def joined(part):
-    """The same with the lines of the texts in their places."""
+    """100,000 macros, with the lines of 1,000 such texts in their places."""
     return many_macros(part, [f"M{i} = x\n" for i in range(int(1_000 * part))]), ["y"], []
 
 
@@ -148,44 +148,40 @@ def commands(program, folder, goals):
     }
 
 
-def compare(args, name, make_input):
-    """One line a tool for the full input."""
+def cost_of(args, folder, words):
+    """The cell of a tool; one that takes long runs once."""
+    if shutil.which(words[0]) is None:
+        return ""
+    run = best(1, pathlib.Path(folder), [*WITH_STACK, *words])
+    return (run if run.seconds >= 10 else best(args.runs, pathlib.Path(folder), [*WITH_STACK, *words])).cost()
+
+
+def compare(args, make_input):
+    """The row of an input."""
     with tempfile.TemporaryDirectory(prefix="race-bench-") as folder:
         goals = lay_out(folder, make_input, 1)
-        for tool, words in commands(args.program, folder, goals).items():
-            if shutil.which(words[0]) is None:
-                print(f"{name:10}{tool:8}   not here")
-                continue
-            run = best(1, pathlib.Path(folder), [*WITH_STACK, *words])
-            if run.seconds < 10:
-                run = best(args.runs, pathlib.Path(folder), [*WITH_STACK, *words])
-            print(f"{name:10}{tool:8}{run.seconds:10.3f}{run.user:10.3f}{run.memory:8.1f}  {run.status}", flush=True)
+        costs = [cost_of(args, folder, words) for words in commands(args.program, folder, goals).values()]
+    row(about(make_input), *costs, ", ".join(f"{it:.3f}" for it in growth(args, make_input)))
 
 
-def growth(args, name, make_input):
-    """The program's times at an eighth, a quarter, a half and the whole of the input."""
-    times = []
-    for part in (1 / 8, 1 / 4, 1 / 2, 1):
+def growth(args, make_input):
+    """The program's seconds at an eighth, a quarter and a half of the input."""
+    for part in (1 / 8, 1 / 4, 1 / 2):
         with tempfile.TemporaryDirectory(prefix="race-bench-") as folder:
             words = commands(args.program, folder, lay_out(folder, make_input, part))["race"]
-            times.append(best(args.runs, pathlib.Path(folder), [*WITH_STACK, *words]).seconds)
-    print(f"{name:10}growth  " + "".join(f"{seconds:10.4f}" for seconds in times), flush=True)
+            yield best(args.runs, pathlib.Path(folder), [*WITH_STACK, *words]).seconds
 
 
 def main():
     parser = argparse.ArgumentParser(description=__doc__, formatter_class=argparse.RawDescriptionHelpFormatter)
     parser.add_argument("program", nargs="?", default=str(TOP / "crates/race/out/race"))
     parser.add_argument("--runs", type=int, default=5)
-    parser.add_argument("--only", choices=INPUTS)
+    parser.add_argument("--only", action="append", choices=INPUTS)
     args = parser.parse_args()
     args.program = os.path.abspath(args.program)
-    print(f"{'input':10}{'tool':8}{'seconds':>10}{'user':>10}{'MiB':>8}  status")
-    chosen = [(name, make_input) for name, make_input in INPUTS.items() if args.only in (None, name)]
-    for name, make_input in chosen:
-        compare(args, name, make_input)
-    print("input    seconds of race at   1/8       1/4       1/2       all")
-    for name, make_input in chosen:
-        growth(args, name, make_input)
+    head("makefile", "`race order`", "GNU make", "bmake", "`race` at an eighth, a quarter, a half")
+    for name in args.only or INPUTS:
+        compare(args, INPUTS[name])
 
 
 if __name__ == "__main__":

@@ -20,7 +20,7 @@ TOP = pathlib.Path(__file__).resolve().parents[2]
 sys.dont_write_bytecode = True
 sys.path.insert(0, str(TOP / "bench"))
 
-from measure import best, read_by_python
+from measure import best, head, note, read_by_python, row, size
 
 RECIPES = 9_999
 INPUTS = "--makefile makefile --listing listing --footprints footprints --log log --root /w".split()
@@ -73,17 +73,16 @@ def main():
     parser.add_argument("--events", type=int, default=1_000_000)
     args = parser.parse_args()
     program = os.path.abspath(args.program)
-    print(f"{'events':>10}{'bytes':>12}{'seconds':>10}{'user':>8}{'MiB':>8}{'python':>8}  answer")
+    head("events", "log", "`race replay`", "user", "Python")
     with tempfile.TemporaryDirectory(prefix="race-bench-") as folder:
         lay_out(folder)
         for part in (8, 4, 2, 1):
             count = write_log(folder, args.events // part)
             log = pathlib.Path(folder, "log")
-            size = log.stat().st_size
             python = read_by_python(log)
             run = best(args.runs, pathlib.Path(folder), [program, "replay", *INPUTS])
-            answer = run.out.split(b"\n", 1)[0].decode()
-            print(f"{count:10}{size:12}{run.seconds:10.2f}{run.user:8.2f}{run.memory:8.1f}{python:8.2f}  {answer}", flush=True)
+            note(f"{count}", run)
+            row(f"{count:,}", size(log.stat().st_size), run.cost(), f"{run.user:.2f} s", f"{python:.2f} s")
 
 
 if __name__ == "__main__":

@@ -22,7 +22,7 @@ TOP = pathlib.Path(__file__).resolve().parents[2]
 sys.dont_write_bytecode = True
 sys.path.insert(0, str(TOP / "bench"))
 
-from measure import Run, best, read_by_python
+from measure import Run, best, head, read_by_python, row, size
 
 RECIPES = 9_999
 TOGETHER = 9
@@ -88,17 +88,15 @@ def main():
     parser.add_argument("--runs", type=int, default=3)
     parser.add_argument("--events", type=int, default=1_000_000)
     args = parser.parse_args()
-    print(f"{'events':>10}{'bytes':>12}{'replay':>10}{'serialise':>11}{'user':>8}{'MiB':>8}{'written':>12}{'python':>8}")
+    head("events", "log", "`race replay`", "`race serialise`", "its user time", "it writes", "Python")
     with tempfile.TemporaryDirectory(prefix="race-bench-") as folder:
         lay_out(folder)
         for part in (8, 4, 2, 1):
             count = write_log(folder, args.events // part)
             log = pathlib.Path(folder, "log")
-            size = log.stat().st_size
             python = min(read_by_python(log) for _ in range(args.runs))
             replay, new = run(args, "replay", folder), run(args, "serialise", folder)
-            times = f"{replay.seconds:10.2f}{new.seconds:11.2f}{new.user:8.2f}"
-            print(f"{count:10}{size:12}{times}{new.memory:8.1f}{len(new.out):12}{python:8.2f}", flush=True)
+            row(f"{count:,}", size(log.stat().st_size), replay.cost(), new.cost(), f"{new.user:.2f} s", size(len(new.out)), f"{python:.2f} s")
 
 
 if __name__ == "__main__":

@@ -9,9 +9,9 @@ layer read the folder that one recipe of the layer before it writes a file in, s
 order; in `races` the recipes of a layer write one log, so that 90,000 pairs race. Each is laid out as tasks and as a makefile
 with footprints.
 
-It prints, for each, the bytes of its texts, the best wall time and user time of N runs (three) of each command, the greatest
-peak memory of `race check`, what Python's json module takes to read the tasks or the footprints, and the first line of the
-report, which is the same for both. Nothing here is a test.
+It prints, for each, the bytes of its texts, the best user time of N runs (three) of each command, the greatest peak memory of `race check`,
+and what Python's json module takes to read the tasks or the footprints. What was answered, which is the same for both, goes to standard
+error. Nothing here is a test.
 
     bench/tasks/run.py --runs 1 crates/race/out/race
 """
@@ -28,7 +28,7 @@ sys.dont_write_bytecode = True
 sys.path.insert(0, str(TOP / "bench"))
 
 from builds import LAYER_KINDS, lay_layers
-from measure import Run, best, read_by_python
+from measure import Run, best, head, note, read_by_python, row, size
 
 MAKEFILE = ("--makefile", "makefile", "--listing", "listing", "--footprints", "footprints", "--root", "/w")
 TASKS = ("--tasks", "tasks", "--root", "/w")
@@ -43,14 +43,14 @@ def commands(runs: int, program: str, folder: pathlib.Path, inputs: list[str]) -
 
 
 def bench_build(runs: int, program: str, folder: pathlib.Path, kind: str) -> None:
-    """The two lines of a build."""
+    """The two rows of a build."""
     goals = lay_layers(folder, kind)
     for form, inputs, texts in (("makefile", [*MAKEFILE, *goals], ("makefile", "footprints")), ("tasks", [*TASKS], ("tasks",))):
         answers = commands(runs, program, folder, inputs)
-        size = sum((folder / it).stat().st_size for it in texts)
-        times = "".join(f"{it.seconds:8.2f}{it.user:8.2f}" for it in answers)
-        first = " ".join(it.out.split(b"\n", 1)[0].decode() for it in answers)
-        print(f"{kind:>8}{form:>10}{size:11}{times}{answers[0].memory:8.1f}{read_by_python(folder / texts[-1]):8.2f}  {first}", flush=True)
+        note(f"{kind}, {form}", *answers)
+        check, *others = answers
+        row(f"{kind}, {form}", size(sum((folder / it).stat().st_size for it in texts)), f"{check.user:.2f} s, {check.memory:,.0f} MiB",
+            *(f"{it.user:.2f} s" for it in others), f"{read_by_python(folder / texts[-1]):.2f} s")
 
 
 def main() -> int:
@@ -59,8 +59,7 @@ def main() -> int:
     parser.add_argument("--runs", type=int, default=3, help="how many runs of each command (three)")
     args = parser.parse_args()
     program = os.path.abspath(args.program)
-    heads = "".join(f"{it:>8}{'user':>8}" for it in ("check", "list", "verify"))
-    print(f"{'build':>8}{'form':>10}{'bytes':>11}{heads}{'MiB':>8}{'python':>8}  answers")
+    head("build", "inputs", "`race check`", "`race list`", "`race verify`", "Python")
     for kind in LAYER_KINDS:
         with tempfile.TemporaryDirectory(prefix="race-bench-") as folder:
             bench_build(args.runs, program, pathlib.Path(folder), kind)
