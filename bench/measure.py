@@ -31,7 +31,7 @@ class Run:
 
     def cost(self) -> str:
         """The seconds of the clock and the memory, as a cell of a table."""
-        return f"{self.seconds:.2f} s, {self.memory:,.0f} MiB"
+        return f"{self.seconds:.{2 if self.seconds >= 1 else 3}f} s, {self.memory:,.0f} MiB"
 
     def first(self) -> str:
         """The first line of the output."""
