@@ -5,7 +5,7 @@ use Rattle.clap.specs.Words.{HasKind, IsAmong, Kinds, kind_of}
 use Rattle.clap.specs.declared.error.Error.{Error}
 use Rattle.clap.specs.declared.error.kind.ErrorKind.{ErrorKind}
 use Rattle.clap.specs.declared.error.kind.ErrorKind.TheVariants.{OutOfMemory}
-use Rattle.mk_program.specs.Answers.{IsAnswer, IsFailureOf, IsRequestFailure, IsSaid, MayAllBeRead}
+use Rattle.mk_program.specs.Answers.{IsRequestAnswer, IsFailureOf, IsRequestFailure, IsSaid, MayAllBeRead}
 use Rattle.mk_request.specs.CommandLine.{Asks, IsCall, asked, wrong}
 use Rattle.mk_files.specs.Files.{Files}
 use Rattle.mk_files.specs.Includes.{IncludesMayBeRead, IncludesMayFail, IsFailure}
@@ -75,7 +75,7 @@ no_value P (Err y) e fails = tt
 
 -- the answer to what right words ask is what is said to them
 pub answered : (words : List (Bor (List ℕ))) (files : Files) (request : Request) (status : Status) (text note : List ℕ) → Asks request (asked words)
-    → wrong words ≡ [] → MayAllBeRead files request → IsAnswer request files.text status text note → IsSaid words files status text note
+    → wrong words ≡ [] → MayAllBeRead files request → IsRequestAnswer request files.text status text note → IsSaid words files status text note
 answered words files request status text note asks right read is = record {
   usable = inl right;
   answer = λ _. (request, asks, is);

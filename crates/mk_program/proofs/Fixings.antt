@@ -7,7 +7,7 @@ use Rattle.mk_name.specs.declared.fault.Halt.{Halt}
 use Rattle.mk_name.specs.declared.fault.Halt.TheVariants.{Fault}
 use Rattle.mk_race.specs.Fixed.{IsFixing}
 use Rattle.mk_race.specs.Stages.{Texts}
-use Rattle.mk_race.specs.TasksFixed.{IsFixing as IsTaskFixing}
+use Rattle.mk_race.specs.TasksFixed.{IsTaskFixing}
 use Rattle.mk_race.specs.declared.fixing.Fixing.{Fixing}
 use Rattle.mk_race.specs.declared.fixing.Fixing.TheVariants.{Fixed, NotFixed}
 use Rattle.mk_race.specs.declared.tasks_fixing.TaskFixing.{TaskFixing}

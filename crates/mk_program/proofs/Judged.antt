@@ -109,7 +109,7 @@ question_safe : (question : TaskQuestion) (path root : Bor (List ℕ)) (files : 
     → (name : Text) × (rows : List Row) × (name ≡ codes "check") × IsQuestion question name rows
     → ((includes : List Pair) (text : InputFile → List ℕ) → Some [] ≡ Some includes → Hold files (listing_input question ++ input_at inputs.Tasks path ++ proof_input question) text
     → IsTasksAnswer question root.now text Done answer)
-    → (tasks : List ℕ) → files path.now ≡ Some tasks → tasked.NoScheduleShows root.now tasks
+    → (tasks : List ℕ) → files path.now ≡ Some tasks → tasked.NoScheduleOfTasksShows root.now tasks
 unfolding only_tasks
 question_safe (questions.Check proof short) path root files answer asks reported tasks opened =
     let hold : Hold files (input_at inputs.Tasks path) (only_tasks tasks) = record {

@@ -16,7 +16,7 @@ use Rattle.mk_race.specs.declared.serialising.Serialised.{Serialised}
 use Rattle.mk_sched.specs.Stored.{store_of}
 use Rattle.mk_sched.proofs.SerialList.{all_inside}
 use Rattle.mk_program.specs.Answers.{HasNoText, IsSerialiseAnswer}
-use Rattle.mk_program.specs.OrderText.{HasNodes, IsNoText, IsOrderText, IsUnreported, order_status}
+use Rattle.mk_program.specs.OrderText.{HasNodes, IsNoText, IsOrderedText, IsUnreported, order_status}
 use Rattle.mk_files.specs.declared.failures.Failure.{Failure}
 use Rattle.mk_program.specs.declared.statuses.Status.{Status}
 use Rattle.mk_program.specs.declared.statuses.Status.TheVariants.{Done, No, Failed, Refused}
@@ -46,7 +46,7 @@ unordered_is texts footprints log limit limit' tie halt fault status text given 
 -- what is reported of a log is its answer
 pub order_is : (texts : Texts) (footprints log : List ℕ) (limit limit' : ℕ) (tie : Bool) (given : Serialised) (status : Status) (text : List ℕ)
     → IsSerialised texts footprints log limit' tie (Ok given) → IsLawfulBuild texts footprints log tie given → limit' ≡ limit → status ≡ order_status given.order
-    → IsOrderText given.jobs given.order text → IsSerialiseAnswer texts footprints log limit tie status text
+    → IsOrderedText given.jobs given.order text → IsSerialiseAnswer texts footprints log limit tie status text
 order_is texts footprints log limit limit' tie given status text is law same ends reported =
     let at : IsSerialised texts footprints log limit tie (Ok given) = subst (λ (n : ℕ). IsSerialised texts footprints log n tie (Ok given)) same is in
     elim (ends_as given.order) [

@@ -19,7 +19,7 @@ use Rattle.mk_race.specs.Played.{IsPlayed}
 use Rattle.mk_race.specs.Serialised.{IsLawfulBuild, IsSerialised}
 use Rattle.mk_race.specs.Stages.{IsPlanned, Texts}
 use Rattle.mk_race.specs.Tasked as tasked
-use Rattle.mk_race.specs.TasksFixed.{FixHolds, IsFixing as IsTaskFixing}
+use Rattle.mk_race.specs.TasksFixed.{FixHolds, IsTaskFixing}
 use Rattle.mk_race.specs.TasksMissing.{IsMissingListBelow, TasksBuildAsClean}
 use Rattle.mk_race.specs.Verified.{IsVerified, ProofShows}
 use Rattle.mk_race.specs.declared.fixing.Fixing.{Fixing}
@@ -47,7 +47,7 @@ use Rattle.mk_files.specs.Files.{Files}
 use Rattle.mk_files.specs.Includes.{IncludesMayBeRead, IncludesMayFail, Pair, includes_in}
 use Rattle.mk_files.specs.Inputs.{Hold, InputsMayBeRead, IsShortOr, IsUnread}
 use Rattle.mk_program.specs.Noting.{SaysNoting}
-use Rattle.mk_program.specs.OrderText.{IsNoText, IsOrderText, order_status}
+use Rattle.mk_program.specs.OrderText.{IsNoText, IsOrderedText, order_status}
 use Rattle.mk_program.specs.OutcomeText.{IsOutcomeText}
 use Rattle.mk_program.specs.PlanText.{plan_text}
 use Rattle.mk_program.specs.PosixBase.{posix_base}
@@ -117,7 +117,7 @@ IsCheckAnswer short texts footprints proof status text =
 -- that of tasks below a root: where they are safe, each of them starts, and no schedule of them shows in their files
 abbrev pub IsTaskCheckAnswer : Bool → List ℕ → List ℕ → Bool → Status → List ℕ → Type 0
 IsTaskCheckAnswer short root tasks proof status text =
-    SaysJudged (tasked.IsAnswerTo short (tasked.tasked root tasks)) (tasked.NoScheduleShows root tasks) proof status text
+    SaysJudged (tasked.IsAnswerOfTasks short (tasked.tasked root tasks)) (tasked.NoScheduleOfTasksShows root tasks) proof status text
 
 -- how the program ends after a build or tasks were judged
 abbrev pub judged_status : Judged → Status
@@ -144,7 +144,7 @@ IsVerifyAnswer short texts footprints proof status text =
 -- that of a proof for tasks below a root
 abbrev pub IsTaskVerifyAnswer : Bool → List ℕ → List ℕ → List ℕ → Status → List ℕ → Type 0
 IsTaskVerifyAnswer short root tasks proof status text =
-    SaysVerdict (tasked.IsVerifiedOf short root tasks proof) (tasked.ProofShows root tasks proof) status text
+    SaysVerdict (tasked.IsVerifiedOf short root tasks proof) (tasked.ProofOfTasksShows root tasks proof) status text
 
 -- how the program ends after a proof was judged
 abbrev pub verdict_status : Bool → Status
@@ -159,7 +159,7 @@ status_of (NotAllowed place refusal) = statuses.No
 abbrev pub IsReportedOrder : Texts → List ℕ → List ℕ → ℕ → Bool → Status → List ℕ → Type 0
 IsReportedOrder texts footprints log limit tie status text =
     (given : Serialised) × IsSerialised texts footprints log limit tie (Ok given) × IsLawfulBuild texts footprints log tie given
-    × (status ≡ order_status given.order) × IsOrderText given.jobs given.order text
+    × (status ≡ order_status given.order) × IsOrderedText given.jobs given.order text
 
 -- that, or the report of the fault that refuses the texts
 abbrev pub IsSerialiseAnswer : Texts → List ℕ → List ℕ → ℕ → Bool → Status → List ℕ → Type 0
@@ -198,7 +198,7 @@ IsListAnswer texts footprints status text = SaysList (IsListed texts footprints)
 
 -- that of tasks below a root: without a race each of them starts, and no schedule of them shows in their files
 abbrev pub IsTaskListAnswer : List ℕ → List ℕ → Status → List ℕ → Type 0
-IsTaskListAnswer root tasks status text = SaysList (tasked.IsListedBelow root tasks) (tasked.NoScheduleShows root tasks) status text
+IsTaskListAnswer root tasks status text = SaysList (tasked.AreTasksListed root tasks) (tasked.NoScheduleOfTasksShows root tasks) status text
 
 -- how the program ends after all races and violations were listed: with 0 where there is none, and no change
 abbrev pub MissingEnds : MissingList → Status → Type 0
@@ -326,8 +326,8 @@ IsNotedAnswer request files status answer note =
     → IsAnswerOver request includes text status answer note
 
 -- the answer to a request, and what is said beside it
-abbrev pub IsAnswer : Request → (List ℕ → Option (List ℕ)) → Status → List ℕ → List ℕ → Type 0
-IsAnswer request files status answer said =
+abbrev pub IsRequestAnswer : Request → (List ℕ → Option (List ℕ)) → Status → List ℕ → List ℕ → Type 0
+IsRequestAnswer request files status answer said =
     (note : List ℕ) × IsNotedAnswer request files status answer note × IsSaidBeside request status answer note said
 
 -- the words ask to check a build or tasks
@@ -344,7 +344,7 @@ IsSafeBuild args files =
 -- each of the tasks that are to be checked starts, and no schedule of them shows in their files, where this is the text that
 -- their file holds
 abbrev pub AreSafeTasks : TaskArgs → (List ℕ → Option (List ℕ)) → Type 0
-AreSafeTasks tasks files = (text : List ℕ) → files tasks.tasks.now ≡ Some text → tasked.NoScheduleShows tasks.root.now text
+AreSafeTasks tasks files = (text : List ℕ) → files tasks.tasks.now ≡ Some text → tasked.NoScheduleOfTasksShows tasks.root.now text
 
 -- the words ask about a build or tasks, and no schedule of these shows in the files
 abbrev pub SaysSafe : List (Bor Text) → (List ℕ → Option (List ℕ)) → Type 0
@@ -354,7 +354,7 @@ SaysSafe words files =
 
 -- the answer to what these words ask, and what is said beside it
 abbrev pub IsAnswerTo : List (Bor Text) → (List ℕ → Option (List ℕ)) → Status → List ℕ → List ℕ → Type 0
-IsAnswerTo words files status answer note = (request : Request) × Asks request (asked words) × IsAnswer request files status answer note
+IsAnswerTo words files status answer note = (request : Request) × Asks request (asked words) × IsRequestAnswer request files status answer note
 
 -- the answer was written behind what stood there
 abbrev pub WritesAnswer : List (Bor Text) → (List ℕ → Option (List ℕ)) → Status → Option (List ℕ) → Option (List ℕ) → Type 0
@@ -375,19 +375,13 @@ HasNote words files status = (text note : List ℕ) × (note ≢ []) × IsAnswer
 
 -- the log in serial order that a question about jobs is to write has a name that is no text, over the texts of the build and of the inputs
 abbrev pub IsNoTextOf : JobQuestion → Texts → (InputFile → List ℕ) → Type 0
-IsNoTextOf (jobs.Check print_proof short) texts text = ⊥
-IsNoTextOf (jobs.Verify proof short) texts text = ⊥
-IsNoTextOf (jobs.Replay args) texts text = ⊥
 IsNoTextOf (jobs.Serialise args) texts text = HasNoText texts (text inputs.Footprints) (text inputs.Log) args.limit args.tie
-IsNoTextOf jobs.List texts text = ⊥
-IsNoTextOf (jobs.Fix print_proof) texts text = ⊥
-IsNoTextOf jobs.Missing texts text = ⊥
+IsNoTextOf _ texts text = ⊥
 
 -- the same of a request, over the texts of its includes and of its inputs
 abbrev pub IsNoTextOver : Request → List Pair → (InputFile → List ℕ) → Type 0
-IsNoTextOver (requests.Order build) includes text = ⊥
 IsNoTextOver (requests.Jobs args) includes text = IsNoTextOf args.question (texts_for args.build includes text) text
-IsNoTextOver (requests.Tasks args) includes text = ⊥
+IsNoTextOver _ includes text = ⊥
 
 -- that, over what its files hold
 abbrev pub IsNoTextIn : Request → (List ℕ → Option (List ℕ)) → Type 0
@@ -417,8 +411,8 @@ IsRequestFailure files request failure =
     IsShortOr (IsReadFailure files request) failure ⊎ ((failure ≡ failures.NotText) × IsNoTextIn request files.text)
 
 -- the files that these words name may be opened, and read
-abbrev pub AreRead : List (Bor Text) → Files → Type 0
-AreRead words files = (request : Request) × Asks request (asked words) × MayAllBeRead files request
+abbrev pub AreInputsRead : List (Bor Text) → Files → Type 0
+AreInputsRead words files = (request : Request) × Asks request (asked words) × MayAllBeRead files request
 
 -- what is said to these words: the answer to what they ask, where nothing is wrong with them; or the help or the version, which
 -- is neither a refusal nor a no, and has no note
@@ -427,7 +421,7 @@ pub record IsSaid (words : List (Bor Text)) (files : Files) (status : Status) (t
   pub answer : wrong words ≡ [] → IsAnswerTo words files.text status text note
   pub on_refused : status ≡ statuses.Refused → IsAnswerTo words files.text status text note
   pub on_no : status ≡ statuses.No → IsAnswerTo words files.text status text note
-  pub read : wrong words ≡ [] → AreRead words files
+  pub read : wrong words ≡ [] → AreInputsRead words files
   pub noted : note ≢ [] → wrong words ≡ []
 
 -- the failure may come of these words and of these files

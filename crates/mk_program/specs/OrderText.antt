@@ -20,12 +20,12 @@ pub record IsSerialText (jobs : Jobs) (list : Log) (text : List ℕ) : Type 0 wh
   pub reads_back : (root : List ℕ) → ReadBack jobs root list → IsReadAs jobs root text list
 
 -- the text of a log in serial order, or why there is none
-abbrev pub IsOrderText : Jobs → Ordered → List ℕ → Type 0
-IsOrderText jobs (Serial list) text = IsSerialText jobs list text
-IsOrderText jobs (NotAllowed place refusal) text = text ≡ not_allowed_text place refusal
-IsOrderText jobs NotComplete text = text ≡ line (codes "not complete")
-IsOrderText jobs (Race trace) text = text ≡ race_text jobs trace
-IsOrderText jobs NoRoom text = text ≡ line (codes "not complete: times too large")
+abbrev pub IsOrderedText : Jobs → Ordered → List ℕ → Type 0
+IsOrderedText jobs (Serial list) text = IsSerialText jobs list text
+IsOrderedText jobs (NotAllowed place refusal) text = text ≡ not_allowed_text place refusal
+IsOrderedText jobs NotComplete text = text ≡ line (codes "not complete")
+IsOrderedText jobs (Race trace) text = text ≡ race_text jobs trace
+IsOrderedText jobs NoRoom text = text ≡ line (codes "not complete: times too large")
 
 -- how the program ends then
 abbrev pub order_status : Ordered → Status
@@ -38,18 +38,12 @@ order_status NoRoom = statuses.No
 -- the events of a log in serial order are of nodes
 abbrev pub HasNodes : Jobs → Ordered → Type 0
 HasNodes jobs (Serial list) = AreOfNodes jobs list.events
-HasNodes jobs (NotAllowed place refusal) = Unit {0}
-HasNodes jobs NotComplete = Unit {0}
-HasNodes jobs (Race trace) = Unit {0}
-HasNodes jobs NoRoom = Unit {0}
+HasNodes jobs _ = Unit {0}
 
 -- it is a log in serial order with a name that is no text
 abbrev pub IsNoText : Jobs → Ordered → Type 0
 IsNoText jobs (Serial list) = is_text jobs list ≡ false
-IsNoText jobs (NotAllowed place refusal) = ⊥
-IsNoText jobs NotComplete = ⊥
-IsNoText jobs (Race trace) = ⊥
-IsNoText jobs NoRoom = ⊥
+IsNoText jobs _ = ⊥
 
 -- why something is not reported: memory is short, or a name is no text, and then this holds
 abbrev pub IsUnreported : Type 0 → Failure → Type 0

@@ -44,7 +44,7 @@ pub fn answer_of<P: Opener>(
     ensures status { IfOk result (λ reply. reply.answer.status ≢ Status.Failed) }
     ensures read { OnOk result (spec.MayAllBeRead (P.files opener.old) request.now) }
     ensures failure { IfErr result (spec.IsRequestFailure (P.files opener.old) request.now) }
-    ensures answer { IfOk result (λ reply. spec.IsAnswer request.now (P.files opener.old).text
+    ensures answer { IfOk result (λ reply. spec.IsRequestAnswer request.now (P.files opener.old).text
         reply.answer.status reply.answer.text.items reply.note.items) }
 {
     let reply = noted_answer(alloc, request, opener)?;

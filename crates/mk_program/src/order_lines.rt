@@ -1,7 +1,7 @@
 //! What is said of a log that is to be put in serial order.
 ghost use Rattle.std.specs.Prelude.{◌≡◌, IfErr, IfOk, false};
 ghost use Rattle.mk_log.specs.Writing.{AreOfNodes, is_text};
-ghost use Rattle.mk_program.specs.OrderText.{HasNodes, IsNoText, IsOrderText, IsSerialText, IsUnreported};
+ghost use Rattle.mk_program.specs.OrderText.{HasNodes, IsNoText, IsOrderedText, IsSerialText, IsUnreported};
 
 use crate::outcome_lines::not_allowed_text;
 use mk_files::failures::Failure;
@@ -17,7 +17,7 @@ use std::alloc::Global;
 /// out of memory.
 pub fn order_text(alloc: Global, jobs: &Jobs, order: &Ordered) -> Result<Vec<u8>, Failure>
     requires { HasNodes jobs.now order.now }
-    ensures text { IfOk result (λ text. IsOrderText jobs.now order.now text.items) }
+    ensures text { IfOk result (λ text. IsOrderedText jobs.now order.now text.items) }
     ensures failure { IfErr result (IsUnreported (IsNoText jobs.now order.now)) }
 {
     match order {

@@ -42,7 +42,7 @@ pub fn race_words<'a, P: Opener, O: Outlet, E: Outlet>(
     ensures usage { result ≢ Status.Failed → IsAnswerable (wrong words.entry.now) }
     // No answer comes where a file that the words name cannot be opened or read.
     ensures read { wrong words.entry.now ≡ [] → result ≢ Status.Failed
-        → spec.AreRead words.entry.now (P.files opener.old) }
+        → spec.AreInputsRead words.entry.now (P.files opener.old) }
     // The yes: where the words ask to check a build and the program ends with 0, no schedule of the build shows in its files.
     ensures safe { wrong words.entry.now ≡ [] → spec.AskToCheck (asked words.entry.now)
         → result ≡ Status.Done → spec.SaysSafe words.entry.now (P.files opener.old).text }

@@ -3,7 +3,7 @@ ghost use Rattle.std.specs.Prelude.{◌≡◌, ◌≢◌, IfErr, IfOk, List, Non
 ghost use Rattle.mk_race.specs.Stages.{AreListed, IsPrepared, Texts};
 ghost use Rattle.mk_program.specs.Answers as spec;
 ghost use Rattle.mk_program.specs.FaultText.{refusal_in};
-ghost use Rattle.mk_program.specs.OrderText.{HasNodes, IsNoText, IsOrderText, IsUnreported, order_status};
+ghost use Rattle.mk_program.specs.OrderText.{HasNodes, IsNoText, IsOrderedText, IsUnreported, order_status};
 
 use crate::answers::{Answer, refused};
 use crate::noting::Question;
@@ -58,7 +58,7 @@ fn serialised_of(
 fn reported(alloc: Global, given: &Serialised) -> Result<Answer, Failure>
     requires { HasNodes given.now.jobs given.now.order }
     ensures answer { IfOk result (λ answer. (answer.status ≡ order_status given.now.order)
-        × IsOrderText given.now.jobs given.now.order answer.text.items) }
+        × IsOrderedText given.now.jobs given.now.order answer.text.items) }
     ensures failure { IfErr result (IsUnreported (IsNoText given.now.jobs given.now.order)) }
 {
     Ok(Answer {

@@ -1,6 +1,6 @@
 //! The answers about tasks.
 ghost use Rattle.std.specs.Prelude.{◌≡◌, ◌≢◌, [], IfErr, IfOk, List, OnOk, ℕ};
-ghost use Rattle.mk_race.specs.TasksFixed.{AreSafeIfFixed, HoldsOfFixed};
+ghost use Rattle.mk_race.specs.TasksFixed.{AreSafeIfFixed, HoldsOfFixedTasks};
 ghost use Rattle.mk_request.specs.Requests.{inputs_of};
 ghost use Rattle.mk_program.specs.Answers as spec;
 ghost use Rattle.mk_files.specs.Inputs.{AreTexts, Hold, InputsMayBeRead, IsShortOr, IsUnread};
@@ -152,7 +152,7 @@ fn fix_answer(alloc: Global, root: &[u8], tasks: &[u8], proof: bool) -> Result<A
 /// What comes of tasks that were to be fixed, reported. The only error is out of memory.
 fn fixing_answer(alloc: Global, fixing: &TaskFixing, proof: bool) -> Result<Answer, AllocError>
     requires { AreSafeIfFixed fixing.now }
-    ensures { IfOk result (λ answer. (root tasks : List ℕ) → HoldsOfFixed root tasks fixing.now
+    ensures { IfOk result (λ answer. (root tasks : List ℕ) → HoldsOfFixedTasks root tasks fixing.now
         → spec.SaysTasksFixed root tasks proof fixing.now answer.status answer.text.items) }
 {
     match fixing {

@@ -13,7 +13,7 @@ use Rattle.mk_sched.specs.Laws.{IsDeterminate}
 use Rattle.mk_sched.proofs.Staying.{from_one_run}
 use Rattle.mk_task.proofs.Starting.{AreTasks}
 use Rattle.mk_race.specs.Tasked.{tasked}
-use Rattle.mk_race.specs.TasksFixed.{AreFixedBy, AreSafeIfFixed, FixHolds, HoldsOfFixed, IsFixingOf}
+use Rattle.mk_race.specs.TasksFixed.{AreFixedBy, AreSafeIfFixed, FixHolds, HoldsOfFixedTasks, IsTaskFixingOf}
 use Rattle.mk_race.specs.declared.tasks_fixing.TaskFixing.{TaskFixing}
 use Rattle.mk_race.specs.declared.tasks_fixing.TaskFixing.TheVariants.{Fixed, NotFixed}
 use Rattle.mk_race.proofs.OfTasks.{each_starts, runs_alike, text_of_tasks}
@@ -49,13 +49,13 @@ holds_of root text jobs new lines valid given fixed =
       alike = runs_alike new are (from_one_run new still fixed.safe.race_free);
     }
 
-fixing_holds : (root text : List ℕ) (jobs : Jobs) (fixing : TaskFixing) → IsValid jobs → tasked root text ≡ Ok jobs → IsFixingOf jobs (Ok fixing) → HoldsOfFixed root text fixing
+fixing_holds : (root text : List ℕ) (jobs : Jobs) (fixing : TaskFixing) → IsValid jobs → tasked root text ≡ Ok jobs → IsTaskFixingOf jobs (Ok fixing) → HoldsOfFixedTasks root text fixing
 fixing_holds root text jobs (Fixed lines new) valid given fixed = holds_of root text jobs new lines.items valid given fixed
 fixing_holds root text jobs (NotFixed lines) valid given many = tt
 
 -- where tasks are fixed, no schedule of them shows, with the fix
-pub headline_of : (root text : List ℕ) (jobs : Jobs) (result : Result TaskFixing Halt) → IsValid jobs → tasked root text ≡ Ok jobs → Answers result (IsFixingOf jobs)
-    → IfOk result (HoldsOfFixed root text)
+pub headline_of : (root text : List ℕ) (jobs : Jobs) (result : Result TaskFixing Halt) → IsValid jobs → tasked root text ≡ Ok jobs → Answers result (IsTaskFixingOf jobs)
+    → IfOk result (HoldsOfFixedTasks root text)
 headline_of root text jobs (Ok fixing) valid given answer = fixing_holds root text jobs fixing valid given answer
 headline_of root text jobs (Err halt) valid given answer = tt
 
@@ -82,10 +82,10 @@ pub new_safe : (jobs new : Jobs) (edges : List (ℕ × ℕ)) → IsFix jobs edge
 new_safe jobs new edges fix few added = subst AreSafe (sym added) (record { race_free = fix.free; few = few_stay jobs edges (to_live fix) few })
 
 -- where tasks are fixed, the jobs that are handed out are safe
-safe_of : (fixing : TaskFixing) (jobs : Jobs) → IsFixingOf jobs (Ok fixing) → AreSafeIfFixed fixing
+safe_of : (fixing : TaskFixing) (jobs : Jobs) → IsTaskFixingOf jobs (Ok fixing) → AreSafeIfFixed fixing
 safe_of (Fixed lines new) jobs fixed = fixed.safe
 safe_of (NotFixed lines) jobs fixed = tt
 
-pub all_safe : (result : Result TaskFixing Halt) (jobs : Jobs) → Answers result (IsFixingOf jobs) → IfOk result AreSafeIfFixed
+pub all_safe : (result : Result TaskFixing Halt) (jobs : Jobs) → Answers result (IsTaskFixingOf jobs) → IfOk result AreSafeIfFixed
 all_safe (Ok fixing) jobs is = safe_of fixing jobs is
 all_safe (Err halt) jobs is = tt

@@ -16,7 +16,7 @@ use Rattle.mk_jobs.specs.Numbered.{number_of}
 use Rattle.mk_jobs.specs.Plan.{Node, names_of}
 use Rattle.mk_jobs.proofs.Numberings.{number_some}
 use Rattle.mk_text.specs.Listing.{put_among}
-use Rattle.mk_race.specs.Again.{IsAlike, IsAlikeIfAny, IsChangeWith, IsKept, product_name, product_names}
+use Rattle.mk_race.specs.Again.{IsAlike, IsAlikeIfAny, IsChangeWith, KeepsNode, product_name, product_names}
 use Rattle.mk_race.specs.Parts.{IsPlannedWith}
 use Rattle.mk_race.specs.Stages.{Texts}
 use Rattle.mk_race.specs.declared.again.Change.{Change}
@@ -77,13 +77,13 @@ no_name jobs n past = rw (slice_get_past jobs.plan.nodes n past, name_of) refl
 
 -- a node that a plan lacks is not kept
 pub lost_is : (jobs : Jobs) (nodes : List Node) (n : ℕ) (x : Name) (o : Option ℕ) → o ≡ number_of (names_of nodes) x → x ≡ name_of jobs n → o ≡ None
-    → IsKept jobs nodes n → ⊥
+    → KeepsNode jobs nodes n → ⊥
 lost_is jobs nodes n x o is named none kept =
     subst (IsAlikeIfAny jobs n nodes) (ap (number_of (names_of nodes)) (sym named) ∙ sym is ∙ none) kept
 
 -- and one that it has is kept where it is made alike
 pub kept_if : (jobs : Jobs) (nodes : List Node) (n m : ℕ) (x : Name) (o : Option ℕ) (result : Bool) → o ≡ number_of (names_of nodes) x → x ≡ name_of jobs n → o ≡ Some m
-    → IsTrue result ↔ IsAlike jobs n nodes m → IsTrue result ↔ IsKept jobs nodes n
+    → IsTrue result ↔ IsAlike jobs n nodes m → IsTrue result ↔ KeepsNode jobs nodes n
 kept_if jobs nodes n m x o result is named some alike =
     let same = ap (number_of (names_of nodes)) (sym named) ∙ sym is ∙ some in (
       λ yes. subst (IsAlikeIfAny jobs n nodes) (sym same) (alike.0 yes),

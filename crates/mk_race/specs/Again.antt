@@ -45,18 +45,18 @@ IsAlikeIfAny jobs n nodes None = ⊥
 IsAlikeIfAny jobs n nodes (Some m) = IsAlike jobs n nodes m
 
 -- a plan keeps node n: it has a node of this name, which is made alike
-abbrev pub IsKept : Jobs → List Node → ℕ → Type 0
-IsKept jobs nodes n = IsAlikeIfAny jobs n nodes (number_of (names_of nodes) (name_of jobs n))
+abbrev pub KeepsNode : Jobs → List Node → ℕ → Type 0
+KeepsNode jobs nodes n = IsAlikeIfAny jobs n nodes (number_of (names_of nodes) (name_of jobs n))
 
 -- node n is the first of the jobs that a plan does not keep
 pub record IsFirstLost (jobs : Jobs) (nodes : List Node) (n : ℕ) : Type 0 where
   pub inside : n < node_count jobs
-  pub lost : IsKept jobs nodes n → ⊥
-  pub before : (k : ℕ) → k < n → IsKept jobs nodes k
+  pub lost : KeepsNode jobs nodes n → ⊥
+  pub before : (k : ℕ) → k < n → KeepsNode jobs nodes k
 
 -- the first change that a plan makes, if it makes one
 abbrev pub IsChangeTo : Jobs → List Node → Option Change → Type 0
-IsChangeTo jobs nodes None = (n : ℕ) → n < node_count jobs → IsKept jobs nodes n
+IsChangeTo jobs nodes None = (n : ℕ) → n < node_count jobs → KeepsNode jobs nodes n
 IsChangeTo jobs nodes (Some (changes.Node n)) = IsFirstLost jobs nodes n
 IsChangeTo jobs nodes (Some changes.Refused) = ⊥
 

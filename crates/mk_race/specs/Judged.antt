@@ -36,31 +36,28 @@ IsDecided short jobs (Race given trace) = (given ≡ jobs) × IsVerdictOn short 
 IsDecided short jobs (Refused reported) = (reported ≡ too_many) × HasTooMany short jobs
 
 -- a build is refused with its fault; without one its jobs are decided
-abbrev pub IsAnswerTo : Bool → Result Prepared Reported → Answer → Type 0
-IsAnswerTo short (Ok prepared) answer = IsDecided short prepared.jobs answer
-IsAnswerTo short (Err reported) answer = answer ≡ Refused reported
+abbrev pub IsAnswerFor : Bool → Result Prepared Reported → Answer → Type 0
+IsAnswerFor short (Ok prepared) answer = IsDecided short prepared.jobs answer
+IsAnswerFor short (Err reported) answer = answer ≡ Refused reported
 
 -- the answer of a build: the stages give its jobs or their first fault, and then it is answered
 abbrev pub IsAnswered : Bool → Texts → List ℕ → Answer → Type 0
-IsAnswered short texts footprints answer = (given : Result Prepared Reported) × IsPrepared texts footprints given × IsAnswerTo short given answer
+IsAnswered short texts footprints answer = (given : Result Prepared Reported) × IsPrepared texts footprints given × IsAnswerFor short given answer
 
 -- the answer is that the build is safe
 abbrev pub IsSafe : Answer → Type 0
 IsSafe (Safe jobs chains) = Unit {0}
-IsSafe (Race jobs trace) = ⊥
-IsSafe (Refused reported) = ⊥
+IsSafe _ = ⊥
 
 -- the jobs that are handed out as safe are determinate
 abbrev pub HoldsOfSafe : Answer → Type 0
 HoldsOfSafe (Safe jobs chains) = IsDeterminate jobs
-HoldsOfSafe (Race jobs trace) = Unit {0}
-HoldsOfSafe (Refused reported) = Unit {0}
+HoldsOfSafe _ = Unit {0}
 
 -- the trace of a race holds of its jobs
 abbrev pub HoldsOfRace : Answer → Type 0
-HoldsOfRace (Safe jobs chains) = Unit {0}
 HoldsOfRace (Race jobs trace) = TraceHolds jobs trace
-HoldsOfRace (Refused reported) = Unit {0}
+HoldsOfRace _ = Unit {0}
 
 -- from one store that has the files of the listing and no other: each complete schedule of the jobs has the outcome of a complete one
 -- that stays within the footprints, if their recipes agree

@@ -31,8 +31,8 @@ pub record IsWhole (jobs : Jobs) (listed : List Name) (limit : ℕ) (tie : Bool)
   pub complete : IsComplete jobs (past_of log.events)
 
 -- behind the time of each of the log's files there is a later one for each event
-abbrev pub HasTimes : Log → Type 0
-HasTimes log = HasRoom (store_of log.store) (length log.events)
+abbrev pub HasTimesLeft : Log → Type 0
+HasTimesLeft log = HasRoom (store_of log.store) (length log.events)
 
 -- the files of a log, and its events as the serial list: node after node, the k-th put at the greatest time of the files plus k
 pub record IsInSerialOrder (jobs : Jobs) (log list : Log) : Type 0 where
@@ -44,7 +44,7 @@ pub record IsPutInOrder (jobs : Jobs) (listed : List Name) (limit : ℕ) (tie : 
   pub whole : IsWhole jobs listed limit tie log
   pub few : HasFewPairs jobs
   pub race_free : IsRaceFree jobs
-  pub room : HasTimes log
+  pub room : HasTimesLeft log
   pub in_order : IsInSerialOrder jobs log list
 
 -- what comes of a log: it has to be a run, that has to be complete, not too many pairs may clash, the jobs have to be race-free,
@@ -54,7 +54,7 @@ IsOrder jobs listed limit tie log (Ok (NotAllowed place refusal)) = IsNotAllowed
 IsOrder jobs listed limit tie log (Ok NotComplete) = IsRunOf jobs listed limit tie log × (IsComplete jobs (past_of log.events) → ⊥)
 IsOrder jobs listed limit tie log (Err reported) = IsWhole jobs listed limit tie log × (reported ≡ too_many) × HasManyPairs jobs
 IsOrder jobs listed limit tie log (Ok (Race trace)) = IsWhole jobs listed limit tie log × HasFewPairs jobs × IsOfLeastRace jobs trace
-IsOrder jobs listed limit tie log (Ok NoRoom) = IsWhole jobs listed limit tie log × HasFewPairs jobs × IsRaceFree jobs × (HasTimes log → ⊥)
+IsOrder jobs listed limit tie log (Ok NoRoom) = IsWhole jobs listed limit tie log × HasFewPairs jobs × IsRaceFree jobs × (HasTimesLeft log → ⊥)
 IsOrder jobs listed limit tie log (Ok (Serial list)) = IsPutInOrder jobs listed limit tie log list
 
 -- the log below the root, and then what comes of it

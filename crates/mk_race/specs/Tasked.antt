@@ -30,14 +30,14 @@ abbrev pub tasked : List ℕ → List ℕ → Result Jobs Reported
 tasked root text = below text (root_of root)
 
 -- tasks are refused with their fault; without one their jobs are decided
-abbrev pub IsAnswerTo : Bool → Result Jobs Reported → Answer → Type 0
-IsAnswerTo short (Ok jobs) answer = IsDecided short jobs answer
-IsAnswerTo short (Err reported) answer = answer ≡ Refused reported
+abbrev pub IsAnswerOfTasks : Bool → Result Jobs Reported → Answer → Type 0
+IsAnswerOfTasks short (Ok jobs) answer = IsDecided short jobs answer
+IsAnswerOfTasks short (Err reported) answer = answer ≡ Refused reported
 
 -- from one store that has no task's own name: each complete schedule of the jobs has the outcome of a complete one that stays within
 -- the footprints, if their recipes agree
-abbrev pub RunsAlike : Jobs → Type 0
-RunsAlike jobs =
+abbrev pub TasksRunAlike : Jobs → Type 0
+TasksRunAlike jobs =
     (opening : Store) (tie : Bool) (limit other : ℕ) (seen past : List Event) → HasNoOwnNames opening
     → IsSchedule jobs tie limit opening seen → stays jobs seen ≡ true → IsComplete jobs seen
     → IsSchedule jobs tie other opening past → IsComplete jobs past → RecipesAgree seen past → SameOutcome jobs opening seen past
@@ -49,18 +49,18 @@ EachStarts jobs =
     → IsRun jobs tie limit opening past → IsComplete jobs past → n < node_count jobs → is_started (phase past n) ≡ true
 
 -- no schedule of tasks shows in their files: the text means jobs, whose tasks all start, and whose runs are alike
-pub record NoScheduleShows (root text : List ℕ) : Type 0 where
+pub record NoScheduleOfTasksShows (root text : List ℕ) : Type 0 where
   pub jobs : Jobs
   pub given : tasked root text ≡ Ok jobs
   pub start : EachStarts jobs
-  pub alike : RunsAlike jobs
+  pub alike : TasksRunAlike jobs
 
 -- the jobs of tasks, and then a proof on them
 abbrev pub IsVerifiedOf : Bool → List ℕ → List ℕ → List ℕ → Result Bool Reported → Type 0
 IsVerifiedOf short root text proof = Then (tasked root text) (λ jobs. IsVerifiedOn short jobs proof)
 
 -- the text of tasks means jobs, that of a proof means a proof, and what this shows is so of these jobs
-pub record ProofShows (root text proof_text : List ℕ) : Type 0 where
+pub record ProofOfTasksShows (root text proof_text : List ℕ) : Type 0 where
   pub jobs : Jobs
   pub proof : Proof
   pub given : tasked root text ≡ Ok jobs
@@ -68,5 +68,5 @@ pub record ProofShows (root text proof_text : List ℕ) : Type 0 where
   pub shown : Shows jobs proof
 
 -- the jobs of tasks, and then all their races
-abbrev pub IsListedBelow : List ℕ → List ℕ → Result RaceList Reported → Type 0
-IsListedBelow root text = Then (tasked root text) (λ jobs. IsListedOf jobs)
+abbrev pub AreTasksListed : List ℕ → List ℕ → Result RaceList Reported → Type 0
+AreTasksListed root text = Then (tasked root text) (λ jobs. IsListedOf jobs)

@@ -11,7 +11,7 @@ use Rattle.mk_report.specs.FixText.{IsTaskLines, needs_text}
 use Rattle.mk_report.specs.declared.fixes.Form.TheVariants.{Tasks}
 use Rattle.mk_sched.specs.Laws.{IsDeterminate}
 use Rattle.mk_race.specs.Stages.{Then}
-use Rattle.mk_race.specs.Tasked.{EachStarts, RunsAlike, tasked}
+use Rattle.mk_race.specs.Tasked.{EachStarts, TasksRunAlike, tasked}
 use Rattle.mk_race.specs.declared.tasks_fixing.TaskFixing.{TaskFixing}
 use Rattle.mk_race.specs.declared.tasks_fixing.TaskFixing.TheVariants.{Fixed, NotFixed}
 
@@ -31,14 +31,14 @@ pub record AreNotFixed (jobs : Jobs) (text : List ℕ) : Type 0 where
   pub says : text ≡ needs_text Tasks jobs edges
 
 -- what comes of the jobs of tasks: lines that fix them; or the edges that they need, which are too many; or too many pairs clash
-abbrev pub IsFixingOf : Jobs → Result TaskFixing Reported → Type 0
-IsFixingOf jobs (Ok (Fixed lines new)) = AreFixedBy jobs lines.items new
-IsFixingOf jobs (Ok (NotFixed text)) = AreNotFixed jobs text.items
-IsFixingOf jobs (Err reported) = (reported ≡ too_many) × HasManyPairs jobs
+abbrev pub IsTaskFixingOf : Jobs → Result TaskFixing Reported → Type 0
+IsTaskFixingOf jobs (Ok (Fixed lines new)) = AreFixedBy jobs lines.items new
+IsTaskFixingOf jobs (Ok (NotFixed text)) = AreNotFixed jobs text.items
+IsTaskFixingOf jobs (Err reported) = (reported ≡ too_many) × HasManyPairs jobs
 
 -- the jobs of tasks, and what comes of them
-abbrev pub IsFixing : List ℕ → List ℕ → Result TaskFixing Reported → Type 0
-IsFixing root text = Then (tasked root text) IsFixingOf
+abbrev pub IsTaskFixing : List ℕ → List ℕ → Result TaskFixing Reported → Type 0
+IsTaskFixing root text = Then (tasked root text) IsTaskFixingOf
 
 -- the text of tasks means jobs; with their fix these are race-free and determinate, each task starts in every complete run, and
 -- their runs are alike
@@ -51,12 +51,12 @@ pub record FixHolds (root text : List ℕ) (new : Jobs) : Type 0 where
   pub free : IsRaceFree new
   pub determinate : IsDeterminate new
   pub start : EachStarts new
-  pub alike : RunsAlike new
+  pub alike : TasksRunAlike new
 
 -- where tasks are fixed, this is so of the jobs that are handed out
-abbrev pub HoldsOfFixed : List ℕ → List ℕ → TaskFixing → Type 0
-HoldsOfFixed root text (Fixed lines new) = FixHolds root text new
-HoldsOfFixed root text (NotFixed lines) = Unit {0}
+abbrev pub HoldsOfFixedTasks : List ℕ → List ℕ → TaskFixing → Type 0
+HoldsOfFixedTasks root text (Fixed lines new) = FixHolds root text new
+HoldsOfFixedTasks root text (NotFixed lines) = Unit {0}
 
 -- and these jobs are safe
 abbrev pub AreSafeIfFixed : TaskFixing → Type 0

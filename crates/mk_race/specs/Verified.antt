@@ -19,9 +19,9 @@ IsCertificateOn false = IsCertificate
 IsCertificateOn true = IsShortCertificate
 
 -- a certificate has to be one of these jobs, and a trace has to be sure
-abbrev pub IsGood : Bool → Jobs → Proof → Type 0
-IsGood short jobs (Certificate chains) = IsCertificateOn short jobs chains
-IsGood short jobs (Trace trace) = IsSure jobs trace
+abbrev pub IsGoodProof : Bool → Jobs → Proof → Type 0
+IsGoodProof short jobs (Certificate chains) = IsCertificateOn short jobs chains
+IsGoodProof short jobs (Trace trace) = IsSure jobs trace
 
 -- what a good proof shows: a certificate, that any two complete runs whose recipes agree leave the same; a trace, that it holds
 abbrev pub Shows : Jobs → Proof → Type 0
@@ -30,17 +30,17 @@ Shows jobs (Trace trace) = TraceHolds jobs trace
 
 -- just the good proofs are accepted, and what they show is so
 pub record IsJudged (short : Bool) (jobs : Jobs) (proof : Proof) (accepted : Bool) : Type 0 where
-  pub exact : IsTrue accepted ↔ IsGood short jobs proof
+  pub exact : IsTrue accepted ↔ IsGoodProof short jobs proof
   pub shown : IsTrue accepted → Shows jobs proof
 
 -- no proof that was read is a fault
-abbrev pub IsVerdict : Bool → Jobs → Proof → Result Bool Reported → Type 0
-IsVerdict short jobs proof (Ok accepted) = IsJudged short jobs proof accepted
-IsVerdict short jobs proof (Err reported) = ⊥
+abbrev pub IsProofVerdict : Bool → Jobs → Proof → Result Bool Reported → Type 0
+IsProofVerdict short jobs proof (Ok accepted) = IsJudged short jobs proof accepted
+IsProofVerdict short jobs proof (Err reported) = ⊥
 
 -- the text of a proof, and then whether these jobs accept it
 abbrev pub IsVerifiedOn : Bool → Jobs → List ℕ → Result Bool Reported → Type 0
-IsVerifiedOn short jobs text = ThenAny (IsRead text) (λ proof. IsVerdict short jobs proof)
+IsVerifiedOn short jobs text = ThenAny (IsRead text) (λ proof. IsProofVerdict short jobs proof)
 
 -- the jobs of a build, and then a proof on them
 abbrev pub IsVerified : Bool → Texts → List ℕ → List ℕ → Result Bool Reported → Type 0

@@ -111,7 +111,7 @@ fn first_change(jobs: &Jobs, plan: &Plan) -> Option<Change>
 /// Whether a plan keeps a node of jobs.
 fn is_kept(jobs: &Jobs, plan: &Plan, n: u32) -> bool
     requires { n < nodes.node_count jobs.now }
-    ensures { IsTrue result ↔ spec.IsKept jobs.now plan.now.nodes n }
+    ensures { IsTrue result ↔ spec.KeepsNode jobs.now plan.now.nodes n }
 {
     match plan.number(jobs.name(n)) {
         Some(m) => is_alike(jobs, n, plan, m),

@@ -32,9 +32,9 @@ pub fn judge_tasks(
     tasks: &[u8],
     short: bool,
 ) -> Result<Answer, AllocError>
-    ensures answer { IfOk result (spec.IsAnswerTo short (tasked root.now tasks.now)) }
+    ensures answer { IfOk result (spec.IsAnswerOfTasks short (tasked root.now tasks.now)) }
     // The headline: where the answer is that the tasks are safe, each of them starts, and no schedule of them shows in the files.
-    ensures headline { IfOk result (λ answer. IsSafe answer → spec.NoScheduleShows root.now tasks.now) }
+    ensures headline { IfOk result (λ answer. IsSafe answer → spec.NoScheduleOfTasksShows root.now tasks.now) }
     // The jobs that are handed out with it are then determinate.
     ensures determinate { IfOk result HoldsOfSafe }
     // Where it is a race, a run from any store that fits can follow the trace, and then both tasks run.
@@ -49,10 +49,10 @@ pub fn judge_tasks(
 /// All races of a text of tasks below a root, each once, with their jobs. The first fault is that of the jobs, and then
 /// `TooManyPairs` as [`list_races`](crate::listing::list_races) reports it. The only other error is out of memory.
 pub fn list_tasks(alloc: Global, root: &[u8], tasks: &[u8]) -> Result<RaceList, Halt>
-    ensures races { Answers result (spec.IsListedBelow root.now tasks.now) }
+    ensures races { Answers result (spec.AreTasksListed root.now tasks.now) }
     // The headline: where there is no race, no schedule of the tasks shows in the files.
     ensures headline { IfOk result (λ listed. listed.found.races.items ≡ []
-        → spec.NoScheduleShows root.now tasks.now) }
+        → spec.NoScheduleOfTasksShows root.now tasks.now) }
 {
     let jobs = prepare_tasks(alloc, root, tasks)?;
     list_jobs(alloc, jobs)
@@ -71,7 +71,7 @@ pub fn verify_tasks(
     ensures answer { Answers result (spec.IsVerifiedOf short root.now tasks.now proof.now) }
     // The headline: where a certificate is accepted, no schedule of the tasks shows in the files.
     ensures shows { IfOk result (λ accepted. IsTrue accepted
-        → spec.ProofShows root.now tasks.now proof.now) }
+        → spec.ProofOfTasksShows root.now tasks.now proof.now) }
 {
     let jobs = prepare_tasks(alloc, root, tasks)?;
     verify_on(alloc, &jobs, proof, short)

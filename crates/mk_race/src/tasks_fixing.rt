@@ -28,9 +28,9 @@ pub enum TaskFixing {
 /// The first fault is that of the jobs (see [`prepare_tasks`]), and then `TooManyPairs` in the jobs at place 0, where more than
 /// 1,000,000 pairs of tasks clash. The only other error is out of memory.
 pub fn fix_tasks(alloc: Global, root: &[u8], tasks: &[u8]) -> Result<TaskFixing, Halt>
-    ensures answer { Answers result (spec.IsFixing root.now tasks.now) }
+    ensures answer { Answers result (spec.IsTaskFixing root.now tasks.now) }
     // The headline: where tasks are fixed, no schedule of them shows in the files, once they have the edges of their fix.
-    ensures headline { IfOk result (spec.HoldsOfFixed root.now tasks.now) }
+    ensures headline { IfOk result (spec.HoldsOfFixedTasks root.now tasks.now) }
     ensures safe { IfOk result spec.AreSafeIfFixed }
 {
     let jobs = prepare_tasks(alloc, root, tasks)?;
@@ -41,7 +41,7 @@ pub fn fix_tasks(alloc: Global, root: &[u8], tasks: &[u8]) -> Result<TaskFixing,
 /// The fix of the jobs of tasks. Where more than 1,000,000 pairs of nodes clash the fault is `TooManyPairs` in the jobs, at
 /// place 0.
 fn fix_jobs(alloc: Global, jobs: &Jobs) -> Result<TaskFixing, Halt>
-    ensures { Answers result (spec.IsFixingOf jobs.now) }
+    ensures { Answers result (spec.IsTaskFixingOf jobs.now) }
 {
     let edges = fix(alloc, jobs)?;
     let Some(new) = with_edges(alloc, jobs, &edges)? else {

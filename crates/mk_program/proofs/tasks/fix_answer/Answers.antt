@@ -1,5 +1,5 @@
 use Rattle.std.proofs.lemmas.Result.{IfOk-weaker}
-use Rattle.mk_race.specs.TasksFixed.{IsFixing}
+use Rattle.mk_race.specs.TasksFixed.{IsTaskFixing}
 use Rattle.mk_program.specs.Answers.{SaysTasksFixed}
 use Rattle.mk_program.proofs.Answering.{refusal_not_failed}
 use Rattle.mk_program.proofs.Fixings.{tasks_fixed_is, tasks_not_failed, unfixed_is}
@@ -22,5 +22,5 @@ returns-in-Err-clause-status c = IfOk-weaker c.refused.result _ _ (λ answer h. 
 
 pub returns-in-Err-clause-answer : goal.returns-in-Err-clause-answer
 returns-in-Err-clause-answer c =
-    IfOk-weaker c.refused.result _ _ (λ answer h. unfixed_is (IsFixing c.args.root.now c.args.tasks.now) (SaysTasksFixed c.args.root.now c.args.tasks.now c.args.proof)
+    IfOk-weaker c.refused.result _ _ (λ answer h. unfixed_is (IsTaskFixing c.args.root.now c.args.tasks.now) (SaysTasksFixed c.args.root.now c.args.tasks.now c.args.proof)
     c.in-Err.halt h.0 _ _ c.in-Err.ensures.answer h.1 h.2 h.3) c.refused.ensures

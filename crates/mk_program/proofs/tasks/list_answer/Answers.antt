@@ -1,5 +1,5 @@
 use Rattle.std.proofs.lemmas.Result.{IfOk-weaker}
-use Rattle.mk_race.specs.Tasked.{IsListedBelow, NoScheduleShows}
+use Rattle.mk_race.specs.Tasked.{AreTasksListed, NoScheduleOfTasksShows}
 use Rattle.mk_program.proofs.Answering.{refusal_not_failed}
 use Rattle.mk_program.proofs.RaceLists.{listed_is, races_not_failed, unlisted_is}
 use Rattle.mk_program.proofs.tasks.list_answer.Goals as goal
@@ -9,11 +9,11 @@ returns-in-Ok-clause-status c = IfOk-weaker c.races_answer.result _ _ (λ answer
 
 pub returns-in-Ok-clause-answer : goal.returns-in-Ok-clause-answer
 returns-in-Ok-clause-answer c =
-    IfOk-weaker c.races_answer.result _ _ (λ answer h. listed_is (IsListedBelow c.args.root.now c.args.tasks.now) _ c.in-Ok.listed _ _ c.in-Ok.ensures.races c.in-Ok.ensures.headline h.0 h.1) c.races_answer.ensures
+    IfOk-weaker c.races_answer.result _ _ (λ answer h. listed_is (AreTasksListed c.args.root.now c.args.tasks.now) _ c.in-Ok.listed _ _ c.in-Ok.ensures.races c.in-Ok.ensures.headline h.0 h.1) c.races_answer.ensures
 
 pub returns-in-Err-clause-status : goal.returns-in-Err-clause-status
 returns-in-Err-clause-status c = IfOk-weaker c.refused.result _ _ (λ answer h. refusal_not_failed answer.status h.2) c.refused.ensures
 
 pub returns-in-Err-clause-answer : goal.returns-in-Err-clause-answer
 returns-in-Err-clause-answer c =
-    IfOk-weaker c.refused.result _ _ (λ answer h. unlisted_is (IsListedBelow c.args.root.now c.args.tasks.now) (NoScheduleShows c.args.root.now c.args.tasks.now) c.in-Err.halt h.0 _ _ c.in-Err.ensures.races h.1 h.2 h.3) c.refused.ensures
+    IfOk-weaker c.refused.result _ _ (λ answer h. unlisted_is (AreTasksListed c.args.root.now c.args.tasks.now) (NoScheduleOfTasksShows c.args.root.now c.args.tasks.now) c.in-Err.halt h.0 _ _ c.in-Err.ensures.races h.1 h.2 h.3) c.refused.ensures
