@@ -226,7 +226,7 @@ def answer_of(plan, footprints, is_short=False):
 
 
 def note(texts, footprints):
-    """What `race check`, `race verify` and `race replay` note of a build."""
+    """What all commands but `race order` note of a build."""
     try:
         return jobs_of(language.read_build(*texts), footprints).note()
     except Fault:

@@ -87,7 +87,7 @@ def seen(ran):
 
 def notes_no_more(words, ran):
     """Whether standard error has nothing, or the note of footprints that lie unused where these words may have one."""
-    noting = words[0] in ("check", "verify", "replay") and not {"--tasks", "--strict"} & set(words)
+    noting = words[0] != "order" and not {"--tasks", "--strict"} & set(words)
     errors = outcome(ran)[2]
     return not errors or noting and bool(NOTE.fullmatch(errors))
 

@@ -103,7 +103,7 @@ class Build:
         self.unused = [node.name for node in self.nodes if not node.recipe and node.name in targets]
 
     def note(self):
-        """What `race verify` and `race replay` note of this build."""
+        """What all commands but `race order` note of this build."""
         return note_of(self.unused)
 
     def covers(self, path, name):

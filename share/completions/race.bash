@@ -30,7 +30,7 @@ _race() {
       --footprints) mapfile -t COMPREPLY < <(compgen -f -- "$word"); return ;;
       --tasks) mapfile -t COMPREPLY < <(compgen -f -- "$word"); return ;;
     esac
-    case $word in -*) mapfile -t COMPREPLY < <(compgen -W "--makefile --listing --root --base --posix-base --includes --quiet --footprints --tasks --print-proof --short --strict -h --help" -- "$word"); return ;; esac
+    case $word in -*) mapfile -t COMPREPLY < <(compgen -W "--makefile --listing --root --base --posix-base --includes --quiet --footprints --strict --tasks --print-proof --short -h --help" -- "$word"); return ;; esac
     mapfile -t COMPREPLY < <(compgen -f -- "$word") ;;
   'race verify')
     case $before in
@@ -43,7 +43,7 @@ _race() {
       --tasks) mapfile -t COMPREPLY < <(compgen -f -- "$word"); return ;;
       --proof) mapfile -t COMPREPLY < <(compgen -f -- "$word"); return ;;
     esac
-    case $word in -*) mapfile -t COMPREPLY < <(compgen -W "--makefile --listing --root --base --posix-base --includes --quiet --footprints --tasks --proof --short --strict -h --help" -- "$word"); return ;; esac
+    case $word in -*) mapfile -t COMPREPLY < <(compgen -W "--makefile --listing --root --base --posix-base --includes --quiet --footprints --strict --tasks --proof --short -h --help" -- "$word"); return ;; esac
     mapfile -t COMPREPLY < <(compgen -f -- "$word") ;;
   'race replay')
     case $before in
@@ -56,7 +56,7 @@ _race() {
       --log) mapfile -t COMPREPLY < <(compgen -f -- "$word"); return ;;
       --limit) COMPREPLY=(); return ;;
     esac
-    case $word in -*) mapfile -t COMPREPLY < <(compgen -W "--makefile --listing --root --base --posix-base --includes --quiet --footprints --log --limit --tie --strict -h --help" -- "$word"); return ;; esac
+    case $word in -*) mapfile -t COMPREPLY < <(compgen -W "--makefile --listing --root --base --posix-base --includes --quiet --footprints --strict --log --limit --tie -h --help" -- "$word"); return ;; esac
     mapfile -t COMPREPLY < <(compgen -f -- "$word") ;;
   'race serialise')
     case $before in
@@ -69,7 +69,7 @@ _race() {
       --log) mapfile -t COMPREPLY < <(compgen -f -- "$word"); return ;;
       --limit) COMPREPLY=(); return ;;
     esac
-    case $word in -*) mapfile -t COMPREPLY < <(compgen -W "--makefile --listing --root --base --posix-base --includes --quiet --footprints --log --limit --tie -h --help" -- "$word"); return ;; esac
+    case $word in -*) mapfile -t COMPREPLY < <(compgen -W "--makefile --listing --root --base --posix-base --includes --quiet --footprints --strict --log --limit --tie -h --help" -- "$word"); return ;; esac
     mapfile -t COMPREPLY < <(compgen -f -- "$word") ;;
   'race list')
     case $before in
@@ -81,7 +81,7 @@ _race() {
       --footprints) mapfile -t COMPREPLY < <(compgen -f -- "$word"); return ;;
       --tasks) mapfile -t COMPREPLY < <(compgen -f -- "$word"); return ;;
     esac
-    case $word in -*) mapfile -t COMPREPLY < <(compgen -W "--makefile --listing --root --base --posix-base --includes --quiet --footprints --tasks -h --help" -- "$word"); return ;; esac
+    case $word in -*) mapfile -t COMPREPLY < <(compgen -W "--makefile --listing --root --base --posix-base --includes --quiet --footprints --strict --tasks -h --help" -- "$word"); return ;; esac
     mapfile -t COMPREPLY < <(compgen -f -- "$word") ;;
   'race fix')
     case $before in
@@ -93,7 +93,7 @@ _race() {
       --footprints) mapfile -t COMPREPLY < <(compgen -f -- "$word"); return ;;
       --tasks) mapfile -t COMPREPLY < <(compgen -f -- "$word"); return ;;
     esac
-    case $word in -*) mapfile -t COMPREPLY < <(compgen -W "--makefile --listing --root --base --posix-base --includes --quiet --footprints --tasks --print-proof -h --help" -- "$word"); return ;; esac
+    case $word in -*) mapfile -t COMPREPLY < <(compgen -W "--makefile --listing --root --base --posix-base --includes --quiet --footprints --strict --tasks --print-proof -h --help" -- "$word"); return ;; esac
     mapfile -t COMPREPLY < <(compgen -f -- "$word") ;;
   'race missing')
     case $before in
@@ -105,7 +105,7 @@ _race() {
       --footprints) mapfile -t COMPREPLY < <(compgen -f -- "$word"); return ;;
       --tasks) mapfile -t COMPREPLY < <(compgen -f -- "$word"); return ;;
     esac
-    case $word in -*) mapfile -t COMPREPLY < <(compgen -W "--makefile --listing --root --base --posix-base --includes --quiet --footprints --tasks -h --help" -- "$word"); return ;; esac
+    case $word in -*) mapfile -t COMPREPLY < <(compgen -W "--makefile --listing --root --base --posix-base --includes --quiet --footprints --strict --tasks -h --help" -- "$word"); return ;; esac
     mapfile -t COMPREPLY < <(compgen -f -- "$word") ;;
   'race-confirm')
     case $before in

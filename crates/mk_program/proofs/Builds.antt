@@ -1,20 +1,15 @@
 -- Lemmas on a build that was read.
-use Rattle.std.proofs.Common.{◌≡◌, ◌∙◌, ℕ, Bool, List, [], Result, Err, IfErr, IfOk, ap, inl, inr, refl, subst, sym}
+use Rattle.std.proofs.Common.{◌≡◌, ◌∙◌, ℕ, Bool, List, Result, IfErr, IfOk, ap, inl, inr, refl, subst, sym}
 use Rattle.std.proofs.lemmas.Result.{IfOk-weaker}
-use Rattle.mk_name.specs.Reported.{Reported}
-use Rattle.mk_name.specs.Shown.{refused_text}
-use Rattle.mk_race.specs.Stages.{IsPrepared, Texts}
+use Rattle.mk_race.specs.Stages.{Texts}
 use Rattle.mk_program.specs.Answers.{IsJobAnswer, IsNoTextOf, base_of, texts_for}
 use Rattle.mk_run.specs.Builds.{IsReadFrom}
-use Rattle.mk_program.specs.Noting.{SaysNoting, SaysQuietly}
+use Rattle.mk_program.specs.Noting.{SaysNoting}
 use Rattle.mk_program.specs.OrderText.{IsUnreported}
-use Rattle.mk_program.specs.declared.answers.Answer.{Answer}
 use Rattle.mk_run.specs.declared.build.Build.{Build}
 use Rattle.mk_program.specs.declared.noting.Reply.{Reply}
 use Rattle.mk_program.specs.declared.statuses.Status.{Status}
-use Rattle.mk_program.specs.declared.statuses.Status.TheVariants.{Refused}
 use Rattle.mk_program.proofs.Answering.{pairs, read_from, texts_are, words}
-use Rattle.mk_program.proofs.Noted.{quiet_is, with_note}
 use Rattle.mk_files.specs.Builds.{AreFoundBelow, IsListedBelow, other_text}
 use Rattle.mk_files.specs.Includes.{Pair}
 use Rattle.mk_files.specs.declared.failures.Failure.{Failure}
@@ -47,53 +42,27 @@ module _ (build : Build) (question asked : JobQuestion) (is : question ≡ asked
   other_is : (text : InputFile → List ℕ) → other ≡ other_text (other_input question) text → other ≡ other_text (other_input asked) text
   other_is text same = same ∙ ap (λ (q : JobQuestion). other_text (other_input q) text) is
 
-  -- the answer to the question that it is, with a note
-  pub noted_answer : (result : Result Reply Failure) (Says : Texts → List ℕ → List ℕ → Status → List ℕ → Type 0)
+  -- the answer to the question that it is
+  pub own_reply : (Says : Texts → List ℕ → List ℕ → Status → List ℕ → Type 0)
+      → ((texts : Texts) (text : InputFile → List ℕ) (status : Status) (answer note : List ℕ)
+      → SaysNoting strict texts (text inputs.Footprints) (Says texts (text inputs.Footprints) (other_text (other_input asked) text)) status answer note
+      → IsJobAnswer asked strict texts text status answer note)
+      → (reply : Reply) → ((texts : Texts) (lines : List ℕ) → IsReadFrom build texts lines
+      → SaysNoting strict texts lines (Says texts lines other) reply.answer.status reply.answer.text.items reply.note.items) → Answers reply
+  own_reply Says more reply over = λ texts text from same.
+      subst (λ (q : JobQuestion). IsJobAnswer q strict texts text reply.answer.status reply.answer.text.items reply.note.items) (sym is)
+      (more texts text reply.answer.status reply.answer.text.items reply.note.items
+      (subst (λ (o : List ℕ). SaysNoting strict texts (text inputs.Footprints) (Says texts (text inputs.Footprints) o)
+      reply.answer.status reply.answer.text.items reply.note.items) (other_is text same) (over texts (text inputs.Footprints) from)))
+
+  pub own_answer : (result : Result Reply Failure) (Says : Texts → List ℕ → List ℕ → Status → List ℕ → Type 0)
       → ((texts : Texts) (text : InputFile → List ℕ) (status : Status) (answer note : List ℕ)
       → SaysNoting strict texts (text inputs.Footprints) (Says texts (text inputs.Footprints) (other_text (other_input asked) text)) status answer note
       → IsJobAnswer asked strict texts text status answer note)
       → IfOk result (λ reply. (texts : Texts) (lines : List ℕ) → IsReadFrom build texts lines
       → SaysNoting strict texts lines (Says texts lines other) reply.answer.status reply.answer.text.items reply.note.items)
       → IfOk result Answers
-  noted_answer result Says more said = IfOk-weaker result _ _ (λ reply over texts text from same.
-      subst (λ (q : JobQuestion). IsJobAnswer q strict texts text reply.answer.status reply.answer.text.items reply.note.items) (sym is)
-      (more texts text reply.answer.status reply.answer.text.items reply.note.items
-      (subst (λ (o : List ℕ). SaysNoting strict texts (text inputs.Footprints) (Says texts (text inputs.Footprints) o)
-      reply.answer.status reply.answer.text.items reply.note.items) (other_is text same) (over texts (text inputs.Footprints) from)))) said
-
-  -- and without one
-  pub quiet_answer : (result : Result Reply Failure) (Says : Texts → List ℕ → List ℕ → Status → List ℕ → Type 0)
-      → ((texts : Texts) (text : InputFile → List ℕ) (status : Status) (answer note : List ℕ)
-      → Says texts (text inputs.Footprints) (other_text (other_input asked) text) status answer × (note ≡ [])
-      → IsJobAnswer asked strict texts text status answer note)
-      → ((texts : Texts) (lines : List ℕ) (reported : Reported) → IsPrepared texts lines (Err reported)
-      → Says texts lines other Refused (refused_text reported))
-      → IfOk result (λ reply. (texts : Texts) (lines : List ℕ) → IsReadFrom build texts lines
-      → SaysQuietly texts lines (Says texts lines other) reply.answer.status reply.answer.text.items)
-      → IfOk result (λ reply. reply.note.items ≡ [])
-      → IfOk result Answers
-  quiet_answer result Says more fault said none = with_note result _ _ _ (λ reply over empty texts text from same.
-      subst (λ (q : JobQuestion). IsJobAnswer q strict texts text reply.answer.status reply.answer.text.items reply.note.items) (sym is)
-      (more texts text reply.answer.status reply.answer.text.items reply.note.items (
-        subst (λ (o : List ℕ). Says texts (text inputs.Footprints) o reply.answer.status reply.answer.text.items) (other_is text same)
-            (quiet_is (Says texts (text inputs.Footprints) other) texts (text inputs.Footprints) reply.answer.status reply.answer.text.items
-            (fault texts (text inputs.Footprints)) (over texts (text inputs.Footprints) from)),
-        empty,
-      ))) said none
-
-  -- and an answer that has none
-  pub plain_answer : (Says : Texts → List ℕ → Status → List ℕ → Type 0)
-      → ((texts : Texts) (text : InputFile → List ℕ) (status : Status) (answer note : List ℕ)
-      → Says texts (text inputs.Footprints) status answer × (note ≡ []) → IsJobAnswer asked strict texts text status answer note)
-      → (reply : Reply) (answer : Answer) → reply.answer ≡ answer → reply.note.items ≡ []
-      → ((texts : Texts) (lines : List ℕ) → IsReadFrom build texts lines → Says texts lines answer.status answer.text.items)
-      → Answers reply
-  plain_answer Says more reply answer same none said = λ texts text from _.
-      subst (λ (q : JobQuestion). IsJobAnswer q strict texts text reply.answer.status reply.answer.text.items reply.note.items) (sym is)
-      (more texts text reply.answer.status reply.answer.text.items reply.note.items (
-        subst (λ (a : Answer). Says texts (text inputs.Footprints) a.status a.text.items) (sym same) (said texts (text inputs.Footprints) from),
-        none,
-      ))
+  own_answer result Says more said = IfOk-weaker result _ _ (own_reply Says more) said
 
   -- a failure of the question that it is
   pub no_text_of : (result : Result Reply Failure) (No : Texts → List ℕ → List ℕ → Type 0)

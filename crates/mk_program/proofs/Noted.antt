@@ -1,14 +1,22 @@
 -- Lemmas on answers with a note.
-use Rattle.std.proofs.Common.{◌≡◌, ◌≢◌, ◌⊎◌, inl, inr, ℕ, Bool, List, [], ◌∷◌, Result, Ok, Err, IfOk, subst, sym, refl}
+use Rattle.std.proofs.Common.{◌≡◌, ◌≢◌, ◌⊎◌, ◌∙◌, inl, inr, ℕ, Bool, List, [], ◌∷◌, Option, Some, Result, Ok, Err, IfOk, ap, subst, sym, refl}
+use Rattle.std.proofs.lemmas.Option.{same_Some}
 use Rattle.mk_name.specs.Gives.{HaltsAmong}
 use Rattle.mk_name.specs.Reported.{Reported}
 use Rattle.mk_name.specs.Shown.{refused_text}
 use Rattle.mk_name.specs.declared.fault.Halt.{Halt}
 use Rattle.mk_name.specs.declared.fault.Halt.TheVariants as halts
-use Rattle.mk_race.specs.Stages.{IsPrepared, Texts, ThenAny}
-use Rattle.mk_race.specs.Unused.{IsNoted, IsNotedBy}
+use Rattle.mk_foot.specs.Footprints.{Footprints, IsRead}
+use Rattle.mk_race.specs.Parts.{AreReadFrom}
+use Rattle.mk_race.specs.Stages.{Texts, ThenAny}
+use Rattle.mk_race.specs.Unused.{IsNotedBy, WereRead}
+use Rattle.mk_race.specs.declared.preparing.Prepared.{Prepared}
 use Rattle.mk_race.specs.declared.unused.Noted.{Noted}
-use Rattle.mk_program.specs.Noting.{SaysNoting, SaysQuietly}
+use Rattle.mk_run.specs.Builds.{IsReadFrom}
+use Rattle.mk_run.specs.declared.build.Build.{Build}
+use Rattle.mk_program.specs.Noting.{SaysNoting, note_of}
+use Rattle.mk_program.specs.declared.answers.Answer.{Answer}
+use Rattle.mk_program.specs.declared.noting.Reply.{Reply}
 use Rattle.mk_program.specs.declared.statuses.Status.{Status}
 use Rattle.mk_program.specs.declared.statuses.Status.TheVariants.{Refused}
 
@@ -30,19 +38,33 @@ pub empty_or : (note : List ℕ) → (note ≡ []) ⊎ (note ≢ [])
 empty_or [] = inl refl
 empty_or (first ∷ rest) = inr (λ same. let e : first ∷ rest ≡ [] = same in cc)
 
--- what is said without a note of a build is the answer, where without jobs the first fault is reported
-pub quiet_is : (Says : Status → List ℕ → Type 0) (texts : Texts) (footprints : List ℕ) (status : Status) (text : List ℕ)
-    → ((reported : Reported) → IsPrepared texts footprints (Err reported) → Says Refused (refused_text reported))
-    → SaysQuietly texts footprints Says status text → Says status text
-quiet_is Says texts footprints status text fault (note, (Ok noted, is, said)) = said.0
-quiet_is Says texts footprints status text fault (note, (Err reported, (Ok noted, is, same), said)) =
-    absurd (let e : ◌≡◌ {A = Result Noted Reported} (Err reported) (Ok noted) = same in cc)
-quiet_is Says texts footprints status text fault (note, (Err reported, (Err first, is, same), said)) =
-    let there : IsPrepared texts footprints (Err reported) = subst (λ (x : Result Noted Reported). IsNoted texts footprints x) (sym same) is in
-    rw (said.0, said.1) (fault reported there)
-
 -- two facts of a result
 pub with_note : {X E : Type 0} (result : Result X E) (One Other Both : X → Type 0) → ((x : X) → One x → Other x → Both x)
     → IfOk result One → IfOk result Other → IfOk result Both
 with_note (Ok x) One Other Both both one other = both x one other
 with_note (Err e) One Other Both both one other = tt
+
+-- an answer of a build that was read, with the note of what was prepared
+pub noting_is : {E : Type 0} (Says : Texts → List ℕ → Status → List ℕ → Type 0) (build : Build) (strict : Bool) (noted : Noted) (answer : Answer)
+    (result : Result Reply E) → ((texts : Texts) (lines : List ℕ) → IsReadFrom build texts lines → IsNotedBy strict texts lines (Ok noted))
+    → ((texts : Texts) (lines : List ℕ) → IsReadFrom build texts lines → Says texts lines answer.status answer.text.items)
+    → IfOk result (λ reply. reply.answer ≡ answer) → IfOk result (λ reply. reply.note.items ≡ note_of noted.unused)
+    → IfOk result (λ reply. (texts : Texts) (lines : List ℕ) → IsReadFrom build texts lines
+    → SaysNoting strict texts lines (Says texts lines) reply.answer.status reply.answer.text.items reply.note.items)
+noting_is Says build strict noted answer result is said = with_note result _ _ _ (λ reply same noting texts lines from. (
+  Ok noted,
+  is texts lines from,
+  (subst (λ (a : Answer). Says texts lines a.status a.text.items) (sym same) (said texts lines from), noting),
+))
+
+-- what was read of a build that was noted, with a copy of its footprints, was read from the same texts
+pub read_again : (texts : Texts) (build : Build) (lines : List ℕ) (prepared : Prepared) (copy : Option Footprints) (again : Footprints)
+    → WereRead build.listing build.footprints prepared → IfOk build.footprints (λ found. copy ≡ Some found) → copy ≡ Some again
+    → AreReadFrom texts lines build.listing build.footprints → AreReadFrom texts lines (Ok prepared.listing) (Ok again)
+read_again texts build lines prepared copy again (listing, (found, is)) same some from =
+    let alike : found ≡ again = same_Some _ _ (sym (subst (λ (r : Result Footprints Reported). IfOk r (λ f. copy ≡ Some f)) is same) ∙ some) in
+    record {
+      listing = λ root rooted. from.listing root rooted ∙ listing;
+      footprints = λ root rooted. subst (λ (r : Result Footprints Reported). IsRead root lines r) (is ∙ ap (λ (f : Footprints). Ok f) alike)
+          (from.footprints root rooted);
+    }

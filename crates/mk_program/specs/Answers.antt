@@ -295,21 +295,19 @@ IsTasksAnswer questions.List root text status answer = IsTaskListAnswer root (te
 IsTasksAnswer (questions.Fix print_proof) root text status answer = IsTaskFixAnswer root (text inputs.Tasks) print_proof status answer
 IsTasksAnswer (questions.Missing listing) root text status answer = IsTaskMissingAnswer root (text inputs.Listing) (text inputs.Tasks) status answer
 
--- the answer to a question about the jobs of a build and its note, over the texts of the build and of the inputs; where it has a note, a
--- strict build is refused if footprints lie unused
+-- the answer to a question about the jobs of a build, over the texts of the build and of the inputs
+abbrev pub IsAnswerOfJobs : JobQuestion → Texts → (InputFile → List ℕ) → Status → List ℕ → Type 0
+IsAnswerOfJobs (jobs.Check print_proof short) texts text = IsCheckAnswer short texts (text inputs.Footprints) print_proof
+IsAnswerOfJobs (jobs.Verify proof short) texts text = IsVerifyAnswer short texts (text inputs.Footprints) (text inputs.Proof)
+IsAnswerOfJobs (jobs.Replay args) texts text = IsReplayAnswer texts (text inputs.Footprints) (text inputs.Log) args.limit args.tie
+IsAnswerOfJobs (jobs.Serialise args) texts text = IsSerialiseAnswer texts (text inputs.Footprints) (text inputs.Log) args.limit args.tie
+IsAnswerOfJobs jobs.List texts text = IsListAnswer texts (text inputs.Footprints)
+IsAnswerOfJobs (jobs.Fix print_proof) texts text = IsFixAnswer texts (text inputs.Footprints) print_proof
+IsAnswerOfJobs jobs.Missing texts text = IsMissingAnswer texts (text inputs.Footprints)
+
+-- that answer and its note; a strict build is refused if footprints lie unused
 abbrev pub IsJobAnswer : JobQuestion → Bool → Texts → (InputFile → List ℕ) → Status → List ℕ → List ℕ → Type 0
-IsJobAnswer (jobs.Check print_proof short) strict texts text =
-    SaysNoting strict texts (text inputs.Footprints) (IsCheckAnswer short texts (text inputs.Footprints) print_proof)
-IsJobAnswer (jobs.Verify proof short) strict texts text =
-    SaysNoting strict texts (text inputs.Footprints) (IsVerifyAnswer short texts (text inputs.Footprints) (text inputs.Proof))
-IsJobAnswer (jobs.Replay args) strict texts text =
-    SaysNoting strict texts (text inputs.Footprints) (IsReplayAnswer texts (text inputs.Footprints) (text inputs.Log) args.limit args.tie)
-IsJobAnswer (jobs.Serialise args) strict texts text = λ status answer note.
-    IsSerialiseAnswer texts (text inputs.Footprints) (text inputs.Log) args.limit args.tie status answer × (note ≡ [])
-IsJobAnswer jobs.List strict texts text = λ status answer note. IsListAnswer texts (text inputs.Footprints) status answer × (note ≡ [])
-IsJobAnswer (jobs.Fix print_proof) strict texts text = λ status answer note.
-    IsFixAnswer texts (text inputs.Footprints) print_proof status answer × (note ≡ [])
-IsJobAnswer jobs.Missing strict texts text = λ status answer note. IsMissingAnswer texts (text inputs.Footprints) status answer × (note ≡ [])
+IsJobAnswer question strict texts text = SaysNoting strict texts (text inputs.Footprints) (IsAnswerOfJobs question texts text)
 
 -- the answer to a request and its note, which may be empty, over the texts of its includes and of its inputs
 abbrev pub IsAnswerOver : Request → List Pair → (InputFile → List ℕ) → Status → List ℕ → List ℕ → Type 0

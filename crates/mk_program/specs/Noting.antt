@@ -34,7 +34,3 @@ SaysOf Says (Err reported) status text note = (status ≡ statuses.Refused) × (
 abbrev pub SaysNoting : Bool → Texts → List ℕ → (Status → List ℕ → Type 0) → Status → List ℕ → List ℕ → Type 0
 SaysNoting strict texts footprints Says status text note =
     (given : Result Noted Reported) × IsNotedBy strict texts footprints given × SaysOf Says given status text note
-
--- the same without a note: a build is answered though its footprints may lie unused
-abbrev pub SaysQuietly : Texts → List ℕ → (Status → List ℕ → Type 0) → Status → List ℕ → Type 0
-SaysQuietly texts footprints Says status text = (note : List ℕ) × SaysNoting false texts footprints Says status text note

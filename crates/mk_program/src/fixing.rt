@@ -1,36 +1,69 @@
 //! The answers to `race fix`.
 ghost use Rattle.std.specs.Prelude.{◌≢◌, IfOk, List, ℕ};
 ghost use Rattle.mk_decide.specs.Decisions.{AreSafe};
-ghost use Rattle.mk_race.specs.Fixed.{HoldsOfFixed, HoldsOfJobs};
+ghost use Rattle.mk_name.specs.Gives.{Answers};
+ghost use Rattle.mk_race.specs.Fixed.{HoldsOfFixed, HoldsOfJobs, IsFixing};
 ghost use Rattle.mk_race.specs.Stages.{Texts};
 ghost use Rattle.mk_program.specs.Answers as spec;
+ghost use Rattle.mk_program.specs.Noting.{SaysNoting};
 ghost use Rattle.mk_run.specs.Builds.{IsReadFrom};
 
 use crate::answers::{Answer, refused};
+use crate::noting::{Reply, noted_of, refused_reply, with_note};
 use crate::statuses::Status;
 use mk_decide::decision::certify;
 use mk_jobs::jobs::Jobs;
+use mk_name::fault::Halt;
 use mk_proof::writing::write_certificate;
-use mk_race::fixing::{Fixing, fix_parts};
+use mk_race::fixing::{Fixing, copied, fix_prepared};
+use mk_race::unused::Noted;
 use mk_report::not_fixed::not_fixed_report;
 use mk_run::Build;
 use std::alloc::{AllocError, Global};
 
 /// The lines that fix a build that was read, or the proof of the build with them, or the edges that no lines give it; or the report of its
-/// first fault. The only error is out of memory.
-pub(crate) fn fix_answer(
+/// first fault; and the note. A strict build has the fault of footprints that lie unused. The only error is out of memory.
+pub(crate) fn fix_reply(
     alloc: Global,
     build: Build<'_>,
     print_proof: bool,
-) -> Result<Answer, AllocError>
-    ensures status { IfOk result (λ answer. answer.status ≢ Status.Failed) }
-    ensures answer { IfOk result (λ answer. (texts : Texts) (lines : List ℕ) → IsReadFrom build.entry texts lines
-        → spec.IsFixAnswer texts lines print_proof answer.status answer.text.items) }
+    strict: bool,
+) -> Result<Reply, AllocError>
+    ensures status { IfOk result (λ reply. reply.answer.status ≢ Status.Failed) }
+    ensures answer { IfOk result (λ reply. (texts : Texts) (lines : List ℕ) → IsReadFrom build.entry texts lines
+        → SaysNoting strict texts lines (spec.IsFixAnswer texts lines print_proof)
+        reply.answer.status reply.answer.text.items reply.note.items) }
 {
+    let again = copied(alloc, &build.footprints)?;
     let (settings, base, makefile) = (build.settings, build.base, build.makefile);
-    let (listing, footprints) = (build.listing, build.footprints);
-    match fix_parts(alloc, settings, base, makefile, listing, footprints) {
-        Ok(fixing) => fixing_answer(alloc, &fixing, print_proof),
+    match noted_of(alloc, build, strict) {
+        Ok(noted) => {
+            let Some(footprints) = again else {
+                unreachable!();
+            };
+            let Noted { prepared, unused } = noted;
+            let fixing = fix_prepared(alloc, settings, base, makefile, prepared, footprints);
+            let answer = fix_answer(alloc, fixing, print_proof)?;
+            with_note(alloc, answer, &unused)
+        }
+        Err(halt) => refused_reply(alloc, halt),
+    }
+}
+
+/// What comes of a build that was to be fixed, or the report of its fault. The only error is out of memory.
+fn fix_answer(
+    alloc: Global,
+    fixing: Result<Fixing, Halt>,
+    proof: bool,
+) -> Result<Answer, AllocError>
+    requires { IfOk fixing HoldsOfJobs }
+    ensures status { IfOk result (λ answer. answer.status ≢ Status.Failed) }
+    ensures answer { IfOk result (λ answer. (texts : Texts) (footprints : List ℕ)
+        → Answers fixing (IsFixing texts footprints) → IfOk fixing (HoldsOfFixed texts footprints)
+        → spec.IsFixAnswer texts footprints proof answer.status answer.text.items) }
+{
+    match fixing {
+        Ok(fixing) => fixing_answer(alloc, &fixing, proof),
         Err(halt) => refused(alloc, halt),
     }
 }

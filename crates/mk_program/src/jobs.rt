@@ -10,10 +10,10 @@ ghost use Rattle.mk_program.specs.OrderText.{IsUnreported};
 
 use crate::answers::{base_of, bytes_of, settings_of};
 use crate::checking::Checking;
-use crate::fixing::fix_answer;
+use crate::fixing::fix_reply;
 use crate::listing::AllRaces;
-use crate::missing::missing_answer;
-use crate::noting::{Reply, noted_reply, quiet_reply, without_note};
+use crate::missing::missing_reply;
+use crate::noting::{Reply, noted_reply};
 use crate::replaying::Replaying;
 use crate::serialising::SerialOrder;
 use crate::statuses::Status;
@@ -115,15 +115,11 @@ fn reply_to(
             noted_reply(alloc, build, other, &Verifying { short }, strict)
         }
         JobQuestion::Replay(log) => noted_reply(alloc, build, other, &Replaying { log }, strict),
-        JobQuestion::Serialise(log) => quiet_reply(alloc, build, other, &SerialOrder { log }),
-        JobQuestion::List => quiet_reply(alloc, build, other, &AllRaces),
-        JobQuestion::Fix { print_proof } => {
-            let answer = fix_answer(alloc, build, print_proof)?;
-            Ok(without_note(alloc, answer))
+        JobQuestion::Serialise(log) => {
+            noted_reply(alloc, build, other, &SerialOrder { log }, strict)
         }
-        JobQuestion::Missing => {
-            let answer = missing_answer(alloc, build)?;
-            Ok(without_note(alloc, answer))
-        }
+        JobQuestion::List => noted_reply(alloc, build, other, &AllRaces, strict),
+        JobQuestion::Fix { print_proof } => Ok(fix_reply(alloc, build, print_proof, strict)?),
+        JobQuestion::Missing => Ok(missing_reply(alloc, build, strict)?),
     }
 }

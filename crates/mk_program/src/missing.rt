@@ -1,31 +1,60 @@
 //! The answers to `race missing`.
 ghost use Rattle.std.specs.Prelude.{◌≡◌, ◌≢◌, ◌↔◌, IfOk, IsTrue, List, None, ℕ};
+ghost use Rattle.mk_name.specs.Gives.{Answers};
+ghost use Rattle.mk_race.specs.Missing.{BuildsAsClean, IsEmpty, IsMissingList};
 ghost use Rattle.mk_race.specs.Stages.{Texts};
 ghost use Rattle.mk_missing.specs.Violations.{HasNone};
 ghost use Rattle.mk_program.specs.Answers as spec;
 ghost use Rattle.mk_program.specs.FaultText.{refusal_in};
+ghost use Rattle.mk_program.specs.Noting.{SaysNoting};
 ghost use Rattle.mk_run.specs.Builds.{IsReadFrom};
 
 use crate::answers::{Answer, refused};
 use crate::change_lines::push_change;
+use crate::noting::{Reply, noted_of, refused_reply, with_note};
 use crate::statuses::Status;
 use mk_missing::violations::Violations;
+use mk_name::fault::Halt;
 use mk_race::again::Change;
-use mk_race::missing::{MissingList, missing_parts};
+use mk_race::missing::{MissingList, missing_prepared};
+use mk_race::unused::Noted;
 use mk_report::missing::missing_report;
 use mk_run::Build;
 use std::alloc::{AllocError, Global};
 
-/// All races and violations of a build that was read, and the change of a second build; or the report of its first fault. The only
-/// error is out of memory.
-pub(crate) fn missing_answer(alloc: Global, build: Build<'_>) -> Result<Answer, AllocError>
-    ensures status { IfOk result (λ answer. answer.status ≢ Status.Failed) }
-    ensures answer { IfOk result (λ answer. (texts : Texts) (lines : List ℕ) → IsReadFrom build.entry texts lines
-        → spec.IsMissingAnswer texts lines answer.status answer.text.items) }
+/// All races and violations of a build that was read, and the change of a second build; or the report of its first fault; and the
+/// note. A strict build has the fault of footprints that lie unused. The only error is out of memory.
+pub(crate) fn missing_reply(
+    alloc: Global,
+    build: Build<'_>,
+    strict: bool,
+) -> Result<Reply, AllocError>
+    ensures status { IfOk result (λ reply. reply.answer.status ≢ Status.Failed) }
+    ensures answer { IfOk result (λ reply. (texts : Texts) (lines : List ℕ) → IsReadFrom build.entry texts lines
+        → SaysNoting strict texts lines (spec.IsMissingAnswer texts lines)
+        reply.answer.status reply.answer.text.items reply.note.items) }
 {
     let (settings, base, makefile) = (build.settings, build.base, build.makefile);
-    let (listing, footprints) = (build.listing, build.footprints);
-    match missing_parts(alloc, settings, base, makefile, listing, footprints) {
+    match noted_of(alloc, build, strict) {
+        Ok(noted) => {
+            let Noted { prepared, unused } = noted;
+            let found = missing_prepared(alloc, settings, base, makefile, prepared);
+            let answer = missing_answer(alloc, found)?;
+            with_note(alloc, answer, &unused)
+        }
+        Err(halt) => refused_reply(alloc, halt),
+    }
+}
+
+/// What was listed of a build, or the report of its fault. The only error is out of memory.
+fn missing_answer(alloc: Global, found: Result<MissingList, Halt>) -> Result<Answer, AllocError>
+    ensures status { IfOk result (λ answer. answer.status ≢ Status.Failed) }
+    ensures answer { IfOk result (λ answer. (texts : Texts) (footprints : List ℕ)
+        → Answers found (IsMissingList texts footprints)
+        → IfOk found (λ listed. IsEmpty listed → BuildsAsClean texts footprints)
+        → spec.IsMissingAnswer texts footprints answer.status answer.text.items) }
+{
+    match found {
         Ok(listed) => listed_answer(alloc, &listed),
         Err(halt) => refused(alloc, halt),
     }

@@ -5,7 +5,7 @@ ghost use Rattle.mk_name.specs.Shown.{refused_text};
 ghost use Rattle.mk_name.specs.Reported.{Reported};
 ghost use Rattle.mk_name.specs.declared.fault.Halt.TheVariants as halts;
 ghost use Rattle.mk_race.specs.Stages.{AreListed, IsPrepared, Texts};
-ghost use Rattle.mk_race.specs.Unused.{IsNotedBy};
+ghost use Rattle.mk_race.specs.Unused.{IsNotedBy, WereRead};
 ghost use Rattle.mk_run.specs.Builds.{IsReadFrom};
 ghost use Rattle.mk_program.specs.Noting as spec;
 ghost use Rattle.mk_program.specs.OrderText.{IsUnreported};
@@ -70,32 +70,14 @@ pub(crate) fn noted_reply<Q: Question>(
     }
 }
 
-/// The same without a note, of a build that is not strict: its footprints may lie unused.
-pub(crate) fn quiet_reply<Q: Question>(
-    alloc: Global,
-    build: Build<'_>,
-    other: &[u8],
-    question: &Q,
-) -> Result<Reply, Failure>
-    ensures status { IfOk result (λ reply. reply.answer.status ≢ Status.Failed) }
-    ensures answer { IfOk result (λ reply. (texts : Texts) (lines : List ℕ) → IsReadFrom build.entry texts lines
-        → spec.SaysQuietly texts lines (Q.says question.now texts lines other.now)
-        reply.answer.status reply.answer.text.items) }
-    ensures note { IfOk result (λ reply. reply.note.items ≡ []) }
-    ensures failure { IfErr result (IsUnreported ((texts : Texts) (lines : List ℕ) → IsReadFrom build.entry texts lines
-        → Q.has_no_text question.now texts lines other.now)) }
-{
-    let reply = noted_reply(alloc, build, other, question, false)?;
-    Ok(without_note(alloc, reply.answer))
-}
-
 /// The jobs of a build that was read, with its footprints that lie unused; or its first fault.
-fn noted_of(alloc: Global, build: Build<'_>, strict: bool) -> Result<Noted, Halt>
+pub(crate) fn noted_of(alloc: Global, build: Build<'_>, strict: bool) -> Result<Noted, Halt>
     ensures answer { (texts : Texts) (lines : List ℕ) → IsReadFrom build.entry texts lines
         → Answers result (IsNotedBy strict texts lines) }
     ensures prepared { IfOk result (λ noted. (texts : Texts) (lines : List ℕ) → IsReadFrom build.entry texts lines
         → IsPrepared texts lines (Ok noted.prepared)) }
     ensures listed { IfOk result (λ noted. AreListed noted.prepared) }
+    ensures read { IfOk result (λ noted. WereRead build.entry.listing build.entry.footprints noted.prepared) }
 {
     let (settings, base, makefile) = (build.settings, build.base, build.makefile);
     let (listing, footprints) = (build.listing, build.footprints);
@@ -154,7 +136,7 @@ pub(crate) fn with_note(
 }
 
 /// The report of a fault, and no note; out of memory is no answer.
-fn refused_reply(alloc: Global, halt: Halt) -> Result<Reply, AllocError>
+pub(crate) fn refused_reply(alloc: Global, halt: Halt) -> Result<Reply, AllocError>
     ensures { IfOk result (λ reply. (reported : Reported) × (halt ≡ halts.Fault reported)
         × (reply.answer.status ≡ Status.Refused) × (reply.answer.text.items ≡ refused_text reported)
         × (reply.note.items ≡ [])) }

@@ -20,8 +20,7 @@ use Rattle.mk_fix.proofs.Adding.{cons_cases, here, none_in, there}
 use Rattle.mk_missing.specs.Unlisted.{unlisted_names}
 use Rattle.mk_race.specs.Again.{IsChange}
 use Rattle.mk_race.specs.Missing.{BuildsAsClean, IsEmpty, IsMissingList, IsMissingListOf, LeavesAsClean}
-use Rattle.mk_foot.specs.Footprints.{Footprints}
-use Rattle.mk_race.specs.Parts.{ForTextsRead, listed_as}
+use Rattle.mk_race.specs.Parts.{listed_as}
 use Rattle.mk_race.specs.Stages.{IsPrepared, Texts}
 use Rattle.mk_race.specs.TasksMissing.{IsPreparedBelow, TasksBuildAsClean}
 use Rattle.mk_race.specs.declared.again.Change.{Change}
@@ -118,14 +117,14 @@ changed_list texts footprints prepared change (Err halts.Memory) build is h = tt
 changed_list texts footprints prepared change (Err (halts.Fault reported)) build is h = (Ok prepared, build, (change, is, h))
 
 -- and where that is empty, builds of old trees leave what those of clean ones leave
-pub builds_headline : (texts : Texts) (listed : Result (List Name) Reported) (read : Result Footprints Reported) (prepared : Prepared) (change : Option Change)
-    (result : Result MissingList Halt) → ForTextsRead texts listed read (λ texts lines. IsPrepared texts lines (Ok prepared)) → IsChange texts prepared change
+pub builds_headline : (texts : Texts) (prepared : Prepared) (change : Option Change) (result : Result MissingList Halt) → IsChange texts prepared change
     → Answers result (IsMissingListOf prepared change) → IfOk result (λ given. IsEmpty given → LeavesAsClean prepared.jobs prepared.listing)
     → IfOk result (λ given. IsEmpty given → IsDeterminateFromOneRun prepared.jobs)
-    → IfOk result (λ given. IsEmpty given → ForTextsRead texts listed read BuildsAsClean)
-builds_headline texts listed read prepared change (Ok given) build is h leaves one = λ empty listing lines from.
-    builds_as_clean (listed_as texts listing) lines prepared change (build listing lines from) is (sym h.3 ∙ empty.change) (leaves empty) (one empty)
-builds_headline texts listed read prepared change (Err halt) build is h leaves one = tt
+    → IfOk result (λ given. IsEmpty given → (listed lines : List ℕ) → IsPrepared (listed_as texts listed) lines (Ok prepared)
+    → BuildsAsClean (listed_as texts listed) lines)
+builds_headline texts prepared change (Ok given) is h leaves one = λ empty listed lines build.
+    builds_as_clean (listed_as texts listed) lines prepared change build is (sym h.3 ∙ empty.change) (leaves empty) (one empty)
+builds_headline texts prepared change (Err halt) is h leaves one = tt
 
 -- the same of tasks
 pub tasks_as_clean : (root listing tasks : List ℕ) (prepared : Prepared) (result : Result MissingList Halt) → IsPreparedBelow root listing tasks (Ok prepared)

@@ -9,9 +9,10 @@ use Rattle.mk_jobs.specs.Jobs.{Jobs}
 use Rattle.mk_foot.specs.Footprints.{Footprints, IsRead}
 use Rattle.mk_race.specs.Parts.{AreReadFrom, IsPlannedWith, texts_with}
 use Rattle.mk_race.specs.Stages.{IsPlanned, IsPrepared, Texts, Then, with_jobs}
-use Rattle.mk_race.specs.Unused.{AreNotedOf, AreNotedOn, IsNoted, IsNotedBy, IsNotedWith}
+use Rattle.mk_race.specs.Unused.{AreNotedOf, AreNotedOn, IsNoted, IsNotedBy, IsNotedWith, WereRead}
 use Rattle.mk_race.specs.declared.input.Settings.{Settings}
 use Rattle.mk_race.specs.declared.planning.Planned.{Planned}
+use Rattle.mk_race.specs.declared.preparing.Prepared.{Prepared}
 use Rattle.mk_race.specs.declared.unused.Noted.{Noted}
 use Rattle.mk_race.specs.declared.unused.Unused.{Unused}
 use Rattle.mk_race.proofs.Ahead.{planned_from, planned_there}
@@ -95,33 +96,31 @@ not_found planned read halts.Memory h = tt
 not_found planned read (halts.Fault reported) h = (Err reported, h, refl)
 
 -- what was read of a build whose jobs are noted: its listing, and footprints
-was_read : (texts : Texts) (listed : Result (List Name) Reported) (read : Result Footprints Reported) (noted : Noted)
-    → IsNotedWith texts listed read (Ok noted) → (listed ≡ Ok noted.prepared.listing) × ((found : Footprints) × (read ≡ Ok found))
-was_read texts listed (Ok found) noted (Ok planned, is, (Ok jobs, on, so)) =
+were_read : (texts : Texts) (listed : Result (List Name) Reported) (read : Result Footprints Reported) (noted : Noted)
+    → IsNotedWith texts listed read (Ok noted) → WereRead listed read noted.prepared
+were_read texts listed (Ok found) noted (Ok planned, is, (Ok jobs, on, so)) =
     ((planned_from texts listed planned is).1 ∙ ap (λ (n : Noted). Ok n.prepared.listing) (sym (same so)), (found, refl))
   where
     same : {x y : Noted} → ◌≡◌ {A = Result Noted Reported} (Ok x) (Ok y) → x ≡ y
     same e = cc
-was_read texts listed (Err fault) noted (Ok planned, is, (Ok jobs, on, so)) = absurd (cc on)
-was_read texts listed read noted (Ok planned, is, (Err reported, on, so)) = absurd (cc so)
-was_read texts listed read noted (Err reported, is, so) = absurd (cc so)
+were_read texts listed (Err fault) noted (Ok planned, is, (Ok jobs, on, so)) = absurd (cc on)
+were_read texts listed read noted (Ok planned, is, (Err reported, on, so)) = absurd (cc so)
+were_read texts listed read noted (Err reported, is, so) = absurd (cc so)
 
--- so a copy of the footprints was read, and from the same texts
-pub copy_is : (texts : Texts) (listed : Result (List Name) Reported) (read : Result Footprints Reported) (noted : Noted) (copy : Option Footprints)
-    → IsNotedWith texts listed read (Ok noted) → IfOk read (λ found. copy ≡ Some found) → (found : Footprints) × (read ≡ Ok found) × (copy ≡ Some found)
-copy_is texts listed read noted copy is same =
-    let found = (was_read texts listed read noted is).1 in
-    (found.0, found.1, subst (λ (r : Result Footprints Reported). IfOk r (λ f. copy ≡ Some f)) found.1 same)
+pub noted_were_read : (texts : Texts) (listed : Result (List Name) Reported) (read : Result Footprints Reported) (result : Result Noted Halt)
+    → Answers result (IsNotedWith texts listed read) → IfOk result (λ noted. WereRead listed read noted.prepared)
+noted_were_read texts listed read (Ok noted) is = were_read texts listed read noted is
+noted_were_read texts listed read (Err halt) is = tt
 
-pub read_again : (texts : Texts) (listed : Result (List Name) Reported) (read : Result Footprints Reported) (noted : Noted) (copy : Option Footprints)
-    (again : Footprints) (lines : List ℕ) → IsNotedWith texts listed read (Ok noted) → IfOk read (λ found. copy ≡ Some found) → copy ≡ Some again
-    → AreReadFrom texts lines listed read → AreReadFrom texts lines (Ok noted.prepared.listing) (Ok again)
-read_again texts listed read noted copy again lines is same some from =
-    let found = copy_is texts listed read noted copy is same in
-    let alike : found.0 ≡ again = inside (sym found.2 ∙ some) in
-    let read_is : read ≡ Ok again = found.1 ∙ ap (λ (f : Footprints). Ok f) alike in
+-- so a copy of the footprints was read from the same texts
+pub read_again : (texts : Texts) (listed : Result (List Name) Reported) (read : Result Footprints Reported) (prepared : Prepared) (copy : Option Footprints)
+    (again : Footprints) (lines : List ℕ) → WereRead listed read prepared → IfOk read (λ found. copy ≡ Some found) → copy ≡ Some again
+    → AreReadFrom texts lines listed read → AreReadFrom texts lines (Ok prepared.listing) (Ok again)
+read_again texts listed read prepared copy again lines (listing, (found, is)) same some from =
+    let alike : found ≡ again = inside (sym (subst (λ (r : Result Footprints Reported). IfOk r (λ f. copy ≡ Some f)) is same) ∙ some) in
+    let read_is : read ≡ Ok again = is ∙ ap (λ (f : Footprints). Ok f) alike in
     record {
-      listing = λ root rooted. from.listing root rooted ∙ (was_read texts listed read noted is).0;
+      listing = λ root rooted. from.listing root rooted ∙ listing;
       footprints = λ root rooted. subst (λ (r : Result Footprints Reported). IsRead root lines r) read_is (from.footprints root rooted);
     }
   where

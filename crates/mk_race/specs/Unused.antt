@@ -60,6 +60,10 @@ AreNotedOn planned read =
 abbrev pub IsNotedWith : Texts → Result (List Name) Reported → Result Footprints Reported → Result Noted Reported → Type 0
 IsNotedWith texts listed read = ThenAny (IsPlannedWith texts listed) (λ planned. AreNotedOn planned read)
 
+-- both were read without a fault, and the jobs were prepared with that listing
+abbrev pub WereRead : Result (List Name) Reported → Result Footprints Reported → Prepared → Type 0
+WereRead listed read prepared = (listed ≡ Ok prepared.listing) × ((found : Footprints) × (read ≡ Ok found))
+
 -- the fault of footprints that lie unused names the first of their targets
 abbrev pub unused_fault : Unused → Reported
 unused_fault unused = record { kind = UnusedFootprint; source = sources.Jobs; place = unused.node; names = unused.name ∷ [] }

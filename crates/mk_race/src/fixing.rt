@@ -73,30 +73,44 @@ pub fn fix_build(alloc: Global, input: &Input<'_>) -> Result<Fixing, Halt>
     fix_ahead(alloc, input, listing, footprints)
 }
 
-/// The lines that fix a build whose listing and footprints were read ahead, each into what it says or its first fault.
+/// The lines that fix a build that was prepared, of which these footprints were read, as [`fix_build`] gives them.
 ///
-/// Where these are the results of two texts below the root of the settings, the lines are those that [`fix_build`] gives for those
-/// texts, with the same first fault: so a text may come in pieces, and need not be kept. Where the root is refused they count for
-/// nothing. The only other error is out of memory.
-pub fn fix_parts(
+/// The first fault is `TooManyPairs` in the jobs at place 0, where more than 1,000,000 pairs of recipes clash. The only other error
+/// is out of memory.
+pub fn fix_prepared(
     alloc: Global,
     settings: &Settings<'_>,
     base: &[u8],
     makefile: &[u8],
-    listing: Result<Listing, Fault>,
-    footprints: Result<Footprints, Fault>,
+    prepared: Prepared,
+    footprints: Footprints,
 ) -> Result<Fixing, Halt>
     ensures answer { (listed lines : List ℕ)
-        → AreReadFrom (texts_with settings.now base.now makefile.now listed) lines listing footprints
+        → AreReadFrom (texts_with settings.now base.now makefile.now listed) lines (Ok prepared.listing) (Ok footprints)
+        → IsPrepared (texts_with settings.now base.now makefile.now listed) lines (Ok prepared)
         → Answers result (IsFixing (texts_with settings.now base.now makefile.now listed) lines) }
     // The headline: where lines fix the build, no schedule of it shows in the files, with them behind its makefile.
     ensures headline { IfOk result (λ fixing. (listed lines : List ℕ)
-        → AreReadFrom (texts_with settings.now base.now makefile.now listed) lines listing footprints
+        → AreReadFrom (texts_with settings.now base.now makefile.now listed) lines (Ok prepared.listing) (Ok footprints)
+        → IsPrepared (texts_with settings.now base.now makefile.now listed) lines (Ok prepared)
         → HoldsOfFixed (texts_with settings.now base.now makefile.now listed) lines fixing) }
     ensures safe { IfOk result HoldsOfJobs }
 {
     let input = input_without(settings, base, makefile);
-    fix_ahead(alloc, &input, listing, footprints)
+    fix_with(alloc, &input, prepared, footprints)
+}
+
+/// A copy of footprints that were read, where they have no fault. The only error is out of memory.
+pub fn copied(
+    alloc: Global,
+    footprints: &Result<Footprints, Fault>,
+) -> Result<Option<Footprints>, AllocError>
+    ensures { IfOk result (λ copy. IfOk footprints.now (λ read. copy ≡ Some read)) }
+{
+    match footprints {
+        Ok(footprints) => Ok(Some(footprints.copy(alloc)?)),
+        Err(_fault) => Ok(None),
+    }
 }
 
 /// The lines that fix a build whose listing and footprints were read ahead; those of the input count for nothing.
@@ -117,25 +131,12 @@ fn fix_ahead(
     let Some(footprints) = again else {
         unreachable!();
     };
-    fix_prepared(alloc, input, noted.prepared, footprints)
-}
-
-/// A copy of footprints that were read, which have no fault. The only error is out of memory.
-fn copied(
-    alloc: Global,
-    footprints: &Result<Footprints, Fault>,
-) -> Result<Option<Footprints>, AllocError>
-    ensures { IfOk result (λ copy. IfOk footprints.now (λ read. copy ≡ Some read)) }
-{
-    match footprints {
-        Ok(footprints) => Ok(Some(footprints.copy(alloc)?)),
-        Err(_fault) => Ok(None),
-    }
+    fix_with(alloc, input, noted.prepared, footprints)
 }
 
 /// The lines that fix a build that was prepared, of which these footprints were read. Where they need no edge, nothing is read
 /// again. Where more than 1,000,000 pairs of nodes clash the fault is `TooManyPairs` in the jobs, at place 0.
-fn fix_prepared(
+fn fix_with(
     alloc: Global,
     input: &Input<'_>,
     prepared: Prepared,

@@ -3,7 +3,7 @@ ghost use Rattle.std.specs.Prelude.{◌≡◌, [], IfOk, List, ℕ};
 ghost use Rattle.mk_name.specs.Gives.{Answers};
 ghost use Rattle.mk_race.specs.Parts.{AreReadFrom, IsListedFrom, texts_with};
 ghost use Rattle.mk_race.specs.Stages.{AreListed, IsPlanned, texts_of};
-ghost use Rattle.mk_race.specs.Unused.{IsNoted};
+ghost use Rattle.mk_race.specs.Unused.{IsNoted, WereRead};
 
 use crate::input::{Input, Settings};
 use crate::planning::{Planned, plan_ahead};
@@ -45,6 +45,7 @@ pub(crate) fn noted_parts(
         → AreReadFrom (texts_with settings.now base.now makefile.now listed) lines listing footprints
         → Answers result (IsNoted (texts_with settings.now base.now makefile.now listed) lines) }
     ensures listed { IfOk result (λ noted. AreListed noted.prepared) }
+    ensures read { IfOk result (λ noted. WereRead listing footprints noted.prepared) }
 {
     let input = input_without(settings, base, makefile);
     noted_ahead(alloc, &input, listing, footprints)

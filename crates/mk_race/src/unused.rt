@@ -66,6 +66,7 @@ pub fn note_parts(
         → AreReadFrom (texts_with settings.now base.now makefile.now listed) lines listing footprints
         → IsPrepared (texts_with settings.now base.now makefile.now listed) lines (Ok noted.prepared)) }
     ensures listed { IfOk result (λ noted. AreListed noted.prepared) }
+    ensures read { IfOk result (λ noted. spec.WereRead listing footprints noted.prepared) }
 {
     let noted = noted_parts(alloc, settings, base, makefile, listing, footprints)?;
     if !strict {
@@ -114,6 +115,7 @@ pub(crate) fn noted_ahead(
 ) -> Result<Noted, Halt>
     ensures answer { Answers result (spec.IsNotedWith (texts_of input.now) listing footprints) }
     ensures listed { IfOk result (λ noted. AreListed noted.prepared) }
+    ensures read { IfOk result (λ noted. spec.WereRead listing footprints noted.prepared) }
 {
     let planned = plan_ahead(alloc, input, listing)?;
     noted_on(alloc, planned, footprints)

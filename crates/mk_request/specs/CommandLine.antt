@@ -39,21 +39,23 @@ with_build makefile listing app =
     (option makefile (codes "makefile"))) (option listing (codes "listing"))) (option true (codes "root"))) (option false (codes "base")))
     (flag (codes "posix-base"))) (option false (codes "includes"))) (flag (codes "quiet"))) operands
 
+-- a command with those of a build and its footprints, whose files and whose listing must be given or may be left out
+abbrev pub with_jobs : Bool → Bool → App → App
+with_jobs files listing app =
+    with_rule (with_rule (with_build files listing app) (option files (codes "footprints"))) (flag (codes "strict"))
+
 -- a command with those of a build and of tasks, whose listing must be given or may be left out
 abbrev pub with_tasks : Bool → App → App
-with_tasks listing app =
-    with_rule (with_rule (with_build false listing app) (option false (codes "footprints"))) (option false (codes "tasks"))
+with_tasks listing app = with_rule (with_jobs false listing app) (option false (codes "tasks"))
 
 abbrev pub order_app : App
 order_app = with_build true true (new_app (codes "order"))
 
 abbrev pub check_app : App
-check_app =
-    with_rule (with_rule (with_rule (with_tasks false (new_app (codes "check"))) (flag (codes "print-proof"))) (flag (codes "short"))) (flag (codes "strict"))
+check_app = with_rule (with_rule (with_tasks false (new_app (codes "check"))) (flag (codes "print-proof"))) (flag (codes "short"))
 
 abbrev pub verify_app : App
-verify_app =
-    with_rule (with_rule (with_rule (with_tasks false (new_app (codes "verify"))) (option true (codes "proof"))) (flag (codes "short"))) (flag (codes "strict"))
+verify_app = with_rule (with_rule (with_tasks false (new_app (codes "verify"))) (option true (codes "proof"))) (flag (codes "short"))
 
 -- how many recipes may run at once
 abbrev pub limit : Rule
@@ -65,12 +67,10 @@ tie = record (new_rule (codes "tie")) { long = Some (codes "tie"); action = Some
 
 -- a command with the options and operands of those that read a log
 abbrev pub with_log : App → App
-with_log app =
-    with_rule (with_rule (with_rule (with_rule (with_build true true app)
-    (option true (codes "footprints"))) (option true (codes "log"))) limit) tie
+with_log app = with_rule (with_rule (with_rule (with_jobs true true app) (option true (codes "log"))) limit) tie
 
 abbrev pub replay_app : App
-replay_app = with_rule (with_log (new_app (codes "replay"))) (flag (codes "strict"))
+replay_app = with_log (new_app (codes "replay"))
 
 abbrev pub serialise_app : App
 serialise_app = with_log (new_app (codes "serialise"))

@@ -19,6 +19,5 @@ pub(super) fn check_command<'a>(alloc: Global) -> Result<Command<'a>, AllocError
         .after_help(help::CHECK_DETAILS);
     with_tasks(alloc, command, false)?
         .arg(flag(alloc, "print-proof", help::PRINT_PROOF))?
-        .arg(flag(alloc, "short", help::SHORT))?
-        .arg(flag(alloc, "strict", help::STRICT))
+        .arg(flag(alloc, "short", help::SHORT))
 }

@@ -179,6 +179,7 @@ What comes out is the number of races, those of nodes, of recipes that may run, 
 cannot, of .WAIT and of the pairs that share a file which one of them writes, and for each race a
 line `race PATH : NAME DOES NAME DOES`: a path that both touch, the two, and what each does with
 it, `reads` or `writes`. Inputs that are refused give `refused`, the fault, its place and names.
+The note and --strict are those of `race check`.
 
 Example, an object that uses a header, which another recipe generates, and does not say so:
   $ printf 'all: gen.h a.o\\ngen.h:\\n\\tsh gen.sh\\na.o: a.c\\n\\tcc -c a.c\\n' > makefile
@@ -230,7 +231,7 @@ Behind a line may stand `add NAME: PATH` or the like: put that prerequisite into
 again. `race list` shows the races. An input is unlisted where LISTING does not have the file and no
 recipe makes it, such as a header that a compiler looks for in each folder before its own, or a
 system header that LISTING leaves out. No line names it. Inputs that are refused give `refused`, the
-fault, its place and names.
+fault, its place and names. The note and --strict are those of `race check`.
 
 With --tasks TASKS, which stands in place of MAKEFILE, BASE, FILE, FOOTPRINTS and the operands, the
 same is said of tasks. A line of TASKS then has two keys more: `makes`, the file of its task, and
@@ -292,7 +293,8 @@ Where no lines do that, comments alone come out: `# not fixed`, and for each lin
 be written in a makefile. Give such a file a rule of its own. So look at the status first.
 
 The lines rest on the premises of `race check`, also for the recipes as they then are: $^ and $?
-gain a word. A file that depends on a folder or a phony target is made more often.
+gain a word. A file that depends on a folder or a phony target is made more often. The note and
+--strict are those of `race check`.
 
 With --print-proof the certificate of the build with the lines comes out in their place.
 
@@ -447,7 +449,7 @@ A log that is no run gives the line of `race replay`, one of a build that is not
 those that cannot and of .WAIT, then the path on which two of them meet, both recipes, and the
 times and steps that lead to their running at once. `not complete: times too large` stands where
 there is no number left for the times of new puts. Inputs that are refused give `refused`, the
-fault, its place and names.
+fault, its place and names. The note and --strict are those of `race check`.
 
 Example, in the log of two jobs `b` starts and ends before `a` has written:
   $ printf 'all: a b\\na:\\n\\tdate >a\\nb:\\n\\tdate >b\\n' > makefile

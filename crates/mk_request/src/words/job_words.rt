@@ -1,12 +1,30 @@
 //! The words of the subcommands that ask about the jobs of a build.
 ghost use Rattle.std.specs.Prelude.{◌≡◌, ◌⊎◌, IfOk, codes};
-ghost use Rattle.clap.specs.Words.{Text, found_of, rows_of};
+ghost use Rattle.clap.specs.Words.{Text, app_of, found_of, rows_of};
+ghost use Rattle.clap.specs.declared.builder.command.Command.TheViews.{out-Command as fields_of};
 ghost use Rattle.mk_request.specs.CommandLine as spec;
 
-use super::{build_args, is_set, value_in};
+use super::{build_args, flag, help, is_set, option, value_in, with_build};
 use crate::requests::{JobArgs, JobQuestion, Request};
-use clap::ArgMatches;
+use clap::{ArgMatches, Command};
 use std::alloc::{AllocError, Global};
+
+/// The command with the options and operands of a build and its footprints, whose files and whose listing must be given where that is
+/// required.
+pub(super) fn with_jobs<'a>(
+    alloc: Global,
+    command: Command<'a>,
+    files: bool,
+    listing: bool,
+) -> Result<Command<'a>, AllocError>
+    ensures app { IfOk result (λ new. app_of new ≡ spec.with_jobs files listing (app_of command.entry)) }
+    ensures local { IfOk result (λ new.
+        (fields_of new).has_globals ≡ (fields_of command.entry).has_globals) }
+{
+    with_build(alloc, command, files, listing)?
+        .arg(option(alloc, "footprints", "FOOTPRINTS", help::FOOTPRINTS, files))?
+        .arg(flag(alloc, "strict", help::STRICT))
+}
 
 /// The request that these matches of a subcommand have for this question. The only error is out of memory.
 pub(super) fn job_request<'a>(

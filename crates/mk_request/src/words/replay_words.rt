@@ -4,7 +4,8 @@ ghost use Rattle.clap.specs.Words.{app_of, found_of, rows_of, rule_of};
 ghost use Rattle.clap.specs.declared.builder.command.Command.TheViews.{out-Command as fields_of};
 ghost use Rattle.mk_request.specs.CommandLine as spec;
 
-use super::{flag, help, is_set, option, value_in, with_build};
+use super::job_words::with_jobs;
+use super::{help, is_set, option, value_in};
 use crate::requests::LogArgs;
 use clap::builder::ValueParser;
 use clap::{Arg, ArgAction, ArgMatches, Command};
@@ -18,7 +19,7 @@ pub(super) fn replay_command<'a>(alloc: Global) -> Result<Command<'a>, AllocErro
     let command = Command::new(alloc, "replay")
         .about(help::REPLAY_ABOUT)
         .after_help(help::REPLAY_DETAILS);
-    with_log(alloc, command)?.arg(flag(alloc, "strict", help::STRICT))
+    with_log(alloc, command)
 }
 
 /// The command with the options and operands of those that read a log.
@@ -27,8 +28,7 @@ pub(super) fn with_log<'a>(alloc: Global, command: Command<'a>) -> Result<Comman
     ensures local { IfOk result (λ new.
         (fields_of new).has_globals ≡ (fields_of command.entry).has_globals) }
 {
-    with_build(alloc, command, true, true)?
-        .arg(option(alloc, "footprints", "FOOTPRINTS", help::FOOTPRINTS, true))?
+    with_jobs(alloc, command, true, true)?
         .arg(option(alloc, "log", "LOG", help::LOG, true))?
         .arg(limit(alloc))?
         .arg(tie(alloc))

@@ -4,7 +4,8 @@ ghost use Rattle.clap.specs.Words.{app_of, first_of, found_of, rows_of};
 ghost use Rattle.clap.specs.declared.builder.command.Command.TheViews.{out-Command as fields_of};
 ghost use Rattle.mk_request.specs.CommandLine as spec;
 
-use super::{help, is_set, option, value_in, with_build};
+use super::job_words::with_jobs;
+use super::{help, is_set, option, value_in};
 use crate::requests::{TaskArgs, TaskQuestion};
 use clap::{ArgMatches, Command};
 use std::alloc::{AllocError, Global};
@@ -19,9 +20,13 @@ pub(super) fn with_tasks<'a>(
     ensures local { IfOk result (λ new.
         (fields_of new).has_globals ≡ (fields_of command.entry).has_globals) }
 {
-    with_build(alloc, command, false, listing)?
-        .arg(option(alloc, "footprints", "FOOTPRINTS", help::FOOTPRINTS, false))?
-        .arg(option(alloc, "tasks", "TASKS", help::TASKS, false))
+    with_jobs(alloc, command, false, listing)?.arg(option(
+        alloc,
+        "tasks",
+        "TASKS",
+        help::TASKS,
+        false,
+    ))
 }
 
 /// What these matches of the subcommand of this name ask about the tasks that they name.

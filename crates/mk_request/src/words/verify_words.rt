@@ -19,6 +19,5 @@ pub(super) fn verify_command<'a>(alloc: Global) -> Result<Command<'a>, AllocErro
         .after_help(help::VERIFY_DETAILS);
     with_tasks(alloc, command, false)?
         .arg(option(alloc, "proof", "PROOF", help::PROOF, true))?
-        .arg(flag(alloc, "short", help::SHORT_PROOF))?
-        .arg(flag(alloc, "strict", help::STRICT))
+        .arg(flag(alloc, "short", help::SHORT_PROOF))
 }

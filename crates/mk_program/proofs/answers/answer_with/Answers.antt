@@ -17,6 +17,11 @@ returns-in-Order-clause-answer g c =
     own_answer (g.P.Opener.files c.args.opener.now) c.args.request.now (pairs c.args.includes.now) c.order_reply.result _ c.in-Order.is _ refl
     c.order_reply.ensures.answer
 
+pub returns-in-Jobs-clause-answer : goal.returns-in-Jobs-clause-answer
+returns-in-Jobs-clause-answer g c =
+    own_answer (g.P.Opener.files c.args.opener.now) c.args.request.now (pairs c.args.includes.now) c.job_reply.result _ c.in-Jobs.is _ refl
+    c.job_reply.ensures.answer
+
 pub returns-in-Tasks-clause-failure : goal.returns-in-Tasks-clause-failure
 returns-in-Tasks-clause-failure g c =
     own_failure (g.P.Opener.files c.args.opener.now) c.args.request.now (pairs c.args.includes.now) c.tasks_reply.result _ c.in-Tasks.is _ refl

@@ -1,12 +1,11 @@
-use Rattle.std.proofs.Common.{Err, refl}
 use Rattle.mk_program.specs.Answers.{HasNoText, IsCheckAnswer, IsFixAnswer, IsListAnswer, IsMissingAnswer, IsReplayAnswer, IsSerialiseAnswer, IsVerifyAnswer}
-use Rattle.mk_program.proofs.Builds.{no_text_of, noted_answer, plain_answer, quiet_answer}
+use Rattle.mk_program.proofs.Builds.{no_text_of, own_answer, own_reply}
 use Rattle.mk_program.proofs.jobs.reply_to.Goals as goal
 
 pub returns-in-Check-clause-answer : goal.returns-in-Check-clause-answer
 returns-in-Check-clause-answer c =
     let args = c.args.args.now in
-    noted_answer c.args.build args.question _ c.in-Check.is args.strict c.args.other.now c.noted_reply.result
+    own_answer c.args.build args.question _ c.in-Check.is args.strict c.args.other.now c.noted_reply.result
     (λ texts lines other. IsCheckAnswer c.in-Check.short texts lines c.in-Check.print_proof) (λ texts text status answer note said. said) c.noted_reply.ensures.answer
 
 pub returns-in-Check-clause-failure : goal.returns-in-Check-clause-failure
@@ -18,7 +17,7 @@ returns-in-Check-clause-failure c =
 pub returns-in-Verify-clause-answer : goal.returns-in-Verify-clause-answer
 returns-in-Verify-clause-answer c =
     let args = c.args.args.now in
-    noted_answer c.args.build args.question _ c.in-Verify.is args.strict c.args.other.now c.noted_reply-in-Verify.result
+    own_answer c.args.build args.question _ c.in-Verify.is args.strict c.args.other.now c.noted_reply-in-Verify.result
     (λ texts lines other. IsVerifyAnswer c.in-Verify.short texts lines other) (λ texts text status answer note said. said) c.noted_reply-in-Verify.ensures.answer
 
 pub returns-in-Verify-clause-failure : goal.returns-in-Verify-clause-failure
@@ -30,7 +29,7 @@ returns-in-Verify-clause-failure c =
 pub returns-in-Replay-clause-answer : goal.returns-in-Replay-clause-answer
 returns-in-Replay-clause-answer c =
     let args = c.args.args.now in
-    noted_answer c.args.build args.question _ c.in-Replay.is args.strict c.args.other.now c.noted_reply-in-Replay.result
+    own_answer c.args.build args.question _ c.in-Replay.is args.strict c.args.other.now c.noted_reply-in-Replay.result
     (λ texts lines other. IsReplayAnswer texts lines other c.in-Replay.log.limit c.in-Replay.log.tie) (λ texts text status answer note said. said)
     c.noted_reply-in-Replay.ensures.answer
 
@@ -43,41 +42,39 @@ returns-in-Replay-clause-failure c =
 pub returns-in-Serialise-clause-answer : goal.returns-in-Serialise-clause-answer
 returns-in-Serialise-clause-answer c =
     let args = c.args.args.now in
-    quiet_answer c.args.build args.question _ c.in-Serialise.is args.strict c.args.other.now c.quiet_reply.result
+    own_answer c.args.build args.question _ c.in-Serialise.is args.strict c.args.other.now c.noted_reply-in-Serialise.result
     (λ texts lines other. IsSerialiseAnswer texts lines other c.in-Serialise.log.limit c.in-Serialise.log.tie) (λ texts text status answer note said. said)
-    (λ texts lines reported there. (reported, (Err reported, there, refl), refl)) c.quiet_reply.ensures.answer c.quiet_reply.ensures.note
+    c.noted_reply-in-Serialise.ensures.answer
 
 pub returns-in-Serialise-clause-failure : goal.returns-in-Serialise-clause-failure
 returns-in-Serialise-clause-failure c =
     let args = c.args.args.now in
-    no_text_of c.args.build args.question _ c.in-Serialise.is args.strict c.args.other.now c.quiet_reply.result
+    no_text_of c.args.build args.question _ c.in-Serialise.is args.strict c.args.other.now c.noted_reply-in-Serialise.result
     (λ texts lines other. HasNoText texts lines other c.in-Serialise.log.limit c.in-Serialise.log.tie) (λ texts text no_text. no_text)
-    c.quiet_reply.ensures.failure
+    c.noted_reply-in-Serialise.ensures.failure
 
 pub returns-in-List-clause-answer : goal.returns-in-List-clause-answer
 returns-in-List-clause-answer c =
     let args = c.args.args.now in
-    quiet_answer c.args.build args.question _ c.in-List.is args.strict c.args.other.now c.quiet_reply-in-List.result
-    (λ texts lines other. IsListAnswer texts lines) (λ texts text status answer note said. said)
-    (λ texts lines reported there. (reported, (Err reported, there, refl), refl)) c.quiet_reply-in-List.ensures.answer c.quiet_reply-in-List.ensures.note
+    own_answer c.args.build args.question _ c.in-List.is args.strict c.args.other.now c.noted_reply-in-List.result
+    (λ texts lines other. IsListAnswer texts lines) (λ texts text status answer note said. said) c.noted_reply-in-List.ensures.answer
 
 pub returns-in-List-clause-failure : goal.returns-in-List-clause-failure
 returns-in-List-clause-failure c =
     let args = c.args.args.now in
-    no_text_of c.args.build args.question _ c.in-List.is args.strict c.args.other.now c.quiet_reply-in-List.result
-    (λ texts lines other. ⊥) (λ texts text no_text. absurd no_text) c.quiet_reply-in-List.ensures.failure
+    no_text_of c.args.build args.question _ c.in-List.is args.strict c.args.other.now c.noted_reply-in-List.result
+    (λ texts lines other. ⊥) (λ texts text no_text. absurd no_text) c.noted_reply-in-List.ensures.failure
 
-pub returns-in_ok-answer-in-Fix-clause-answer : goal.returns-in_ok-answer-in-Fix-clause-answer
-returns-in_ok-answer-in-Fix-clause-answer c =
+pub returns-in_ok-fix_reply-in-Fix-clause-answer : goal.returns-in_ok-fix_reply-in-Fix-clause-answer
+returns-in_ok-fix_reply-in-Fix-clause-answer c =
     let args = c.args.args.now in
-    plain_answer c.args.build args.question _ c.in-Fix.is args.strict c.args.other.now
-    (λ texts lines. IsFixAnswer texts lines c.in-Fix.print_proof) (λ texts text status answer note said. said)
-    c.without_note.result c.in_ok-answer-in-Fix.answer c.without_note.ensures.answer c.without_note.ensures.note c.in_ok-answer-in-Fix.ensures.answer
+    own_reply c.args.build args.question _ c.in-Fix.is args.strict c.args.other.now
+    (λ texts lines other. IsFixAnswer texts lines c.in-Fix.print_proof) (λ texts text status answer note said. said)
+    c.in_ok-fix_reply-in-Fix.field-0 c.in_ok-fix_reply-in-Fix.ensures.answer
 
-pub returns-in_ok-answer-in-Missing-clause-answer : goal.returns-in_ok-answer-in-Missing-clause-answer
-returns-in_ok-answer-in-Missing-clause-answer c =
+pub returns-in_ok-missing_reply-in-Missing-clause-answer : goal.returns-in_ok-missing_reply-in-Missing-clause-answer
+returns-in_ok-missing_reply-in-Missing-clause-answer c =
     let args = c.args.args.now in
-    plain_answer c.args.build args.question _ c.in-Missing.is args.strict c.args.other.now
-    (λ texts lines. IsMissingAnswer texts lines) (λ texts text status answer note said. said)
-    c.without_note-in-Missing.result c.in_ok-answer-in-Missing.answer c.without_note-in-Missing.ensures.answer c.without_note-in-Missing.ensures.note
-    c.in_ok-answer-in-Missing.ensures.answer
+    own_reply c.args.build args.question _ c.in-Missing.is args.strict c.args.other.now
+    (λ texts lines other. IsMissingAnswer texts lines) (λ texts text status answer note said. said)
+    c.in_ok-missing_reply-in-Missing.field-0 c.in_ok-missing_reply-in-Missing.ensures.answer

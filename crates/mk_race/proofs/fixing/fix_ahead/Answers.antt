@@ -20,12 +20,13 @@ returns-clause-answer c = λ listed lines from.
     let texts = listed_as (texts_of c.args.input.now) listed in
     let is = c.in_ok-noted.ensures.answer in
     let build = jobs_there texts lines c.args.listing c.args.footprints from c.in_ok-noted.noted is in
-    answers_behind (IsPrepared texts lines) (λ prepared. IsFixingOf texts lines prepared.jobs) c.in_ok-noted.noted.prepared c.fix_prepared.result build
-    (c.fix_prepared.ensures.answer listed lines
-    (read_again texts c.args.listing c.args.footprints c.in_ok-noted.noted c.in_ok-again.again _ lines is c.in_ok-again.ensures c.in-Some.is from) build)
+    answers_behind (IsPrepared texts lines) (λ prepared. IsFixingOf texts lines prepared.jobs) c.in_ok-noted.noted.prepared c.fix_with.result build
+    (c.fix_with.ensures.answer listed lines
+    (read_again texts c.args.listing c.args.footprints c.in_ok-noted.noted.prepared c.in_ok-again.again _ lines c.in_ok-noted.ensures.read
+    c.in_ok-again.ensures c.in-Some.is from) build)
 
 pub returns-clause-headline : goal.returns-clause-headline
 returns-clause-headline c =
     let a = c.args in
     fixing_shows (listed_as (texts_of a.input.now)) (λ listed lines. AreReadFrom (listed_as (texts_of a.input.now) listed) lines a.listing a.footprints)
-    c.fix_prepared.result (returns-clause-answer c) c.fix_prepared.ensures.safe
+    c.fix_with.result (returns-clause-answer c) c.fix_with.ensures.safe

@@ -1,23 +1,27 @@
-use Rattle.std.proofs.Common.{◌≡◌, ◌==◌, ◌∙◌, ℕ, List, [], length, refl, subst, sym, true}
-use Rattle.mk_race.specs.Parts.{listed_as}
-use Rattle.mk_race.specs.Stages.{texts_of}
-use Rattle.mk_race.proofs.Fixings.{empty_is, fixed_by_none, none_holds}
+use Rattle.std.proofs.Common.{Ok, subst}
+use Rattle.std.proofs.lemmas.Result.{IfOk-weaker}
+use Rattle.mk_name.specs.Gives.{Answers}
+use Rattle.mk_race.specs.Fixed.{IsFixingOf}
+use Rattle.mk_race.specs.Parts.{AreReadFrom, ForTextsRead, texts_with}
+use Rattle.mk_race.specs.Stages.{IsPrepared, Texts}
+use Rattle.mk_race.proofs.Behind.{answers_behind}
+use Rattle.mk_race.proofs.Fixings.{fixing_shows}
 use Rattle.mk_race.proofs.fixing.fix_prepared.Goals as goal
-
-pub returns-then-is_empty-clause-answer : goal.returns-then-is_empty-clause-answer
-returns-then-is_empty-clause-answer c =
-    let none : c.in_ok-edges.edges.items ≡ [] =
-    empty_is c.in_ok-edges.edges.items (subst (λ (es : List (ℕ × ℕ)). (length es == 0) ≡ true) c.as_slice.ensures.value (sym c.is_empty.ensures ∙ c.if-is_empty.true)) in
-    λ listed lines from build.
-    fixed_by_none c.args.prepared.jobs c.in_ok-edges.edges.items c.in_ok-edges.ensures.fix c.in_ok-edges.ensures.few none
-    (listed_as (texts_of c.args.input.now) listed) lines _ c.args.prepared c.new.ensures.items refl build
-
-pub returns-then-is_empty-clause-safe : goal.returns-then-is_empty-clause-safe
-returns-then-is_empty-clause-safe c =
-    let none : c.in_ok-edges.edges.items ≡ [] =
-    empty_is c.in_ok-edges.edges.items (subst (λ (es : List (ℕ × ℕ)). (length es == 0) ≡ true) c.as_slice.ensures.value (sym c.is_empty.ensures ∙ c.if-is_empty.true)) in
-    none_holds c.args.prepared.jobs c.in_ok-edges.edges.items c.in_ok-edges.ensures.fix c.in_ok-edges.ensures.few none c.count-count.ensures.valid
 
 pub returns-clause-answer : goal.returns-clause-answer
 returns-clause-answer c = λ listed lines from build.
-    c.in_ok-with_edges.ensures.answer listed lines (record { listing = from.listing; footprints = from.footprints })
+    let a = c.args in
+    let texts = texts_with a.settings.now a.base.now a.makefile.now listed in
+    answers_behind (IsPrepared texts lines) (λ prepared. IsFixingOf texts lines prepared.jobs) a.prepared c.fix_with.result build
+    (subst (λ (texts : Texts). ForTextsRead texts (Ok a.prepared.listing) (Ok a.footprints)
+    (λ texts lines. IsPrepared texts lines (Ok a.prepared) → Answers c.fix_with.result (IsFixingOf texts lines a.prepared.jobs)))
+    c.input_without-input.ensures c.fix_with.ensures.answer listed lines from build)
+
+pub returns-clause-headline : goal.returns-clause-headline
+returns-clause-headline c =
+    let a = c.args in
+    IfOk-weaker c.fix_with.result _ _ (λ fixing shows listed lines from build. shows listed lines (from, build))
+    (fixing_shows (texts_with a.settings.now a.base.now a.makefile.now)
+    (λ listed lines. AreReadFrom (texts_with a.settings.now a.base.now a.makefile.now listed) lines (Ok a.prepared.listing) (Ok a.footprints)
+    × IsPrepared (texts_with a.settings.now a.base.now a.makefile.now listed) lines (Ok a.prepared))
+    c.fix_with.result (λ listed lines from. returns-clause-answer c listed lines from.0 from.1) c.fix_with.ensures.safe)

@@ -1,5 +1,8 @@
-use Rattle.std.proofs.lemmas.Result.{err_from_is_err_and}
+use Rattle.std.proofs.Common.{subst, sym}
+use Rattle.std.proofs.lemmas.Result.{IfOk-weaker, err_from_is_err_and}
 use Rattle.mk_race.specs.Parts.{texts_with}
+use Rattle.mk_race.specs.Unused.{WereRead}
+use Rattle.mk_race.specs.declared.preparing.Prepared.{Prepared}
 use Rattle.mk_race.proofs.NotedAhead.{parts_prepared_by}
 use Rattle.mk_race.proofs.Noting.{lax_is, not_noted_by, strict_is}
 use Rattle.mk_race.proofs.unused.note_parts.Goals as goal
@@ -34,3 +37,8 @@ returns-clause-prepared c =
     parts_prepared_by a.settings.now a.base.now a.makefile.now a.listing a.footprints a.strict c.strictly.result (λ listed lines from.
     strict_is (texts_with a.settings.now a.base.now a.makefile.now listed) lines a.strict c.in_ok-noted.noted c.strictly.result
     (c.in_ok-noted.ensures.answer listed lines from) c.if-not-strict.false c.strictly.ensures.answer)
+
+pub returns-clause-read : goal.returns-clause-read
+returns-clause-read c =
+    IfOk-weaker c.strictly.result _ _ (λ given same.
+    subst (λ (prepared : Prepared). WereRead c.args.listing c.args.footprints prepared) (sym same) c.in_ok-noted.ensures.read) c.strictly.ensures.prepared

@@ -1,7 +1,7 @@
 use Rattle.std.proofs.lemmas.Result.{err_from_is_err_and}
 use Rattle.mk_race.specs.Stages.{texts_of}
 use Rattle.mk_race.proofs.Listed.{noted_are_listed}
-use Rattle.mk_race.proofs.NotedAhead.{noted_behind, not_planned}
+use Rattle.mk_race.proofs.NotedAhead.{noted_behind, noted_were_read, not_planned}
 use Rattle.mk_race.proofs.unused.noted_ahead.Goals as goal
 
 pub returns-in_err-planned-clause-answer : goal.returns-in_err-planned-clause-answer
@@ -17,5 +17,11 @@ returns-clause-answer c =
 pub returns-clause-listed : goal.returns-clause-listed
 returns-clause-listed c =
     noted_are_listed (texts_of c.args.input.now) c.args.listing c.args.footprints c.noted_on.result
+    (noted_behind (texts_of c.args.input.now) c.args.listing c.args.footprints c.in_ok-planned.planned c.noted_on.result c.in_ok-planned.ensures
+    c.noted_on.ensures)
+
+pub returns-clause-read : goal.returns-clause-read
+returns-clause-read c =
+    noted_were_read (texts_of c.args.input.now) c.args.listing c.args.footprints c.noted_on.result
     (noted_behind (texts_of c.args.input.now) c.args.listing c.args.footprints c.in_ok-planned.planned c.noted_on.result c.in_ok-planned.ensures
     c.noted_on.ensures)

@@ -6,10 +6,8 @@ use Rattle.mk_request.proofs.words.task_words.with_tasks.Goals as goal
 
 pub returns-clause-app : goal.returns-clause-app
 returns-clause-app c =
-    let first = c.in_ok-arg.ensures.shape c.option.ensures.local ∙ ap₂ with_rule c.in_ok-with_build.ensures.app c.option.ensures.rule in
-    IfOk-weaker c.arg-2.result _ _ (λ new h. h.shape c.option-2.ensures.local ∙ ap₂ with_rule first c.option-2.ensures.rule) c.arg-2.ensures
+    IfOk-weaker c.arg.result _ _ (λ new h. h.shape c.option.ensures.local ∙ ap₂ with_rule c.in_ok-with_jobs.ensures.app c.option.ensures.rule) c.arg.ensures
 
 pub returns-clause-local : goal.returns-clause-local
 returns-clause-local c =
-    let first = stays _ _ _ c.in_ok-arg.ensures.globals c.option.ensures.local in
-    IfOk-weaker c.arg-2.result _ _ (λ new h. stays _ _ _ h.globals c.option-2.ensures.local ∙ first ∙ c.in_ok-with_build.ensures.local) c.arg-2.ensures
+    IfOk-weaker c.arg.result _ _ (λ new h. stays _ _ _ h.globals c.option.ensures.local ∙ c.in_ok-with_jobs.ensures.local) c.arg.ensures

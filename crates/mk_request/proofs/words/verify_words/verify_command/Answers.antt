@@ -11,12 +11,10 @@ returns-clause-app c =
     let named : app_of c.after_help-command.result ≡ new_app (codes "verify") = search rules in
     let tasks = c.in_ok-with_tasks.ensures.app ∙ ap (with_tasks false) named in
     let first = c.in_ok-arg.ensures.shape c.option.ensures.local ∙ ap₂ with_rule tasks c.option.ensures.rule in
-    let second = c.in_ok-arg-2.ensures.shape c.flag.ensures.local ∙ ap₂ with_rule first c.flag.ensures.rule in
-    IfOk-weaker c.arg-3.result _ _ (λ new h. h.shape c.flag-2.ensures.local ∙ ap₂ with_rule second c.flag-2.ensures.rule) c.arg-3.ensures
+    IfOk-weaker c.arg-2.result _ _ (λ new h. h.shape c.flag.ensures.local ∙ ap₂ with_rule first c.flag.ensures.rule) c.arg-2.ensures
 
 pub returns-clause-local : goal.returns-clause-local
 returns-clause-local c =
     let own : (fields_of c.after_help-command.result).has_globals ≡ false = search rules in
     let first = stays _ _ _ c.in_ok-arg.ensures.globals c.option.ensures.local in
-    let second = stays _ _ _ c.in_ok-arg-2.ensures.globals c.flag.ensures.local in
-    IfOk-weaker c.arg-3.result _ _ (λ new h. stays _ _ _ h.globals c.flag-2.ensures.local ∙ second ∙ first ∙ c.in_ok-with_tasks.ensures.local ∙ own) c.arg-3.ensures
+    IfOk-weaker c.arg-2.result _ _ (λ new h. stays _ _ _ h.globals c.flag.ensures.local ∙ first ∙ c.in_ok-with_tasks.ensures.local ∙ own) c.arg-2.ensures

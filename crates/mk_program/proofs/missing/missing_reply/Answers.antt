@@ -1,0 +1,28 @@
+use Rattle.std.proofs.Common.{refl}
+use Rattle.std.proofs.lemmas.Result.{IfOk-weaker}
+use Rattle.mk_race.specs.Parts.{texts_with}
+use Rattle.mk_run.proofs.Reading.{of_texts}
+use Rattle.mk_program.specs.Answers.{IsMissingAnswer}
+use Rattle.mk_program.proofs.Noted.{fault_noted, noting_is}
+use Rattle.mk_program.proofs.missing.missing_reply.Goals as goal
+
+pub returns-in_ok-answer-in-Ok-clause-answer : goal.returns-in_ok-answer-in-Ok-clause-answer
+returns-in_ok-answer-in-Ok-clause-answer c =
+    let build = c.args.build in
+    let noted = c.in-Ok.noted in
+    let found = c.missing_prepared-found.result in
+    let answer = c.in_ok-answer-in-Ok.answer in
+    noting_is (λ texts lines. IsMissingAnswer texts lines) build c.args.strict noted answer c.with_note.result
+    c.in-Ok.ensures.answer
+    (λ texts lines from.
+    of_texts (λ texts lines. IsMissingAnswer texts lines answer.status answer.text.items) build (λ listed lines read.
+    let texts = texts_with build.settings.now build.base.now build.makefile.now listed in
+    let prepared = c.in-Ok.ensures.prepared texts lines (record { texts_are = refl; read = read }) in
+    c.in_ok-answer-in-Ok.ensures.answer texts lines (c.missing_prepared-found.ensures.missing listed lines prepared)
+    (IfOk-weaker found _ _ (λ given clean empty. clean empty listed lines prepared) c.missing_prepared-found.ensures.headline)) texts lines from)
+    c.with_note.ensures.answer c.with_note.ensures.note
+
+pub returns-in-Err-clause-answer : goal.returns-in-Err-clause-answer
+returns-in-Err-clause-answer c = IfOk-weaker c.refused_reply.result _ _ (λ reply h texts lines from.
+    fault_noted (IsMissingAnswer texts lines) c.args.strict texts lines c.in-Err.halt h.0 _ _ _
+    (c.in-Err.ensures.answer texts lines from) h.1 h.2 h.3 h.4) c.refused_reply.ensures
