@@ -156,7 +156,7 @@ GUARDS: List[Guard] = [
         ("targets-of-one-recipe-that-ran", "return others", "make_build.Builds.targets_at_which_make_looks_together"),
     ),
     *guards("make/unfiled.py",
-        ("recipes-that-print", "said = [at for at in builder.of_node.values() if tasks[at].node.jobs]", "small.Makefiles.output_in_a_file_of_one_recipe", FALSE_RACE),
+        ("recipes-that-print", "said = {at for at in builder.of_node.values() if builder.build.tasks[at].node.jobs}", "small.Makefiles.output_in_a_file_of_one_recipe", FALSE_RACE),
         ("output-in-file", "if False:", "small.Makefiles.output_in_a_file", YES, "kept"),
         ("recipes-that-look-into", 'mark(builder, own_path(builder.make, "output"), "the order of what make prints, which is kept in a file", set(), set(said))',
          "unfiled.Makefiles.output_that_a_recipe_reads", YES),

@@ -48,7 +48,7 @@ GUARDS: List[Guard] = [
         ("listed-said", "elif False:", "calls.Makefiles.processes", UNSAID),
         ("quiet-makers", "quiet = False and not self.is_inside(life.program)", "cases.Cases.folder_mkdir_p", FALSE_RACE),
         ("quiet-makers", "quiet = shelltext.is_quiet_mkdir(life.argv)", "calls.Makefiles.folder_made_by_a_program_of_the_project", YES),
-        ("scripts-that-make-folders", "pass", "small.Makefiles.makers", UNSAID),
+        ("scripts-that-make-folders", "pass", "small.Makefiles.makers", FALSE_RACE),
         ("whose-name-file", "if False:", "calls.Makefiles.folder_whose_name_a_file_has", YES),
         ("one-that-is-removed", "pass", "calls.Traces.name_of_two_that_is_removed"),
         ("number-of-file", "base, path = self.base_and_path(life, call) ", "calls.Traces.attribute_by_a_number"),
