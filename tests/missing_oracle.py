@@ -85,7 +85,7 @@ class Found:
         """What is wrong with one path, whose writers these are."""
         watching, last = self.watching, writers[-1] if writers else None
         for number in sorted(self.jobs.footprints):
-            if watching.reads(number, path) and number not in writers:
+            if self.is_input(number, path, writers):
                 if not watching.watches(number, path) and self.is_unlisted(path, writers):
                     self.unlisted += 1
                 elif not watching.watches(number, path):
@@ -95,6 +95,12 @@ class Found:
             apart = last is not None and not watching.always[last] and number not in watching.carriers[last]
             if number in writers and number != last and apart:
                 self.shared.append((path, number, last))
+
+    def is_input(self, number: int, path: Path, writers: list[int]) -> bool:
+        """Whether a recipe reads a path, and does not write it: where nobody writes it, as a path of its own, and not by a tree."""
+        if not writers:
+            return path in self.jobs.footprints[number].reads
+        return self.watching.reads(number, path) and number not in writers
 
     def is_unlisted(self, path: Path, writers: list[int]) -> bool:
         """Whether a path is a file that nobody writes and that is not listed."""

@@ -254,6 +254,13 @@ def json_line(part, value):
     return {**footprints([["s"]]), "footprints": '{"further":' + made + ',"target":"t0000","reads":[],"writes":[]}\n'}
 
 
+def trees_read(part):
+    """3,000 recipes that read a folder as a tree, and one that reads 3,000 files below it."""
+    files = [f"d/{short(i)[1:]}" for i in range(int(3_000 * part))]
+    texts = footprints([files, *[["d/"]] * len(files)])
+    return {name: texts[name] for name in ("makefile", "footprints")} | {"listing": "".join(f"{it}\n" for it in ["s", *files])}
+
+
 def dense(part):
     """20,000 nodes and 200,000 edges, each node with the ten before it."""
     names = [short(i) for i in range(int(19_999 * part))]
@@ -378,6 +385,7 @@ INPUTS = {
     "JSON with a long key": lambda part: json_line(part, "long key"),
     "JSON of escapes": lambda part: json_line(part, "escapes"),
     "JSON with a long number": lambda part: json_line(part, "number"),
+    "a folder that 3,000 recipes read, missing": asked("missing", trees_read),
     "200,000 edges": dense,
     "a million pairs in order": ordered_pairs,
     "a million pairs in order, list": asked("list", ordered_pairs),

@@ -1,23 +1,25 @@
 -- Jobs are declared just where no violation was found.
-use Rattle.std.proofs.Common.{ℕ, suc, zero, ◌≡◌, ◌<◌, not, true, false, ap, List, [], ◌∷◌, length, get_or, Contains, refl, sym, subst, ◌∙◌, inl, inr, arith, lt_trans}
+use Rattle.std.proofs.Common.{ℕ, suc, zero, ◌≡◌, ◌<◌, not, true, false, ap, List, [], ◌∷◌, ◌⊎◌, length, get_or, Contains, refl, sym, subst, ◌∙◌, inl, inr, arith, lt_trans}
 use Rattle.std.proofs.lemmas.Bool.{and_from, and_parts, both_ways, cases_Bool}
 use Rattle.std.proofs.lemmas.List.Elements.{Contains-get_or}
 use Rattle.mk_name.specs.Names.{Name}
 use Rattle.mk_path.specs.declared.path.Path.{Path}
+use Rattle.mk_path.specs.Laws.{Covers}
 use Rattle.mk_path.specs.Paths.{path_at}
-use Rattle.mk_jobs.specs.Jobs.{Jobs, is_listed, may_write, node_count}
+use Rattle.mk_jobs.specs.Jobs.{Jobs, is_listed, may_write, node_count, reads_of}
 use Rattle.mk_jobs.specs.Shape.{IsWellFormed}
 use Rattle.mk_jobs.proofs.JobsLemmas.{live_node, reader_live}
-use Rattle.mk_stale.specs.Watching.{IsDeclared, IsInput, IsLastWriter, IsNamed, Watches, always, named, through, written, never}
+use Rattle.mk_stale.specs.Watching.{Carries, IsDeclared, IsInput, IsLastWriter, IsNamed, Watches, always, named, through, written, never}
 use Rattle.mk_missing.specs.declared.violations.Violations.{Violations}
 use Rattle.mk_missing.specs.Unlisted.{unlisted_names, is_unlisted}
-use Rattle.mk_missing.specs.Files.{IsFile, IsInputFile, IsLastWriterOf, WatchesFile, often, by_name, by_chain, by_writer, not_there, writes_file}
+use Rattle.mk_missing.specs.Files.{IsFile, IsInputFile, IsLastWriterOf, WatchesFile, often, by_name, by_chain, by_writer, not_there, reads_file, writes_file}
 use Rattle.mk_missing.specs.Finding.{AreChecked, AreFound, IsInTime, IsKnown, IsSeen, IsTogether, IsWatched}
 use Rattle.mk_missing.specs.Violations.{AreAll, IsLate, IsMissing, IsPresent, IsShared, IsUnwatched, IsUnlistedInput}
 use Rattle.mk_missing.proofs.NotListed.{Seeker, unsought_there, written_there}
 use Rattle.mk_missing.proofs.Fresh.{covers_file}
+use Rattle.mk_missing.proofs.Keeping.{empty_if, no_pair}
 use Rattle.mk_missing.proofs.Presents.{not_true}
-use Rattle.mk_missing.proofs.Standing.{NameFor, StandsFor, file_for, name_for, reads_name, writes_name}
+use Rattle.mk_missing.proofs.Standing.{NameFor, StandsFor, file_for, name_for, read_path, reads_name, reads_own, writes_name}
 
 -- what is checked is exact, where a kind and what is fine of it exclude each other
 pub all_are : (files : List Path) (Holds Fine : ℕ → Path → Type 0) (pairs : List (ℕ × ℕ)) → AreChecked files Holds Fine pairs
@@ -53,14 +55,6 @@ shared_apart jobs n p shared together = elim (together shared.writes shared.writ
   | inr runs ↦ shared.apart runs
 ]
 
-pub no_pair : {X : Type 0} (x : X) → Contains [] x → ⊥
-no_pair x there = omega (arith, there.1)
-
--- nothing is in a list only if the list is empty
-empty_if : {X : Type 0} (xs : List X) → ((x : X) → Contains xs x → ⊥) → xs ≡ []
-empty_if [] none = refl
-empty_if (x ∷ xs) none = absurd (none x (0, omega arith, refl))
-
 module _ (jobs : Jobs) (shape : IsWellFormed jobs) where
   -- with no pair of a kind, all files are fine
   all_fine : (files : List Path) (Holds Fine : ℕ → Path → Type 0) (pairs : List (ℕ × ℕ)) → AreFound files Holds Fine pairs (length files) → pairs ≡ []
@@ -78,15 +72,22 @@ module _ (jobs : Jobs) (shape : IsWellFormed jobs) where
       default_at (q ∷ ps) zero d below = refl
       default_at (q ∷ ps) (suc i) d below = default_at ps i d (omega arith)
 
-  -- an input by its file
-  input_file : (n : ℕ) (p : Path) (x : Name) → StandsFor jobs shape p x → IsInput jobs n x → IsInputFile jobs n p
-  input_file n p x stands input = record {
-    reads = stands.reads n input.reads;
+  -- an input by a path over it, which a node reads; where somebody writes the path, it need not be the node's own
+  input_file : (n : ℕ) (p : Path) (x : Name) → Covers jobs.root p x → reads_file jobs n p ≡ true → IsInput jobs n x
+      → (((m : ℕ) → writes_file jobs m p ≡ false) → Contains (reads_of jobs n) p) → IsInputFile jobs n p
+  input_file n p x covering reads input itself = record {
+    reads = reads;
     foreign = elim (cases_Bool (writes_file jobs n p)) [
       | inr nay ↦ nay
-      | inl so ↦ absurd (both_ways (may_write jobs n x) input.foreign (writes_name jobs shape n p x stands.covering so))
+      | inl so ↦ absurd (both_ways (may_write jobs n x) input.foreign (writes_name jobs shape n p x covering so))
     ];
+    itself = itself;
   }
+
+  -- an input by its file, which somebody writes
+  written_file : (n m : ℕ) (p : Path) (x : Name) → StandsFor jobs shape p x → IsInput jobs n x → writes_file jobs m p ≡ true → IsInputFile jobs n p
+  written_file n m p x stands input writes =
+      input_file n p x stands.covering (stands.reads n input.reads) input (λ nobody. absurd (both_ways (writes_file jobs m p) (nobody m) writes))
 
   file_input : (n : ℕ) (p : Path) (x : Name) → StandsFor jobs shape p x → IsInputFile jobs n p → IsInput jobs n x
   file_input n p x stands input = record {
@@ -110,17 +111,25 @@ module _ (jobs : Jobs) (shape : IsWellFormed jobs) where
     last = λ m writes. last.last m (writes_name jobs shape m p x stands.covering writes);
   }
 
-  -- who watches the file watches the name
-  name_watched : (n : ℕ) (p : Path) (x : Name) → StandsFor jobs shape p x → WatchesFile jobs n p → Watches jobs n x
-  name_watched n p x stands watches =
-      let is : p.tree ≡ false → p.name ≡ x = λ file. covers_file jobs.root p x file stands.covering in
+  -- who watches a file that covers a name watches the name, or it watches the file by its last writer
+  covered_watched : (n : ℕ) (p : Path) (x : Name) → Covers jobs.root p x → WatchesFile jobs n p
+      → Watches jobs n x ⊎ ((w : ℕ) × IsLastWriterOf jobs w p × Carries jobs w n)
+  covered_watched n p x covering watches =
+      let is : p.tree ≡ false → p.name ≡ x = λ file. covers_file jobs.root p x file covering in
       elim watches [
-        | often runs ↦ always runs
-        | by_name file name ↦ named (subst (IsNamed jobs n) (is file) name)
-        | by_chain {k = k} file live name way ↦ through live (subst (IsNamed jobs k) (is file) name) way
-        | by_writer {w = w} last way ↦ written (last_name w p x stands last) way
-        | not_there file inside name nowhere ↦ never inside (name ∙ is file) nowhere
+        | often runs ↦ inl (always runs)
+        | by_name file name ↦ inl (named (subst (IsNamed jobs n) (is file) name))
+        | by_chain {k = k} file live name way ↦ inl (through live (subst (IsNamed jobs k) (is file) name) way)
+        | by_writer {w = w} last way ↦ inr (w, last, way)
+        | not_there file inside name nowhere ↦ inl (never inside (name ∙ is file) nowhere)
       ]
+
+  -- who watches the file that stands for a name watches the name
+  name_watched : (n : ℕ) (p : Path) (x : Name) → StandsFor jobs shape p x → WatchesFile jobs n p → Watches jobs n x
+  name_watched n p x stands watches = elim (covered_watched n p x stands.covering watches) [
+    | inl so ↦ so
+    | inr by ↦ written (last_name by.0 p x stands by.1) by.2
+  ]
 
   -- and who watches a name that stands for the file watches the file
   named_file : (n : ℕ) (p : Path) → (name : NameFor jobs shape p) → (q : ℕ) → q < node_count jobs → IsNamed jobs q name.name → (p.tree ≡ false) × IsNamed jobs q p.name
@@ -142,10 +151,10 @@ module _ (jobs : Jobs) (shape : IsWellFormed jobs) where
   ]
 
   -- a file whose name is unlisted is unlisted, and of a tree no name that stands for it is
-  unlisted_by : (listing : List Name) (p : Path) (x : Name) → StandsFor jobs shape p x → is_unlisted jobs listing p ≡ true → unlisted_names jobs listing x ≡ true
-  unlisted_by listing p x stands unlisted =
+  unlisted_by : (listing : List Name) (p : Path) (x : Name) → Covers jobs.root p x → is_unlisted jobs listing p ≡ true → unlisted_names jobs listing x ≡ true
+  unlisted_by listing p x covering unlisted =
       let parts = and_parts (not p.tree) (unlisted_names jobs listing p.name) unlisted in
-      subst (λ (y : Name). unlisted_names jobs listing y ≡ true) (covers_file jobs.root p x (not_true p.tree parts.0) stands.covering) parts.1
+      subst (λ (y : Name). unlisted_names jobs listing y ≡ true) (covers_file jobs.root p x (not_true p.tree parts.0) covering) parts.1
 
   by_unlisted : (listing : List Name) (p : Path) (name : NameFor jobs shape p) → unlisted_names jobs listing name.name ≡ true → is_unlisted jobs listing p ≡ true
   by_unlisted listing p name unlisted = elim (cases_Bool p.tree) [
@@ -162,15 +171,30 @@ module _ (jobs : Jobs) (shape : IsWellFormed jobs) where
     pub declared_if : found.missing.items ≡ [] → found.late.items ≡ [] → found.shared.items ≡ [] → found.present.items ≡ [] → IsDeclared jobs (unlisted_names jobs listing)
     declared_if no_missing no_late no_shared no_present = record {
       watched = λ n x input.
+          let own = read_path jobs shape n x input.reads in
           let at = file_for jobs shape found.files.items n x rise_files up (inl input.reads) in
-          elim (all_fine found.files.items (IsMissing jobs listing) (IsSeen jobs listing) found.missing.items missing no_missing n at.path (up at.path at.is_file)) [
-            | inl unlisted ↦ inl (unlisted_by listing at.path x at.stands unlisted)
-            | inr fine ↦ inr (name_watched n at.path x at.stands (fine (input_file n at.path x at.stands input)))
+          let seen : (p : Path) → IsFile jobs p → Covers jobs.root p x → IsInputFile jobs n p → (unlisted_names jobs listing x ≡ true) ⊎ WatchesFile jobs n p =
+          λ p is covering given. elim (all_fine found.files.items (IsMissing jobs listing) (IsSeen jobs listing) found.missing.items missing no_missing n p (up p is)) [
+            | inl unlisted ↦ inl (unlisted_by listing p x covering unlisted)
+            | inr fine ↦ inr (fine given)
+          ] in
+          elim (seen own.0 (n, inl own.1) own.2 (input_file n own.0 x own.2 (reads_own jobs shape n own.0 own.1) input (λ nobody. own.1))) [
+            | inl fixed ↦ inl fixed
+            | inr watches ↦ elim (covered_watched n own.0 x own.2 watches) [
+              | inl so ↦ inr so
+              | inr by ↦
+                  let writes = at.stands.writes by.0 (writes_name jobs shape by.0 own.0 x own.2 by.1.writes) in
+                  elim (seen at.path at.is_file at.stands.covering (written_file n by.0 at.path x at.stands input writes)) [
+                    | inl fixed ↦ inl fixed
+                    | inr watches ↦ inr (name_watched n at.path x at.stands watches)
+                  ]
+            ]
           ];
       earlier = λ n m x input may.
           let at = file_for jobs shape found.files.items n x rise_files up (inl input.reads) in
           let fine = all_fine found.files.items (IsLate jobs) (IsInTime jobs) found.late.items late no_late n at.path (up at.path at.is_file) in
-          fine (input_file n at.path x at.stands input) m (at.stands.writes m may);
+          let writes = at.stands.writes m may in
+          fine (written_file n m at.path x at.stands input writes) m writes;
       last = λ n w x may last.
           let at = file_for jobs shape found.files.items n x rise_files up (inr may) in
           let fine = all_fine found.files.items (IsShared jobs) (IsTogether jobs) found.shared.items shared no_shared n at.path (up at.path at.is_file) in

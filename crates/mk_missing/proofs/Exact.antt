@@ -20,7 +20,8 @@ use Rattle.mk_missing.specs.Users.{AreUsers, files_of, is_nowhere}
 use Rattle.mk_missing.specs.Violations.{AreLast, AreLateBy, ArePlaces, AreSoMany, AreViolations, HasNone, IsLate, IsListedOutput, IsMissing, IsUnlistedInput, IsPresent, IsShared, IsUnwatched, IsWrittenTree, ListsNoOutputs, WriteNoTrees}
 use Rattle.mk_missing.proofs.NotListed.{mark_at}
 use Rattle.mk_missing.proofs.Filters.{kept_checked}
-use Rattle.mk_missing.proofs.Declaring.{unlisted_apart, all_are, declared_if, late_apart, missing_apart, no_pair, none_if, shared_apart}
+use Rattle.mk_missing.proofs.Declaring.{unlisted_apart, all_are, declared_if, late_apart, missing_apart, none_if, shared_apart}
+use Rattle.mk_missing.proofs.Keeping.{no_pair}
 use Rattle.mk_missing.proofs.Alone.{no_outputs_if, no_outputs_then, no_trees_if, no_trees_then}
 use Rattle.mk_missing.proofs.Presents.{not_true}
 use Rattle.mk_missing.proofs.Naming.{each_pair, last_are}

@@ -18,8 +18,9 @@ use Rattle.mk_jobs.specs.Reaching.{uses_of}
 use Rattle.mk_jobs.specs.Shape.{IsWellFormed}
 use Rattle.mk_jobs.proofs.JobsLemmas.{live_node}
 use Rattle.mk_missing.specs.Files.{IsFile, IsLastIfAny, reads_file, writes_file}
-use Rattle.mk_missing.specs.Users.{AreUsers, files_of}
+use Rattle.mk_missing.specs.Users.{AreUsers, IsOnlyReader, files_of}
 use Rattle.mk_missing.specs.declared.users.Users.{Users}
+use Rattle.mk_missing.proofs.Keeping.{AreKept, empty_if, no_pair}
 use Rattle.mk_missing.proofs.Standing.{reader_live, writer_live}
 
 -- the greatest of some numbers, if there is one
@@ -51,15 +52,25 @@ last_most (n ∷ ns) last rise is =
 -- who uses a file, by who reads it and who writes it
 pub users_are : (jobs : Jobs) (users : Users) (readers : List ℕ) → ((n : ℕ) → Contains readers n ↔ (reads_file jobs n users.file ≡ true))
     → ((n : ℕ) → Contains users.writers.items n ↔ (writes_file jobs n users.file ≡ true))
-    → ((n : ℕ) → Contains users.inputs.items n ↔ (Contains readers n × ¬ Contains users.writers.items n)) → IsMost users.writers.items users.last → AreUsers jobs users
+    → AreKept (IsOnlyReader jobs users.writers.items users.file) readers users.inputs.items → IsMost users.writers.items users.last → AreUsers jobs users
 users_are jobs users readers reads writes inputs most = record {
   inputs = λ n. (
     λ there.
         let at = (inputs n).0 there in record {
           reads = (reads n).0 at.0;
-          foreign = elim (cases_Bool (writes_file jobs n users.file)) [ inr nay ↦ nay | inl so ↦ absurd (at.1 ((writes n).1 so)) ];
+          foreign = elim (cases_Bool (writes_file jobs n users.file)) [ inr nay ↦ nay | inl so ↦ absurd (at.1.0 ((writes n).1 so)) ];
+          itself = λ nobody. at.1.1 (empty_if users.writers.items (λ m there. both_ways (writes_file jobs m users.file) (nobody m) ((writes m).0 there)));
         },
-    λ input. (inputs n).1 ((reads n).1 input.reads, λ has. both_ways (writes_file jobs n users.file) input.foreign ((writes n).0 has)),
+    λ input. (inputs n).1 (
+      (reads n).1 input.reads,
+      (
+        λ has. both_ways (writes_file jobs n users.file) input.foreign ((writes n).0 has),
+        λ empty. input.itself (λ m. elim (cases_Bool (writes_file jobs m users.file)) [
+          | inr nay ↦ nay
+          | inl so ↦ absurd (no_pair m (subst (λ (ms : List ℕ). Contains ms m) empty ((writes m).1 so)))
+        ]),
+      ),
+    ),
   );
   writers = writes;
   last = last_if users.writers.items users.last most (λ n. (writes n).0) (λ n. (writes n).1);

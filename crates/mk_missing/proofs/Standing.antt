@@ -86,6 +86,17 @@ module _ (jobs : Jobs) (shape : IsWellFormed jobs) where
     | inr idle ↦ absurd (omega (arith, (subst (λ (ps : List Path). Contains ps p) (shape.no_writes n idle) there).1))
   ]
 
+  -- who may read a name reads a path that covers it
+  pub read_path : (n : ℕ) (x : Name) → may_read jobs n x ≡ true → (p : Path) × Contains (reads_of jobs n) p × Covers jobs.root p x
+  unfolding may_read
+  read_path n x may =
+      let any : Any (λ q. covers jobs.root q x ≡ true) (reads_of jobs n) = Any-from_list_any (λ q. covers jobs.root q x) (reads_of jobs n) (and_parts (is_live jobs n) _ may).1 in
+      (any.1, (any.0, any.2, any.3), any.4)
+
+  -- and who reads a path reads it as a file
+  pub reads_own : (n : ℕ) (p : Path) → Contains (reads_of jobs n) p → reads_file jobs n p ≡ true
+  reads_own n p there = list_any-from_Any (λ q. is_over jobs.root q p) (reads_of jobs n) (there.0, p, there.1, there.2, over_self jobs.root p)
+
   -- who reads or writes a file may read or write each name that it covers
   pub reads_name : (n : ℕ) (p : Path) (x : Name) → Covers jobs.root p x → reads_file jobs n p ≡ true → may_read jobs n x ≡ true
   unfolding may_read

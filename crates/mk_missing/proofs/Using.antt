@@ -6,7 +6,7 @@ use Rattle.mk_path.specs.declared.path.Path.{Path}
 use Rattle.mk_jobs.specs.Jobs.{Before, Jobs, node_count}
 use Rattle.mk_jobs.specs.Shape.{IsWellFormed}
 use Rattle.mk_stale.specs.Watching.{RunsWith}
-use Rattle.mk_missing.specs.Files.{IsInputFile, IsLastIfAny, reads_file, writes_file}
+use Rattle.mk_missing.specs.Files.{IsInputFile, IsLastIfAny, writes_file}
 use Rattle.mk_missing.specs.Finding.{IsInTime, IsTogether, IsWatched}
 use Rattle.mk_missing.specs.Kinds.{IsFine, nodes_of}
 use Rattle.mk_missing.specs.Users.{AreUsers}
@@ -15,17 +15,12 @@ use Rattle.mk_missing.specs.declared.kind.Kind.{Kind}
 use Rattle.mk_missing.specs.declared.kind.Kind.TheVariants.{Unwatched, Late, Shared}
 use Rattle.mk_missing.specs.declared.users.Users.{Users}
 use Rattle.mk_missing.proofs.Gathering.{reader_node, writer_node}
+use Rattle.mk_missing.proofs.Keeping.{contains_or}
 
 module _ (jobs : Jobs) (users : Users) (are : AreUsers jobs users) where
   -- a node whose input the file is is among its users, and of others nothing is asked
   input_or : (n : ℕ) → Contains users.inputs.items n ⊎ (IsInputFile jobs n users.file → ⊥)
-  input_or n = elim (cases_Bool (reads_file jobs n users.file)) [
-    | inr nay ↦ inr (λ input. both_ways (reads_file jobs n users.file) nay input.reads)
-    | inl so ↦ elim (cases_Bool (writes_file jobs n users.file)) [
-      | inl writes ↦ inr (λ input. both_ways (writes_file jobs n users.file) input.foreign writes)
-      | inr foreign ↦ inl ((are.inputs n).1 (record { reads = so; foreign = foreign }))
-    ]
-  ]
+  input_or n = elim (contains_or users.inputs.items n) [ inl there ↦ inl there | inr none ↦ inr (λ input. none ((are.inputs n).1 input)) ]
 
   pub watched_or : (n : ℕ) → Contains users.inputs.items n ⊎ IsWatched jobs n users.file
   watched_or n = elim (input_or n) [ inl there ↦ inl there | inr none ↦ inr (λ input. absurd (none input)) ]

@@ -22,10 +22,11 @@ writes_file jobs n p = is_under jobs.root (writes_of jobs n) p
 abbrev pub IsFile : Jobs → Path → Type 0
 IsFile jobs p = (n : ℕ) × (Contains (reads_of jobs n) p ⊎ Contains (writes_of jobs n) p)
 
--- p is an input of n: n reads it, and does not write it
+-- p is an input of n: n reads it, and does not write it; if nobody writes it, n reads p itself, since a tree stands for all below it
 pub record IsInputFile (jobs : Jobs) (n : ℕ) (p : Path) : Type 0 where
   pub reads : reads_file jobs n p ≡ true
   pub foreign : writes_file jobs n p ≡ false
+  pub itself : ((m : ℕ) → writes_file jobs m p ≡ false) → Contains (reads_of jobs n) p
 
 -- w is the last writer of p: it writes p, and nobody with a greater number does
 pub record IsLastWriterOf (jobs : Jobs) (w : ℕ) (p : Path) : Type 0 where

@@ -2,16 +2,19 @@
 ghost use Rattle.std.specs.Prelude.{ℕ, ◌≡◌, ◌<◌, ◌↔◌, All, Contains, IfOk, IsTrue, length};
 ghost use Rattle.std.specs.List.Sorted.{IsStrictlyIncreasing, IsStrictlySortedBy};
 ghost use Rattle.mk_index.specs.Holders.{row_limit};
-ghost use Rattle.mk_path.specs.Paths.{path_cmp};
+ghost use Rattle.mk_name.specs.Names.{has};
+ghost use Rattle.mk_path.specs.Paths.{path_cmp, same_path};
 ghost use Rattle.mk_index.specs.Uses.{IsPlaceOf, path_of};
 ghost use Rattle.mk_jobs.specs.Jobs.{node_count};
 ghost use Rattle.mk_jobs.specs.Reaching.{uses_of};
+ghost use Rattle.mk_jobs.specs.Shape.{IsRising};
 ghost use Rattle.mk_missing.specs.Files.{IsFile};
-ghost use Rattle.mk_missing.specs.Users.{AreUsers, files_of};
+ghost use Rattle.mk_missing.specs.Users.{AreUsers, IsOnlyReader, files_of};
 
 use crate::kept::keep;
 use mk_index::index::Place;
 use mk_jobs::jobs::Jobs;
+use mk_path::covering::order;
 use mk_path::path::Path;
 use std::alloc::{AllocError, Global};
 
@@ -46,26 +49,58 @@ fn users_of(alloc: Global, jobs: &Jobs, place: Place) -> Result<Users, AllocErro
     ensures file { IfOk result (λ users. users.file ≡ path_of (uses_of jobs.now) place) }
     ensures users { IfOk result (AreUsers jobs.now) }
 {
+    let _count = jobs.count();
     let readers = jobs.users_over(alloc, place, false)?;
     let writers = jobs.users_over(alloc, place, true)?;
+    let file = jobs.path(place).copy(alloc)?;
     Ok(Users {
-        file: jobs.path(place).copy(alloc)?,
-        inputs: those_without(alloc, &readers, &writers)?,
+        inputs: only_readers(alloc, jobs, &readers, &writers, &file)?,
+        file,
         last: writers.last().copied(),
         writers,
     })
 }
 
-/// Those of some numbers that are not among others, which rise. The only error is out of memory.
-fn those_without(alloc: Global, numbers: &[u32], others: &[u32]) -> Result<Vec<u32>, AllocError>
-    requires { IsStrictlyIncreasing others.now }
-    ensures { IfOk result (λ kept. (n : ℕ) → Contains kept.items n ↔ (Contains numbers.now n × ¬ Contains others.now n)) }
+/// Those of the readers of a file that do not write it, and, where nobody writes it, that read the file itself. The only error is
+/// out of memory.
+fn only_readers(
+    alloc: Global,
+    jobs: &Jobs,
+    readers: &[u32],
+    writers: &[u32],
+    file: &Path,
+) -> Result<Vec<u32>, AllocError>
+    requires nodes { All (λ n. n < node_count jobs.now) readers.now }
+    requires rise { IsStrictlyIncreasing writers.now }
+    ensures { IfOk result (λ kept. (n : ℕ) → Contains kept.items n ↔ (Contains readers.now n × IsOnlyReader jobs.now writers.now file.now n)) }
 {
     let mut kept = Vec::new(alloc);
-    for &n in numbers {
-        keep(&mut kept, n, !is_among(others, n))?;
+    for &n in readers {
+        keep(&mut kept, n, is_only_reader(jobs, writers, file, n))?;
     }
     Ok(kept)
+}
+
+/// Whether a node does not write a file, whose writers these are; and, where there is none, whether it reads the file itself.
+fn is_only_reader(jobs: &Jobs, writers: &[u32], file: &Path, n: u32) -> bool
+    requires node { n < node_count jobs.now }
+    requires rise { IsStrictlyIncreasing writers.now }
+    ensures { IsTrue result ↔ IsOnlyReader jobs.now writers.now file.now n }
+{
+    if writers.is_empty() {
+        return names(jobs.reads(n), file);
+    }
+    !is_among(writers, n)
+}
+
+/// Whether a path is among others, which rise.
+fn names(paths: &[Path], path: &Path) -> bool
+    requires { IsRising paths.now }
+    ensures { result ≡ has same_path paths.now path.now }
+{
+    paths
+        .binary_search_by(|it| order(it, path.name.as_bytes(), path.tree))
+        .is_ok()
 }
 
 /// Whether a number is among others, which rise.

@@ -1,9 +1,8 @@
-use Rattle.std.proofs.Common.{◌<◌, All, List, ℕ, get_or, subst, sym}
+use Rattle.std.proofs.Common.{◌<◌, ◌∙◌, All, Contains, IfSome, List, ℕ, get_or, subst, sym}
 use Rattle.std.proofs.lemmas.List.Elements.{Contains-get_or}
-use Rattle.mk_jobs.specs.Jobs.{Jobs, node_count}
+use Rattle.mk_jobs.specs.Jobs.{Before, Jobs, node_count}
 use Rattle.mk_missing.specs.Users.{AreUsers}
-use Rattle.mk_missing.proofs.Using.{input_inside}
-use Rattle.mk_missing.proofs.Using.{writer_inside}
+use Rattle.mk_missing.proofs.Using.{input_inside, late_if, writer_inside}
 use Rattle.mk_missing.proofs.checker.Checker.is_in_time.Goals as goal
 
 pub late_writer-requires-clause-nodes : goal.late_writer-requires-clause-nodes
@@ -20,3 +19,11 @@ late_writer-requires-clause-node c =
     let jobs = c.self.inside.jobs.now in
     subst (λ (j : Jobs). c.args.n < node_count j) (sym c.self.invariant.before)
     (input_inside jobs c.args.users.now (subst (λ (j : Jobs). AreUsers j c.args.users.now) (sym c.self.view_is) c.requires.users) c.args.n c.self.invariant.shape c.requires.node)
+
+pub returns-clause-late : goal.returns-clause-late
+returns-clause-late c = λ nay.
+    let users = c.args.users.now in
+    let n = c.args.n in
+    let late = subst (λ (j : Jobs). IfSome c.late_writer.result (λ m. Contains users.writers.items m × (Before j m n → ⊥))) (c.self.invariant.before ∙ c.self.view_is)
+    (subst (λ (ns : List ℕ). IfSome c.late_writer.result (λ m. Contains ns m × (Before c.self.inside.before m n → ⊥))) c.deref.ensures.value c.late_writer.ensures.late) in
+    late_if c.args.self.now users c.requires.users n c.late_writer.result c.is_none.result c.is_none.ensures late c.requires.node nay
