@@ -3,6 +3,7 @@
 from __future__ import annotations
 
 import contextlib
+import hashlib
 import io
 import json
 import os
@@ -15,6 +16,8 @@ import sarif
 from report.index import page_name
 from report.main import main as race_report
 from support import PROGRAMS, TOP, Reporting
+
+ARCHIVE = TOP / "share" / "archive"
 
 
 class Tables(Reporting):
@@ -155,7 +158,7 @@ class OnePackage(Reporting):
         tool.write_text(f'#!/bin/sh\necho "$# words, $DEB_BUILD_OPTIONS"\nprintf "%s\\n" "$@"\nexit {status}\n')
         tool.chmod(0o755)
         env = {**os.environ, "PATH": f"{self.room}:{os.environ['PATH']}"}
-        return subprocess.run([str(TOP / "share" / "archive" / "one-package"), *words], cwd=self.room, env=env, capture_output=True, text=True, check=False)
+        return subprocess.run([str(ARCHIVE / "one-package"), *words], cwd=self.room, env=env, capture_output=True, text=True, check=False)
 
     def test_log_and_status(self) -> None:
         old = self.room / "records" / "libx++-1.0" / "record.json"
@@ -175,3 +178,47 @@ class OnePackage(Reporting):
             ran = self.ran(*words)
             self.assertEqual((3, "usage: one-package BASE.tar FOLDER PACKAGE\n"), (ran.returncode, ran.stderr), words)
         self.assertFalse((self.room / "records").exists())
+
+
+class Draw(Reporting):
+    """The script that draws packages, from an index that is written here."""
+
+    INDEX = """\
+Package: plain
+Architecture: any
+Build-Depends: debhelper-compat (= 13), libfoo-dev
+
+Package: folded
+Architecture: any all
+Build-Depends:
+ libfoo-dev (>= 2),
+ gcc | meson:native <!nocheck>
+
+Package: all-alone
+Architecture: all
+Build-Depends: make
+
+Package: scons-alone
+Architecture: any
+Build-Depends: scons, makefile2graph
+
+Package: indep
+Architecture: linux-any any
+Build-Depends: scons
+Build-Depends-Indep: cmake (>= 3)
+"""
+
+    def drawn(self, *words: str) -> "subprocess.CompletedProcess[str]":
+        return subprocess.run([str(ARCHIVE / "draw"), *words], capture_output=True, text=True, check=False)
+
+    def test_what_is_drawn_and_in_which_order(self) -> None:
+        index = self.room / "Sources"
+        index.write_text(self.INDEX)
+        for seed in ("72", "73", "74"):
+            wanted = sorted(("plain", "folded", "indep"), key=lambda name: hashlib.sha256(f"{seed} {name}".encode()).hexdigest())
+            for count in ("2", "9"):
+                self.assertEqual(wanted[:int(count)], self.drawn(seed, count, str(index), str(index)).stdout.split())
+
+    def test_statuses(self) -> None:
+        for status, words in ((3, ()), (3, ("72",)), (3, ("72", "many")), (1, ("72", "2", str(self.room / "none")))):
+            self.assertEqual((status, ""), (self.drawn(*words).returncode, self.drawn(*words).stdout), words)
