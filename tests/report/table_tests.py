@@ -155,7 +155,7 @@ class OnePackage(Reporting):
 
     def ran(self, *words: str, status: int = 0) -> "subprocess.CompletedProcess[str]":
         tool = self.room / "mmdebstrap"
-        tool.write_text(f'#!/bin/sh\necho "$# words, $DEB_BUILD_OPTIONS"\nprintf "%s\\n" "$@"\nexit {status}\n')
+        tool.write_text(f'#!/bin/sh\necho "$# words, $DEB_BUILD_OPTIONS"\nprintf "%s\\n" "$@" "$record"\nexit {status}\n')
         tool.chmod(0o755)
         env = {**os.environ, "PATH": f"{self.room}:{os.environ['PATH']}"}
         return subprocess.run([str(ARCHIVE / "one-package"), *words], cwd=self.room, env=env, capture_output=True, text=True, check=False)
@@ -173,10 +173,16 @@ class OnePackage(Reporting):
             self.assertIn("\n--customize-hook=sync-out /build/record 'records/libx++-1.0'\n", log)
         self.assertFalse(old.exists())
 
+    def test_a_script_in_the_place_of_the_recording(self) -> None:
+        for words, last in (((), "race-record --fresh --from ../*_*.tar"), ((str(ARCHIVE / "compared"),), "mv /build/trial /build/record/")):
+            self.assertEqual(0, self.ran("base.tar", "records", "hello", *words).returncode)
+            self.assertIn(f"\n{last}", (self.room / "records" / "hello" / "log").read_text()[-160:])
+        subprocess.run(["sh", "-n", str(ARCHIVE / "compared")], check=True)
+
     def test_usage(self) -> None:
-        for words in ((), ("b", "records"), ("b", "records", ""), ("b", "records", ".."), ("b", "records", "../x"), ("b", "records", "a b"), ("b", "records", "a", "c")):
+        for words in ((), ("b", "records"), ("b", "records", ""), ("b", "records", ".."), ("b", "records", "../x"), ("b", "records", "a b"), ("b", "records", "a", "c", "d")):
             ran = self.ran(*words)
-            self.assertEqual((3, "usage: one-package BASE.tar FOLDER PACKAGE\n"), (ran.returncode, ran.stderr), words)
+            self.assertEqual((3, "usage: one-package BASE.tar FOLDER PACKAGE [SCRIPT]\n"), (ran.returncode, ran.stderr), words)
         self.assertFalse((self.room / "records").exists())
 
 

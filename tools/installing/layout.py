@@ -85,7 +85,7 @@ def files_below(folder: Path) -> Iterator[Path]:
 def share_items(top: Path) -> Iterator[Item]:
     """The base makefiles, the scripts that record packages, the man pages, and the completions, which two shells look for under the name of each command."""
     yield from (Item(f"{LIBRARY}/{it.name}", it) for it in sorted((top / "share").glob("*.mk")))
-    yield from (Item(f"{LIBRARY}/archive/{it.name}", it, is_program=True) for it in files_below(top / "share" / "archive"))
+    yield from (Item(f"{LIBRARY}/archive/{it.name}", it, is_program=it.name != "compared") for it in files_below(top / "share" / "archive"))
     yield from (Item(f"share/man/man1/{it.name}", it) for it in sorted((top / "share" / "man" / "man1").glob("*.1")))
     completions = top / "share" / "completions"
     names = ["race", *(it.name for it in companions(top))]
