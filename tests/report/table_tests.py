@@ -228,3 +228,27 @@ Build-Depends-Indep: cmake (>= 3)
     def test_statuses(self) -> None:
         for status, words in ((3, ()), (3, ("72",)), (3, ("72", "many")), (1, ("72", "2", str(self.room / "none")))):
             self.assertEqual((status, ""), (self.drawn(*words).returncode, self.drawn(*words).stdout), words)
+
+
+class Found(Reporting):
+    """The page of what came of a list."""
+
+    def test_page(self) -> None:
+        trial = records.header(self.room / "all" / "safe", is_fixed=True, folder="/build/safe") / "trial"
+        slow, gone = self.room / "all" / "slow" / "trial", self.room / "all" / "gone"
+        for it in (trial, slow, gone):
+            it.mkdir(parents=True)
+        (trial / "facts").write_text("serial 0 2.0\nrecord 0 5.0\nagain 0 2.0\nj8 0 1.0\nlate1 0 1.0\nlate2 2 1.0\n")
+        for build, tree in (("serial", "a\t1\nb\t1\n"), ("again", "a\t2\nb\t1\n"), ("record", ""), ("j8", "a\t3\nb\t1\n"), ("late1", "a\t1\n"), ("late2", "a\t1\nb\t1\n")):
+            (trial / f"{build}.tree").write_text(tree)
+            (trial / f"{build}.times").write_text(f"0m0.0s 0m0.0s\n{2 if build == 'record' else 1}m1.5s 0m0.5s\n")
+        (slow / "facts").write_text("serial 124 9.0\n")
+        (slow.parent / "log").write_text("")
+        (gone / "log").write_text("E: 404  Not Found\n")
+        (self.room / "packages").write_text("gone\nsafe\nslow\nlater\n")
+        (self.room / "judged").write_text("Today.\n---\nsafe\tyes\tIt is so.\n")
+        words = [TOP / "tools" / "found", self.room / "all", self.room / "packages", self.room / "judged"]
+        text = subprocess.run(words, env={**os.environ, "RACE": str(PROGRAMS[0])}, capture_output=True, text=True, check=True).stdout
+        for row in ("# What was found\n\nToday.\n\n## ", "| drawn | 4 |\n| tried | 3 |\n| its source is not on the mirror | 1 |\n| took longer than the bound | 1 |\n",
+                    "| `safe` | SAFE | 4 |  | 2 | 5 | 2.5 | 2.0 | 1 of 3 the same, 1 name apart |\n", "| `safe` | yes | It is so. |  |\n", "gone, safe, slow, later\n"):
+            self.assertIn(row, text)
