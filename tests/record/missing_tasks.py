@@ -200,7 +200,7 @@ class Report:
         is_unlisted = not path.endswith("/") and not writers and path not in self.jobs.listing
         for at in self.live:
             node = self.nodes[at]
-            if node.can(node.reads, path) and at not in writers:
+            if at not in writers and (node.can(node.reads, path) if writers else path in node.reads):  # else a tree stands for it
                 if not self.watches(node, path, last):
                     self.counts["unlisted"] += is_unlisted
                     if not is_unlisted:
