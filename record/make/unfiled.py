@@ -16,7 +16,7 @@ def own_path(make: Make, name: str) -> str:
 def add_outputs(builder: RoundBuilder) -> None:
     """The lines of a make whose output is kept in a file come in the order of its recipes, and a recipe may look into that file."""
     words = builder.make.words
-    if words.is_kept:  # guard: output-in-file
+    if words.has_log:  # guard: output-in-file
         said = {at for at in builder.of_node.values() if any(job.is_said for job in builder.build.tasks[at].node.jobs)}  # guard: recipes-that-print
         seeing = {at for at, events in each(builder) if words.log and any(path == words.log for _, path, _ in events)}
         mark(builder, own_path(builder.make, "output"), "the order of what make prints, which is kept in a file", seeing, said)  # guard: recipes-that-look-into

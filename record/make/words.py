@@ -94,7 +94,7 @@ class Words:
     environment: FrozenSet[str] = frozenset()  # the names of the variables that it found there
     below: bool = False  # a make above has handed it flags
     slots: str = ""  # how many jobs its own words ask for: digits, or `all`
-    is_kept: bool = False  # its output goes to a file, and not where that of the build goes
+    has_log: bool = False  # its output goes to a file, and not where that of the build goes
     log: str = ""  # the path of that file
     version: str = ""
     status: Optional[int] = None
@@ -327,8 +327,8 @@ def begun(words: Words, start: Start, own: Container[Tuple[int, int]]) -> Words:
     words.flags, words.environment = start.environment.get("MAKEFLAGS", ""), frozenset(start.environment)
     words.slots = own_jobs(start.args)
     words.below = {"MAKELEVEL", "MAKEFLAGS"} <= words.environment
-    words.is_kept = first.kind == "f" and (first.device, first.number) not in own
-    words.log = first.path if words.is_kept else ""
+    words.has_log = first.kind == "f" and (first.device, first.number) not in own
+    words.log = first.path if words.has_log else ""
     return words
 
 
