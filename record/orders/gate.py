@@ -156,9 +156,10 @@ class Gate:
         return pid in self.targets or held_words(pid)[:1] == [BY_NINJA]
 
     def beside(self, rows: Mapping[int, tuple[int, str, Key]], free: Sequence[int]) -> list[int]:
-        """Those of some processes that may begin beside what runs. A recipe with a make in it runs what that starts."""
+        """Those of some processes that may begin beside what runs. A recipe with a make in it runs what that starts, and one that began before those for which
+        it waits, since nothing else could, runs alone."""
         outer = {key[:length] for key in (*self.running, *(key for _, _, key in rows.values())) for length in range(1, len(key))}
-        is_full = len(self.running.keys() - outer) >= self.at_once
+        is_full = len(self.running.keys() - outer) >= self.at_once or not self.alone.isdisjoint(self.running) or not all(map(self.may_begin, self.running))
         return [pid for pid in free if not is_full and rows[pid][2] not in self.alone]  # guard: recipes-that-run-alone
 
     def turn(self, root: int) -> bool:
