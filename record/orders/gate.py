@@ -159,8 +159,9 @@ class Gate:
         """Those of some processes that may begin beside what runs. A recipe with a make in it runs what that starts, and one that began before those for which
         it waits, since nothing else could, runs alone."""
         outer = {key[:length] for key in (*self.running, *(key for _, _, key in rows.values())) for length in range(1, len(key))}
-        is_full = len(self.running.keys() - outer) >= self.at_once or not self.alone.isdisjoint(self.running) or not all(map(self.may_begin, self.running))
-        return [pid for pid in free if not is_full and rows[pid][2] not in self.alone]  # guard: recipes-that-run-alone
+        alone = self.alone  # guard: recipes-that-run-alone
+        is_full = len(self.running.keys() - outer) >= self.at_once or not alone.isdisjoint(self.running) or not all(map(self.may_begin, self.running))
+        return [pid for pid in free if not is_full and rows[pid][2] not in alone]
 
     def turn(self, root: int) -> bool:
         """Lets a recipe begin, if nothing else can happen, or if it may run beside others; whether one does."""

@@ -39,7 +39,7 @@ GUARDS: List[Guard] = [
         ("names-as-a-record-has-them", "self.targets[int(found[2])] = os.fsdecode(found[1])", "orders.Orders.name_that_is_no_utf_8"),
         ("last-that-came", "self.begin(max(some, key=lambda one: (self.places.get(rows[one][2], self.unknown), rows[one][2])), rows)", "gate.Gates.last_that_came"),
         ("fixes-hold", "free = [*rows]", "gate.Gates.fixes"),
-        ("recipes-that-run-alone", "return [pid for pid in free if not is_full]", "gate.Gates.side_by_side"),
+        ("recipes-that-run-alone", "alone: frozenset[Key] = frozenset()", "gate.Gates.side_by_side"),
         ("further-lines-of-recipe", "found = self.owners.get(pid)", "gate.Gates.make_in_a_recipe"),
     ),
     *guards("orders/graph.py",

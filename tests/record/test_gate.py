@@ -68,7 +68,7 @@ class Gates(unittest.TestCase):
         wait = "@touch $@; for i in $$(seq 500); do test -e %s && exit; sleep 0.01; done; exit 1\n"
         files = {"Makefile": "all: c d in e\na: ; %sb: ; %sc: a b\nc d: ; @touch $@\nin: ; @$(MAKE) -s -f in.mk\ne: ; @ls > e; sleep 0.2; ls | cmp - e\n" % (wait % "b", wait % "a"),
                  "in.mk": "all: f g\nf: ; %sg: ; %s" % (wait % "g", wait % "f")}
-        found = self.began(files, ["make", "-j9"], lambda name: "edbac".find(name), [("d", "a")], at_once=2, alone=["e"])
+        found = self.began(files, ["make", "-j9"], lambda name: "cabde".find(name), [("d", "a")], at_once=3, alone=["e"])
         self.assertEqual(({"a", "b", "c", "d", "e", "in"}, True), ({key[0] for key in found}, found.index(["a"]) < found.index(["d"])))
 
     @unittest.skipUnless(os.geteuid() == 0, "needs root")
