@@ -21,13 +21,13 @@ import subprocess
 import sys
 import tempfile
 from dataclasses import dataclass, field
+from fnmatch import fnmatchcase
 from functools import cached_property
 from typing import TYPE_CHECKING, Dict, FrozenSet, Iterable, Iterator, List, Sequence, Set, Tuple
 
 from record import machine
 from record.make.owners import Make
-from record.trace.events import BY_LIST, CHANGES, CREATED, ENTERED, HELD, LISTED, MADE, MADE_BEFORE, MADE_QUIETLY, OUTPUT, READ, REFUSED, SEEN
-from record.trace.lists import fits
+from record.trace.events import BY_LIST, CHANGES, CREATED, ENTERED, HELD, LISTED, MADE_BEFORE, MAKES, OUTPUT, READ, REFUSED, SEEN
 from record.trace.names import Names
 
 if TYPE_CHECKING:
@@ -36,7 +36,6 @@ if TYPE_CHECKING:
 
 GIT = ["git", "--no-optional-locks", "-c", "safe.directory=*"]
 CONFIGURED_BY = ("CMakeCache.txt", "meson-info")  # what stands at the top of a folder that CMake or Meson configured
-FOLDER_MADE = MADE + MADE_QUIETLY + MADE_BEFORE
 FOLDER_USED = SEEN + ENTERED + LISTED + CREATED
 NAMED = 3  # so many new files are named
 NO_RULES = re.compile(r"(?:[ \t]*(?:#.*)?\n)*[ \t]*(?:#.*)?")  # a makefile of comments alone
@@ -156,7 +155,7 @@ def left_behind(tree: FirstTree, before: Dict[str, str], lives: "List[Life]", bu
     recipes = [task for build in builds for task in build.tasks if task.kind == "recipe"]
     shared = {path for task in recipes for path in task.writes}
     changed = {path for task in recipes for work in task.works for kind, path in work.events if kind in CHANGES + REFUSED} - locks(lives)  # guard: names-that-could-not-be-made
-    by_any, by_recipes = used(before, lives), {*used(before, [life for life in lives if not (life.is_make or life.is_ninja)]), *listed(before, builds, names)}
+    by_any, by_recipes = used(before, lives), {*used(before, [life for life in lives if not (life.is_make or life.is_ninja)]), *listed(before, builds)}
     early, made = early_folders(before, builds, lives)
     early = {path for path in early if path not in names.tops and not (path + "/").startswith(tops)}  # guard: folders-that-were-configured
     written = by_any & shared | by_recipes & changed | early & made  # guard: what-one-recipe-changes
@@ -168,7 +167,7 @@ def left_behind(tree: FirstTree, before: Dict[str, str], lives: "List[Life]", bu
 
 def kept_by_git(lives: "Iterable[Life]") -> Set[str]:
     """What git uses in its own folder."""
-    found = {path.partition("\0")[0] for life in lives if os.path.basename(life.program) == "git" for _, path in life.events if "/.git/" in path + "/"}
+    found = {path for life in lives if os.path.basename(life.program) == "git" for _, path in life.events if "/.git/" in path + "/"}
     return found | {os.path.dirname(path) for path in found}  # guard: what-git-uses
 
 
@@ -197,14 +196,14 @@ class Folder:
 
     users: Dict[int, int] = field(default_factory=dict)
     makers: Dict[int, int] = field(default_factory=dict)
-    refused: Set[int] = field(default_factory=set)  # those that could not make it, as it was there
+    refused: Set[int] = field(default_factory=set)  # those in which a process fails that could not make it
 
-    def add(self, at: int, kind: str, place: int) -> None:
-        """Takes one event."""
-        if kind in FOLDER_USED + FOLDER_MADE:
-            places = self.makers if kind in FOLDER_MADE else self.users
+    def add(self, at: int, kind: str, place: int, has_failed: bool) -> None:
+        """Takes one event, of a process that has failed in the end or has not."""
+        if kind in FOLDER_USED + MAKES:
+            places = self.makers if kind in MAKES else self.users
             places[at] = min(place, places.get(at, place))
-        if kind == MADE_BEFORE:
+        if kind == MADE_BEFORE and has_failed:  # guard: folders-that-could-not-be-made
             self.refused.add(at)
 
     def is_early(self, build: "Build") -> bool:
@@ -221,9 +220,9 @@ def folders_of(build: "Build", before: Dict[str, str]) -> Dict[str, Folder]:
     for at, task in enumerate(build.tasks):
         for life in [life for work in task.works for life in work.lives if not (life.is_make or life.is_ninja)] if task.kind == "recipe" else ():
             for (kind, name), place in life.events.items():
-                path = os.path.dirname(name.rstrip("/")) if kind == CREATED else name.rstrip("/").partition("\0")[0]
-                if kind in FOLDER_USED + FOLDER_MADE and before.get(path) == "d":
-                    found.setdefault(path, Folder()).add(at, kind, place)
+                path = os.path.dirname(name.rstrip("/")) if kind == CREATED else name.rstrip("/")
+                if kind in FOLDER_USED + MAKES and before.get(path) == "d":
+                    found.setdefault(path, Folder()).add(at, kind, place, life.has_failed)
     return found
 
 
@@ -237,21 +236,19 @@ def early_folders(before: Dict[str, str], builds: "Sequence[Build]", lives: "Ite
             first[path] = min([first.get(path, sys.maxsize), *folder.makers.values()])
             if (folder.makers or id(build.make) not in inside) and folder.is_early(build):  # guard: folders-that-outer-recipe-makes
                 early.add(path)
-    sooner = {path for life in lives for (kind, path), place in life.events.items() if kind in FOLDER_MADE and place < first.get(path, 0)}
+    sooner = {path for life in lives for (kind, path), place in life.events.items() if kind in MAKES and place < first.get(path, 0)}
     return early - sooner, {path for path, place in first.items() if place < sys.maxsize}  # guard: folders-that-nobody-waits-for
 
 
-def listed(before: Dict[str, str], builds: "Iterable[Build]", names: Names) -> Iterator[str]:
+def listed(before: Dict[str, str], builds: "Iterable[Build]") -> Iterator[str]:
     """What was there and a recipe, or make itself, may have met as it listed the folder: what comes later has no place in the list."""
-    found = {path for build in builds for task in build.tasks for work in task.works for kind, path in work.events if kind == LISTED}
-    inside: Dict[str, List[str]] = {}
-    for folder, _, pattern in (path.partition("\0") for path in sorted(found)):  # in one order, so that an import asks the machine what the recording did
-        inside.setdefault(folder, []).append(pattern)
+    lives = (life for build in builds for task in build.tasks for work in task.works for life in work.lives if not life.is_make)
+    inside = {path: ["*"] for life in lives for kind, path in life.events if kind == LISTED}
     for make in {id(build.make): build.make for build in builds if isinstance(build.make, Make)}.values():
-        for folder in sorted({path for _, path in make.lists}):
-            inside.setdefault(folder, []).extend(make.all_patterns_in(folder))  # guard: what-make-lists
+        for folder in make.lists:
+            inside.setdefault(folder, []).extend(make.patterns_in(folder))  # guard: what-make-lists
     for path, kind in before.items():
-        if kind in ("f", "d") and any(fits(pattern, path, names, kind == "d") for pattern in inside.get(os.path.dirname(path), ())):
+        if kind in ("f", "d") and any(fnmatchcase(os.path.basename(path), pattern) for pattern in inside.get(os.path.dirname(path), ())):
             yield path  # guard: what-lists-show
 
 

@@ -14,7 +14,6 @@ from record.build.text import file_of
 # CMake's makefiles have a makefile for all targets, whose rules run a make for each.
 CMAKE_FILE = re.compile(r"(?:^|/)CMakeFiles/Makefile2$")
 CMAKE_TARGET = re.compile(r"(?:^|/)CMakeFiles/([^/]+)\.dir/all$")
-ONE_WRITER = "let one recipe alone write it; make asks whether it is there before that recipe has run"
 ESCAPED = re.compile(r"([ \t:#%])")
 OF_NINJA = re.compile(r"([ :$])")
 TOGETHER = 10  # so many targets stand in one line
@@ -145,25 +144,9 @@ def in_ninja(about: Dict[str, Any], race: Race, advice: str) -> Remedy:
 
 
 def without_line(about: Dict[str, Any], race: Race) -> str:
-    """What to do where no line orders two tasks: make itself looks at a target when it first considers that, or one is a later rule with two colons. Nothing
-    where a line does."""
-    if any(own_look(about, race.path, one) for one in (race.first, race.second)):  # guard: no-line-orders-look-of-targets-own-rule
-        return ONE_WRITER
-    is_first = any(about["labels"].get(one, {}).get("kind") == "first" for one in (race.first, race.second))
-    return ONE_WRITER if is_first else later_rule(about["labels"], race.first)
-
-
-def later_rule(labels: Dict[str, Any], first: str) -> str:
-    """What to do where one recipe has to wait for a rule with two colons that is not the first of its target; nothing where none has."""
-    early = labels.get(first, {})
+    """What to do where no line orders two tasks: one has to wait for a rule with two colons that is not the first of its target. Nothing where a line does."""
+    early = about["labels"].get(race.first, {})
     return "write the rules of %s as one: what needs it is only sure to wait for the first of them" % early["target"] if early.get("colons", 0) > 1 else ""  # guard: later-rule-with-two
-
-
-def own_look(about: Dict[str, Any], path: str, label: str) -> bool:
-    """Whether make asks here if a target with a recipe is there, and then runs none. It asks before it waits for what the target needs."""
-    found = about["labels"].get(label, {})
-    runs = found.get("recipe", "").strip().lstrip("@+-").strip() not in ("", ":", "true")
-    return about.get("tool", "make") == "make" and found.get("kind") == "decision" and runs and path == found.get("target")  # guard: empty-recipe-may-wait
 
 
 def is_needed(verdict: Verdict, race: Race) -> bool:

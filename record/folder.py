@@ -151,15 +151,14 @@ def write_build(folder: Path, build: "Build", within: Optional[Dict[str, str]], 
         own = build.about(at)
         edited = places.of(task.node.name, own)
         place: Dict[str, Any] = {key: shown(value) if isinstance(value, str) else value for key, value in own.items()}
-        lists = sorted(relative(root, path) for path in task.listed & task.reads)
+        own_names = {key: sorted(relative(root, path) for path in paths) for key, paths in (("asks", task.asks & task.reads), ("lists", task.lists)) if paths}
         part = task.part
         if part is not None:
             place["command"] = shown(part.words)
             place.update({"left": True} if part.is_left else {})
         is_loose = task.kind == "recipe" and not machine.isfile(os.path.join(root, task.node.name))  # guard: who-waits-for-what-leaves-no-file
-        about[label] = {"target": shown(task.node.name), "kind": task.kind, **place, **({"lists": lists} if lists else {}),
+        about[label] = {"target": shown(task.node.name), "kind": task.kind, **place, **own_names,
                         **({"leaves": sorted(relative(root, path) for path in leaves[id(task.node)])} if leaves[id(task.node)] else {}),
-                        **({"own": [relative(root, path) for path in sorted(task.own)]} if task.own else {}),
                         **({"folders": {how: sorted(relative(root, path) for path in paths) for how, paths in task.folders.items()}} if task.folders else {}),
                         **({"order_only": True} if is_loose else {}), **({"place": [shown(edited[0]), edited[1]]} if edited else {})}
     edges = 0

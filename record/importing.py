@@ -135,7 +135,7 @@ def builds_of_makes(owners: Owners, past: Past, names: Names, assumed: Assumptio
     """A build for each round of a make in which something was done, in the order in which they began; their holes too."""
     builds = []
     for place, make, number in sorted(((beginning(m, n), m, n) for m in owners.makes for n in range(len(m.words.rounds))), key=lambda found: found[0]):
-        if make.words.rounds[number].jobs or any(n == number for n, _ in make.acts):
+        if make.words.rounds[number].jobs:
             builder = Builder(make, number, names, assumed, past.until(place))
             builds.append(builder.run())
             record.holes += builder.holes
@@ -178,7 +178,7 @@ def import_record(facts: Facts, record: Record) -> Imported:
     builds = sorted(builds + of_ninja, key=lambda build: build.make.life.born)
     for name in named_by_time(builds):
         assumed.add("clock", name)
-    if (owners.makes or ninjas) and record.status == 0 and did_nothing(builds):
+    if (owners.makes or ninjas) and record.status == 0 and did_nothing(builds, owners.makes):
         record.holes.append(IDLE)  # guard: nothing
     tools = [*(make.life for make in owners.makes), *(ninja.life for ninja in ninjas)]
     cleaned = Cleaned(names, replay.changes, tools, replay.all)
@@ -198,7 +198,7 @@ def finish(record: Record, found: Imported, names: Names, out: str, warm: bool) 
     record.configured = sorted(there & found.configured)
     there -= found.configured
     if record.first is not None:
-        written = {path for build in found.builds for task in build.tasks for path in task.writes}
+        written = {path for build in found.builds for task in build.tasks for path in task.writes | task.leaves}
         changed = last_changes(found.lives)
         release = Release.of(record.first, (path for path in names.before if os.path.basename(path) == STATUS and path not in changed), written)
         part = {path for path in there if release.has(path)}

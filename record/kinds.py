@@ -29,16 +29,13 @@ FOLDER = Kind(
     "folder", "a folder that one makes or fills, and the other makes, fills or reads",
     "let the reader need the target of the writer, or give each a folder of its own",
 )
-PRINTED = Kind("order-of-output", "the order of what a make prints into a file", "let each recipe write a file of its own")
 AT_ONCE = Kind("one-recipe", "two processes of one recipe that run at once", "write `wait` between the two, or let one end before the other begins (`&&`)")
 LEFT = Kind("left-running", "a process that its recipe does not wait for", "let the recipe wait for it (`wait`), or start it in a recipe of its own that does")
 WIDE = Kind("wide-footprint", "a footprint that is too wide: a tree where a few files were meant", "write down the single files")
 
 # WIDE is advice for footprints that are written by hand: nothing in a race shows it, so no race is given this kind.
-KINDS = (FORGOTTEN, TWO, TEMPORARY, LOG, OUTPUT, ARCHIVE, FOLDER, PRINTED, AT_ONCE, LEFT, WIDE)
-# Names that stand for something else than a file, as for who makes a folder.
-OF_OUTPUT = re.compile(r"(?:^|/)@output(?:/|$)")
-OF_FOLDER = re.compile(r"(?:^|/)@(?:make|seen|gone)(?:/|$)")
+KINDS = (FORGOTTEN, TWO, TEMPORARY, LOG, OUTPUT, ARCHIVE, FOLDER, AT_ONCE, LEFT, WIDE)
+OF_FOLDER = re.compile(r"(?:^|/)@seen(?:/|$)")  # names that stand for it that a folder is there
 
 
 def is_of_folder(path: str) -> bool:
@@ -87,8 +84,6 @@ def kind_of(about: Dict[str, Any], race: Race) -> Kind:
     is_writing = race.first_does == race.second_does == "writes"
     if is_of_folder(race.path):
         return FOLDER
-    if OF_OUTPUT.search(race.path):
-        return PRINTED
     if race.path.endswith(".a") and is_writing:
         return ARCHIVE
     if is_one_rule(about, race):

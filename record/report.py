@@ -20,7 +20,6 @@ from record.build.text import OWN_NAME, file_of, shown
 SHOWN_BLOCKS, SHOWN_LINES, SHOWN_FILES, SHOWN_HOLES = 10, 3, 3, 20
 SHOWN_SIGNS = 80  # of an example
 WORDS = 100  # signs of a call
-LISTS = "\0lists"  # what several paths have in common
 UNJUDGED = "what the trace shows, and nobody can judge, does no harm: "
 
 
@@ -71,19 +70,11 @@ def near(about: Dict[str, Any], path: str, base: str) -> str:
 
 def verb(about: Dict[str, Any], label: str, does: str, path: str) -> str:
     """What a task does to a path, in the words of all companions."""
-    found = about["labels"].get(label, {})
     if OWN_NAME.search(path):
         return "settles it" if does == "writes" else "sees it"
-    if does != "reads":
-        return "writes it" if does == "writes" else does
-    if lists(about, label, path):
-        return "lists its folder"  # guard: lists-of-folders-are-said
-    return "make looks at it" if found.get("kind", "") in ("decision", "look", "first") else "reads it"
-
-
-def lists(about: Dict[str, Any], label: str, path: str) -> bool:
-    """Whether a task reads a path only as it lists the folder."""
-    return path in about["labels"].get(label, {}).get("lists", ())
+    if does == "reads" and path in about["labels"].get(label, {}).get("asks", ()):
+        return "make looks at it"
+    return does + " it" if does in ("reads", "writes") else does
 
 
 def name_of(about: Dict[str, Any], path: str) -> str:
@@ -134,7 +125,7 @@ def race_text(one: Judged, races: List[Race]) -> List[str]:
     found = [(race, remedy(about, race)) for race in races]
     remedies = [it for race, it in found if is_needed(verdict, race) or not it.is_edge]
     ended = ["  the lines of other races end this one too"] if not remedies else []
-    more = [more_text(about, group_of(about, races[0]), races)] if len(races) > 1 else []
+    more = [more_text(about, races)] if len(races) > 1 else []
     inside = "  in %s: %s, %s" % (target(about, races[0].first), *(who(about, races[0], it) for it in (races[0].first, races[0].second))) if of_one_recipe(about, races[0]) else ""
     return ["RACE  " + heading(about, races[0].path) + inside, *rows(about, races[0]), *result.seen(one.orders, races[0].first, races[0].second), *more, *ended, *remedy_text(about, remedies, verdict.is_fixed)]
 
@@ -155,19 +146,13 @@ def in_order(count: int, word: str) -> str:
 
 
 def group_of(about: Dict[str, Any], race: Race) -> Tuple[str, str]:
-    """What stands together: races of one kind by one writer, and all that one task meets as it lists folders."""
-    lister = [one for one, does in ((race.first, race.first_does), (race.second, race.second_does)) if does != "writes" and lists(about, one, race.path)]
-    if lister:  # guard: lists-of-folders-stand-together
-        return LISTS, lister[0]  # guard: lists-of-folders-stand-together-by-who-lists
+    """What stands together: races of one kind by one writer."""
     return kind_of(about, race).name, race.first if race.first_does == "writes" else race.second
 
 
-def more_text(about: Dict[str, Any], group: Tuple[str, str], races: List[Race]) -> str:
+def more_text(about: Dict[str, Any], races: List[Race]) -> str:
     """The line about the other races of a group."""
-    kind, label = group
     count = len(races) - 1
-    if kind == LISTS:
-        return "  and %d more on files in folders that %s lists: let it need what it lists, or write the names down" % (count, target(about, label))
     files = list(dict.fromkeys(name_of(about, race.path) for race in races))
     if len(files) == 1:
         return "  and %d more on this file by the same writer" % count

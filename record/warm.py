@@ -75,12 +75,12 @@ def is_beginning(build: MakeBuild, node: Node) -> bool:
     return node.name in first and node.name in DEFAULTS and not is_inside(build.make)  # guard: makefile-that-words-name
 
 
-def did_nothing(builds: List[Build]) -> bool:
+def did_nothing(builds: List[Build], makes: List[Make]) -> bool:
     """Whether no recipe ran, except those that call a make or a ninja and change no file: such a run is evidence of nothing. Make itself may have
     changed one, by `$(file ..)`."""
     works = [work for build in builds for task in build.tasks if task.kind == "recipe" for work in task.works]
-    acts = [work for build in builds if build.tool == "make" for work in build.make.acts.values()]
-    return all(work.makes or work.ninjas for work in works) and not any(kind in CHANGES for work in works + acts for kind, _ in work.events)  # guard: make-inside
+    acts = [act.kind for make in makes for act in make.life.acts]
+    return all(work.makes or work.ninjas for work in works) and not any(kind in CHANGES for kind in [*acts, *(kind for work in works for kind, _ in work.events)])  # guard: make-inside
 
 
 def made_unseen(makes: List[Make], ninjas: List[Ninja], names: Names, now: Dict[str, str]) -> List[str]:

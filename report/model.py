@@ -17,7 +17,7 @@ from record.fixes import Remedy, is_needed, remedy
 from record.folder import name_from
 from record.judge import Race as Found
 from record.judge import Verdict
-from record.kinds import FORGOTTEN, Kind, kind_of
+from record.kinds import Kind, kind_of
 from record.missing.report import Question
 from record.report import group_of, name_of, near, rows, spot, verb
 
@@ -32,7 +32,7 @@ class BadRecord(Exception):
 @dataclass(frozen=True)
 class Recipe:
     """A recipe: its label in the tasks, its target as it is spelled and by its name from the project's top on, the place of its rule from there on,
-    its first line, and whether it is none: only what `make` itself looks at to decide about the target."""
+    its first line, and whether it is none: only what `make` itself asks for."""
 
     label: str
     target: str
@@ -266,14 +266,12 @@ class Build:
         found = self.about["labels"].get(label, {})
         file, line = spot(self.about, label)
         file, line = (near(self.about, file, self.top), line) if file else self.first
-        is_look = found.get("kind") in ("decision", "look", "first")
         spelled = found.get("target") or label
-        return Recipe(label, spelled, self.name(spelled), file, line, found.get("recipe", "").strip(), is_look)
+        return Recipe(label, spelled, self.name(spelled), file, line, found.get("recipe", "").strip(), found.get("kind") == "group")
 
     def targets(self, labels: list[str]) -> tuple[str, ...]:
-        """The targets of some labels, each once. Where make only looks at a target, before it runs the recipe, the target is not made yet."""
-        made = (it for it in labels if self.about["labels"].get(it, {}).get("kind") not in ("look", "first"))
-        return tuple(dict.fromkeys(self.recipe(it).target for it in made))
+        """The targets of some labels, each once."""
+        return tuple(dict.fromkeys(self.recipe(it).target for it in labels))
 
     def race(self, found: Found, verdict: Verdict) -> Race:
         """A race that `race` found."""

@@ -13,7 +13,7 @@ TEXTS = {
     "configured": "builds start when ./configure has run: what it makes is there and up to date",
     "unasked": "builds have the same goals: recipes that nothing asked for are not judged",
     "luck": "processes that meet on a file come in this order in each build, though only a wait orders them that may have been luck",
-    "orders": "recipes that nothing orders come to the same in either order, though one may see more of the other than which files there are and what they hold, such as their ages",
+    "orders": "recipes that nothing orders come to the same in either order, though one may see more of the other than which files there are and what they hold, such as their ages, and so may make itself, as by $(wildcard ..) and $(shell ..)",
     "sockets": "servers that processes talk to keep no files of the build; ports that they open are free; memory is shared by processes of one recipe alone",
     "processes": "who lists the processes that run (ps, pgrep), signals or looks at one of another recipe, sets its limits (prlimit, renice, taskset), or waits for changes of files (inotify, leases), does the same whatever else runs",
     "locks": "who asks for a lock of a file, and does not wait for it, does the same where another one has it; recipes that take two locks take them in one order",

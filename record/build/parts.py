@@ -12,7 +12,7 @@ from typing import Container, Dict, List, Optional, Set, Tuple, cast
 from record.build.segments import Conflict, conflicts_in, courses_of, fork_of, owner
 from record.build.work import Part, Work
 from record.trace.courses import Course, Key, Segment, lucky_waits
-from record.trace.events import CHANGES, LOOKS, MAKES, OUTPUT, WRITTEN
+from record.trace.events import CHANGES, LOOKS, MADE, OUTPUT, WRITTEN
 from record.trace.lives import Life
 
 WORDS = 60  # signs of a command
@@ -151,7 +151,7 @@ def lives_of(course: Course) -> List[Life]:
 
 def matters(life: Life, written: Container[str]) -> bool:
     """Whether others may see that a process is left: it changes something, or looks at what somebody changes."""
-    return any(kind in CHANGES + MAKES or path in written for kind, path in life.events)
+    return any(kind in CHANGES + MADE or path in written for kind, path in life.events)
 
 
 def command(course: Course) -> str:

@@ -11,7 +11,6 @@ class Run(Protocol):
     """What a tool said of a recipe that ran."""
 
     target: str
-    is_said: bool
 
 
 @dataclass(eq=False)
@@ -37,15 +36,15 @@ class Task:
 
     label: str
     node: Node
-    kind: str  # recipe, part, decision, look, group
+    kind: str  # recipe, part, group
     after: Set[int] = field(default_factory=set)
     reads: Set[str] = field(default_factory=set)
     writes: Set[str] = field(default_factory=set)
     works: List[Work] = field(default_factory=list)
-    listed: Set[str] = field(default_factory=set)  # what it reads by a list of the folder alone
+    asks: Set[str] = field(default_factory=set)  # names for which make alone asks, for it
+    lists: Set[str] = field(default_factory=set)  # the folders that it lists
     leaves: Set[str] = field(default_factory=set)  # what it writes, and no other task touches
-    own: Set[str] = field(default_factory=set)  # what ninja itself changes for it, before its command begins
-    folders: Dict[str, Set[str]] = field(default_factory=dict)  # those that it makes where they are not there, by how that shows (make/folders.py)
+    folders: Dict[str, Set[str]] = field(default_factory=dict)  # those that it `made`, and that it `found` there when it tried
     part: Optional[Part] = None  # of a recipe, that is judged as this task: of one that is divided the one with which it ends
     parts: List[int] = field(default_factory=list)  # of a recipe that is divided: the tasks of its other parts, in order
 
@@ -53,17 +52,6 @@ class Task:
     def judged(self) -> List[Work]:
         """What is judged as this task."""
         return [self.part.work] if self.part is not None else self.works
-
-    def read(self, path: str) -> None:
-        """Reads a name, or asks for it."""
-        self.reads.add(path)
-        self.listed.discard(path)  # guard: lists-of-folders-and-read-that-is-met
-
-    def read_by_list(self, path: str) -> None:
-        """Reads a name of a folder that it lists."""
-        if path not in self.reads:  # guard: lists-of-folders-and-read
-            self.reads.add(path)
-            self.listed.add(path)
 
 
 @dataclass

@@ -8,8 +8,8 @@ if TYPE_CHECKING:
     from record.build.tasks import Task
 
 LABEL_LIMIT = 4096
-# What stands for something else than a file, as for who makes a folder.
-OWN_NAME = re.compile(r"(^|/)@(make|seen|gone|output|dyndep)(/.*)?$")
+# What stands for something else than a file: that a folder is there, which files of rules ninja has read.
+OWN_NAME = re.compile(r"(^|/)@(seen|dyndep)(/.*)?$")
 
 
 def shown(text: str) -> str:

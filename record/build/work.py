@@ -42,7 +42,6 @@ class Tool:
 
     life: Life
     folder: str
-    acts: Dict[Tuple[int, str], Work]  # by number of the round and target: what it did by itself for a recipe
 
 
 def settle_parts(work: Work) -> None:
@@ -54,14 +53,6 @@ def settle_parts(work: Work) -> None:
     for (kind, path), place in work.events.items() if work.parts else ():
         if (kind, path) not in done:
             work.parts[-1].work.add(kind, path, place)
-
-
-def take_piece(work: Work, ran: Work, events: List[Tuple[str, str, int]]) -> None:
-    """What make did by itself, and what it ran for that, belongs to a recipe."""
-    work.lives += ran.lives
-    work.makes += ran.makes
-    for kind, path, place in events:
-        work.add(kind, path, place)
 
 
 def written_by(lives: List[Life]) -> Dict[str, Tuple[int, int]]:

@@ -1,37 +1,47 @@
 """One round as a build: its tasks, with what each reads and writes."""
 
-import bisect
-from typing import Dict, List, Set
+import re
+from typing import Dict, List, Optional, Set
 
+from record.build.assumptions import Assumptions
+from record.build.builder import Builder
+from record.build.folders import add_folders
+from record.build.locks import pass_locks
 from record.build.tasks import Build, Node, Task, befores, drop_lonely, order_tasks, renumber
 from record.make.database import Base
-from record.make.folders import add_folders
-from record.make.locks import pass_locks
-from record.make.listings import place_listings
-from record.make.targets import RoundBuilder
-from record.make.unfiled import add_outputs
+from record.make.graph import Graph, MakeBuild
+from record.make.owners import Make
 from record.make.words import LATER, Words, makefiles, numbers_of
-
+from record.trace.names import Names
 
 CALLED = "$(shell ..)"  # the label of what a call of make leaves running
 
 
-class MakeBuilder(RoundBuilder):
+class MakeBuilder(Builder):
     """Makes the tasks of a round."""
+
+    make: Make
+
+    def __init__(self, make: Make, number: int, names: Names, assumed: Assumptions, before: Optional[Dict[str, str]] = None) -> None:
+        self.graph = Graph(make, number)
+        super().__init__(make, number, names, assumed, MakeBuild(make, self.graph), names.before if before is None else before)
 
     def run(self) -> Build:
         """All steps."""
         for node in self.graph.nodes.values():
             node.path = self.path_of(node.name)
-        place_listings(self)
         self.make_recipes()
         self.note_writers()
-        self.make_decisions()
-        self.note_writers()
-        self.make_first_looks()  # guard: first-looks
+        self.make_questions()  # guard: targets-that-others-make
         self.connect()
         self.fill()
         return self.build
+
+    def path_of(self, name: str) -> str:
+        """The real path of a target, as it was before the build or is now."""
+        spelled = self.graph.round.vpath.get(name, name)
+        archive = re.match(r"(.*)\((.*)\)$", spelled)
+        return self.names.find(self.make.folder, archive.group(1) if archive else spelled, True).path
 
     # ---------------------------------------------------------------- tasks
     def add(self, node: Node, kind: str, label: str) -> int:
@@ -40,73 +50,33 @@ class MakeBuilder(RoundBuilder):
         return len(self.build.tasks) - 1
 
     def make_recipes(self) -> None:
-        """A task for each target whose recipe ran, or for which make did something itself."""
+        """A task for each target whose recipe ran."""
         for node in self.graph.nodes.values():
-            acts = self.acts_work(node)
-            if node.jobs or acts is not None or (node.must and node.has_recipe):
+            if node.jobs or node.must and node.has_recipe:
                 at = self.add(node, "recipe", node.label)
                 self.of_node[node.label] = at
-                task = self.build.tasks[at]
-                task.works = [self.make.work[id(j)] for j in node.jobs if id(j) in self.make.work]
+                self.build.tasks[at].works = [self.make.work[id(j)] for j in node.jobs if id(j) in self.make.work]
                 self.build.tasks += self.add_parts(at)
         for part in self.make.left:
             self.build.tasks.append(Task(CALLED, Node(CALLED, CALLED, 0, 0), "part", part=part))
 
-    def make_decisions(self) -> None:
-        """A target that somebody writes, or one of whose prerequisites is written, is looked at, recipe or not."""
+    def make_questions(self) -> None:
+        """A task for each target whose recipe did not run, or that has none, and that a recipe writes: make has asked whether it is there. For a plain file it
+        asks before it starts what it considers later."""
         for node in self.graph.nodes.values():
-            own = self.of_node.get(node.label, -1)
-            needed = self.looked_at(node, own) + self.followed(node, own)  # guard: what-stood-behind
-            if own < 0 and any(self.is_written(p) for p in needed):  # guard: names-that-no-rule-makes
-                self.of_node[node.label] = self.add(node, "decision", node.label)
-            elif own >= 0 and self.is_leaf(node):  # guard: looks-of-leaves
-                acts = self.acts_of(node)
-                if any(self.is_written(p, own) for p in needed) or acts:  # guard: leaves
-                    self.look_of[node.label] = self.add(node, "look", node.label + "@look")
-
-    def make_first_looks(self) -> None:
-        """Make looks once whether a target is there, when it considers it first, though its prerequisites are made later."""
-        users: Dict[str, List[Node]] = {}
-        for node in self.graph.nodes.values():
-            for one in node.prerequisites:
-                users.setdefault(one, []).append(node)
-        for node in self.graph.nodes.values():
-            if self.is_seen_early(node, users):
-                self.first_of[node.label] = self.add(node, "first", node.label + "@first")
-                self.asked[node.label] = {*self.first_seen(node)}
-
-    def is_seen_early(self, node: Node, users: Dict[str, List[Node]]) -> bool:
-        """Whether it makes a difference when make first looks at a target itself."""
-        if node.phony or node.rule or node.label in self.graph.late() or self.is_leaf(node):
-            return False
-        mine = {self.of_node.get(node.label, -1), self.look_of.get(node.label, -1)}
-        others = [self.build.tasks[at].node for path in self.first_seen(node) for at in self.build.writers.get(path, set()) - mine]
-        others = [o for o in others if o.name != node.name and node.name not in self.graph.base.also.get(o.name, [])]
-        is_compared = (len(self.looked_at(u, self.of_node.get(u.label, -1))) > 1 for u in users.get(node.label, []))
-        return bool(others) and (self.has_effect(node) or any(is_compared))  # guard: what-they-change
-
-    def has_effect(self, node: Node) -> bool:
-        """Whether a target has a recipe that is more than `:`."""
-        lines = [line.strip().lstrip("@+-").strip() for line in self.graph.base.recipes.get(node.name, [])]
-        return any(line not in ("", ":", "true") for line in lines)
+            makers = self.build.writers.get(node.path, ()) if node.label not in self.of_node and not node.phony else ()
+            if any(node.prerequisites or self.build.tasks[at].node.first < node.first for at in makers):  # guard: targets-that-others-make-first
+                self.of_node[node.label] = self.add(node, "group", node.label)
 
     # ---------------------------------------------------------------- order
     def connect(self) -> None:
-        """Edges between tasks: what was asked for, the row of first looks, rows of serial makes."""
+        """Edges between tasks: what was asked for, and rows of serial makes."""
         tasks = self.build.tasks
-        keep = self.kept()
-        for label in sorted(keep, key=lambda n: self.graph.nodes[n].first):
-            if label not in self.of_node:
-                self.of_node[label] = self.add(self.graph.nodes[label], "group", label)
+        for label in sorted(self.kept(), key=lambda n: self.graph.nodes[n].first):
+            self.of_node[label] = self.add(self.graph.nodes[label], "group", label)
         after: List[Set[int]] = [set() for _ in tasks]
         for label, at in self.of_node.items():
             after[at].update(self.of_node[p] for p in self.graph.nodes[label].prerequisites if p in self.of_node)
-        for label, look in self.look_of.items():
-            after[look].update(after[self.of_node[label]])
-            after[self.of_node[label]].add(look)
-        for label, at in self.of_node.items():
-            after[at].update(self.first_of[one] for one in (label, *self.graph.nodes[label].prerequisites) if one in self.first_of)
-        self.chain_looks(after)
         if self.is_serial():
             row = [self.of_node[label] for label in self.labels_of_jobs()]
             for first, second in zip(row, row[1:]):
@@ -116,8 +86,7 @@ class MakeBuilder(RoundBuilder):
         for at, earlier in enumerate(after):
             earlier.discard(at)
         jobs = {label: n for n, label in enumerate(self.labels_of_jobs())}
-        keys = [(t.node.first if t.kind == "first" else t.node.done, jobs.get(t.node.label, 0)) for t in tasks]
-        order, _ = order_tasks(tasks, after, keys)
+        order, _ = order_tasks(tasks, after, [(task.node.done, jobs.get(task.node.label, 0)) for task in tasks])
         self.renumber(order, after)
 
     def labels_of_jobs(self) -> List[str]:
@@ -130,7 +99,7 @@ class MakeBuilder(RoundBuilder):
         return is_row(self.graph.base, self.make.words) or self.make.has_one_slot()  # guard: notparallel
 
     def kept(self) -> Set[str]:
-        """Targets without a task of their own that stand above one."""
+        """Targets without a task of their own that stand above one, and that others need."""
         users: Dict[str, List[str]] = {}
         for node in self.graph.nodes.values():
             for one in node.prerequisites:
@@ -144,22 +113,6 @@ class MakeBuilder(RoundBuilder):
                 todo.extend(users.get(label, []))
         return {n for n in seen if n not in self.of_node and n in users}
 
-    def chain_looks(self, after: List[Set[int]]) -> None:
-        """In its first pass make looks at leaves one after the other, before a recipe starts that it considers later."""
-        nodes = self.graph.nodes
-        looks = [(nodes[label].done, at) for label, at in self.look_of.items()]
-        looks += [(nodes[label].done, at) for label, at in self.of_node.items() if self.build.tasks[at].kind == "decision" and self.is_leaf(nodes[label])]
-        looks += [(nodes[label].first, at) for label, at in self.first_of.items()]
-        looks.sort()
-        for (_, first), (_, second) in zip(looks, looks[1:]):  # guard: chain-of-looks
-            after[second].add(first)
-        for label, at in self.of_node.items():
-            node = nodes[label]
-            if self.build.tasks[at].kind == "recipe":
-                earlier = bisect.bisect_left(looks, (node.first, -1))
-                if earlier:  # guard: before-recipes-that-come-later
-                    after[at].add(looks[earlier - 1][1])
-
     def renumber(self, order: List[int], after: List[Set[int]]) -> None:
         """Puts the tasks in an order, each with those that it waits for. `after`: by the old number, the old numbers of these."""
         if self.is_serial():
@@ -169,8 +122,6 @@ class MakeBuilder(RoundBuilder):
                     after[at].add(first)
         tasks, number = renumber(self.build.tasks, order, after)
         self.of_node = {n: number[a] for n, a in self.of_node.items()}
-        self.look_of = {n: number[a] for n, a in self.look_of.items()}
-        self.first_of = {n: number[a] for n, a in self.first_of.items()}
         self.build.tasks = tasks
         self.build.writers = {p: {number[a] for a in w} for p, w in self.build.writers.items()}
         self.build.bits = befores([t.after for t in tasks], list(range(len(tasks))))
@@ -178,30 +129,24 @@ class MakeBuilder(RoundBuilder):
     # ---------------------------------------------------------------- footprints
     def fill(self) -> None:
         """What each task reads and writes."""
-        build, created = self.build, self.created()
+        for task in self.build.tasks:
+            self.add_events(task)
         for label, at in self.of_node.items():
-            task, node = build.tasks[at], self.graph.nodes[label]
-            self.add_events(at, self.events(task), created)
-            looker = self.look_of.get(label, at)
-            self.add_events(self.acts_at.get(label, at), self.acts_of(node), created)
-            if task.kind != "group":
-                self.add_decision(looker, at, node)
-        for at, task in enumerate(build.tasks):
-            if task.kind == "part":
-                self.add_events(at, self.events(task), created)
-        for label, at in self.first_of.items():
-            build.tasks[at].reads.update(self.asked[label])
-        add_outputs(self)
+            self.add_asked(at, self.graph.nodes[label])
         add_folders(self)
         pass_locks(self)
         # the next build reads the makefiles that this one looked for
         drop_lonely(self.build.tasks, {self.names.find(self.make.folder, name, True).path for name in makefiles(self.make.words)})
         self.note_late()
 
-    def add_decision(self, looker: int, at: int, node: Node) -> None:
-        """Make looks at a target and at its prerequisites."""
-        task, writers = self.build.tasks[looker], self.build.writers
-        task.reads.update(path for path in self.looked_at(node, at) + self.followed(node, at) if writers.get(path, set()) - {at, looker})  # guard: they-are-read
+
+    def add_asked(self, at: int, node: Node) -> None:
+        """Make asks whether a target is there, and how old it is. What comes of that is tried out in other orders; where it is not, the target meets who writes
+        the file beside its own recipe."""
+        task = self.build.tasks[at]
+        if not (node.phony or node.path in task.reads | task.writes) and self.build.writers.get(node.path, set()) - {at}:  # guard: names-for-which-make-asks
+            task.reads.add(node.path)
+            task.asks.add(node.path)
 
 
 def is_row(base: Base, words: Words) -> bool:

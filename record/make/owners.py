@@ -1,7 +1,6 @@
-"""Who did what: each process works for a recipe of each make above it; what make does itself between two jobs has an
-owner by its place among make's words."""
+"""Who did what: each process works for a recipe of each make above it. What a make itself does, or calls as it expands a recipe, is no part of that recipe: it is
+tried out in other orders."""
 
-import bisect
 import os
 import re
 from dataclasses import dataclass, field
@@ -10,16 +9,14 @@ from typing import Container, Dict, Iterable, Iterator, List, Optional, Sequence
 
 from record import machine
 from record.build.parts import divide
-from record.build.work import Part, Tool, Work, take_piece, written_by
+from record.build.work import Part, Tool, Work, written_by
 from record.commands.system import OF_SYSTEM
 from record.commands.texts import text_of
-from record.make.asked import asked_in, patterns_of
-from record.make.database import Base
+from record.make.asked import asked_in
 from record.make.one_job import has_one_job
-from record.make.programs import Programs
-from record.make.words import Job, Round, Words, makefiles
-from record.trace.events import ABSENT, ENTERED, INSIDE, LISTED, LOOKS, MAKE_LISTED, MAKE_OPENED, READ, REMOVED, SEEN
-from record.trace.lives import Act, Life
+from record.make.words import Job, Words, makefiles
+from record.trace.events import ABSENT, ENTERED, INSIDE, LISTED, READ
+from record.trace.lives import Life
 
 SHELL = re.compile(r"\$[({]shell\s|!=")  # what calls a program while make reads or expands a text
 
@@ -32,14 +29,9 @@ class Make(Tool):
     life: Life
     folder: str
     work: Dict[int, Work] = field(default_factory=dict)  # by id of the job
-    acts: Dict[Tuple[int, str], Work] = field(default_factory=dict)  # by number of the round and target
     by_links: bool = False  # it went by links: folders have other paths than its makefiles say
-    ready: List[int] = field(default_factory=list)  # for each start: when it had read its makefiles
     is_called: bool = False  # a make above calls it by `$(shell ..)`: it has the environment with which that was started
-    listed: Dict[str, int] = field(default_factory=dict)  # folder: when it was first listed by make itself
-    looked: Dict[str, Dict[str, int]] = field(default_factory=dict)  # name as make spells it: the paths that it led to, and when first
-    lists: List[Tuple[int, str]] = field(default_factory=list)  # each list of a folder that it read by itself, or piece of one
-    first_looks: Dict[int, Dict[str, int]] = field(default_factory=dict)  # by start and target: when make first looked at it
+    lists: Set[str] = field(default_factory=set)  # folders that it listed by itself
     stale: Set[str] = field(default_factory=set)  # makefiles that say something else by now
     callers: Sequence[str] = ()  # the lines of the recipe that called it, as they stand in the makefile
     left: List[Part] = field(default_factory=list)  # processes that its own calls leave running, as `$(shell a &)`
@@ -80,22 +72,9 @@ class Make(Tool):
         kinds = self.kinds.get(path, set())
         return ABSENT in kinds and READ not in kinds and not machine.lexists(path)
 
-    def begin(self, start: int) -> int:
-        """When it began, or began again: then it knows nothing of what it has listed."""
-        return self.life.starts[start][0] if start < len(self.life.starts) else 1 << 60
-
-    def all_patterns_in(self, folder: str) -> List[str]:
-        """The patterns of names for which it looked in a folder."""
-        return self.fitting([*self.words.patterns, *self.asked_late], folder)
-
-    @cached_property
-    def asked_late(self) -> List[str]:
-        """What it looked for behind that."""
-        return [pattern for one in self.words.rounds for patterns in one.asked.values() for pattern in patterns]
-
-    def fitting(self, patterns: Iterable[str], folder: str) -> List[str]:
-        """Those of some patterns that are about names in a folder."""
-        return asked_in(patterns_of(self.words.is_deaf, tuple(patterns)), self.folder, folder, self.by_links)
+    def patterns_in(self, folder: str) -> List[str]:
+        """The patterns of names for which it looked in a folder; any name where nobody has heard them."""
+        return ["*"] if self.words.is_deaf else [*asked_in(self.words.patterns, self.folder, folder, self.by_links)]  # guard: makes-with-glob-of-their-own
 
     def has_one_slot(self) -> bool:
         """Whether it runs one job at a time whatever the user says: by its words, or as no make above hands it jobs. The words of
@@ -106,12 +85,9 @@ class Make(Tool):
 
 
 def beginning(make: Make, number: int) -> int:
-    """When a round of a make begins: the makefiles are read, and the recipes of the round before have ended."""
-    rounds = make.words.rounds
-    jobs = [job for one in rounds[:number] for job in one.jobs]
-    ended = (life.died for job in jobs if id(job) in make.work for life in make.work[id(job)].lives[:1])
-    start = rounds[number].start
-    return max([make.ready[start] if start < len(make.ready) else make.life.born, *ended])
+    """When the first recipe of a round of a make begins."""
+    works = [make.work[id(job)] for job in make.words.rounds[number].jobs if id(job) in make.work]
+    return min((life.born for work in works for life in work.lives), default=make.life.born)
 
 
 def called_by(make: Make) -> Iterator[Life]:
@@ -156,7 +132,6 @@ class Owners:
         self.has_waits = any(life.course.waited is not None for life in lives)  # a trace that was kept before waits were traced has none: then a recipe is one task
         self.jobs: Dict[int, Job] = {}  # by id of a life that make started
         self.births: Dict[int, int] = {}  # by id of a job: when its first process was born
-        self.lasts: Dict[int, int] = {}  # by id of a job: when its last process was born
         by_key = {(w.pid, w.life): w for w in words}
         for life in lives:
             if life.is_make and life.number >= 0:
@@ -210,7 +185,6 @@ class Owners:
             job = self.jobs.get(id(life))
             if job is not None:
                 self.births[id(job)] = min(life.born, self.births.get(id(job), life.born))
-                self.lasts[id(job)] = max(life.born, self.lasts.get(id(job), life.born))
         for one in make.words.rounds:
             births = [self.births.get(id(job), -1) for job in one.jobs]
             if any(b < 0 for b in births):
@@ -269,28 +243,20 @@ class Owners:
             if make is not None and make not in work.makes:
                 work.makes.append(make)
             for key, place in one.events.items():
-                if key[0] == MAKE_LISTED:
-                    for pattern in make.all_patterns_in(key[1]) if make is not None else ["*"]:  # guard: patterns-of-rules
-                        work.add(LISTED, key[1] + "\0" + pattern, place)
-                elif key[0] not in INSIDE and work.events.get(key, place + 1) > place:
-                    work.add(SEEN if key[0] == MAKE_OPENED else key[0], key[1], place)
+                if key[0] not in INSIDE:
+                    work.add(*key, place)
 
     def collect(self, make: Make) -> None:
-        """The work of all jobs of a make, and of make itself."""
+        """The work of all jobs of a make."""
         for life in make.life.children:
             job = self.jobs.get(id(life))
             if job is not None:
                 self.take(make.work.setdefault(id(job), Work()), life)
         for act in make.life.acts:
-            if act.kind == MAKE_LISTED:
-                make.listed.setdefault(act.path, act.place)
-                make.lists.append((act.place, act.path))
-            if act.word:
-                make.looked.setdefault(act.word, {}).setdefault(act.path, act.place)
-        for start, (begin, _) in enumerate(make.life.starts):
-            end = make.life.starts[start + 1][0] if start + 1 < len(make.life.starts) else 1 << 60
-            make.ready.append(self.read_by(make, start, begin, end))
-            self.place_acts(make, start, make.ready[-1], end)
+            if act.kind == LISTED:
+                make.lists.add(act.path)
+        if make.words.log and any(path == make.words.log for work in make.work.values() for _, path in work.events):  # guard: recipes-that-look-into
+            self.holes.append("a recipe looks into the file that keeps what its make prints: " + make.words.log)
 
     def divide(self, work: Work) -> List[Part]:
         """The parts of a recipe."""
@@ -305,102 +271,3 @@ class Owners:
                 work = Work()
                 self.take(work, life)
                 yield work
-
-    def read_by(self, make: Make, start: int, begin: int, end: int) -> int:
-        """When make had read its makefiles, or found that they are not there: it looks at the first of them again."""
-        names = make.words.read[start] if start < len(make.words.read) else []
-        left = [os.path.basename(n) for n in names]
-        last = begin
-        for act in make.life.acts:
-            if begin <= act.place < end:
-                if left and act.kind in (READ, ABSENT) and os.path.basename(act.path) in left:  # guard: makefiles-again
-                    left.remove(os.path.basename(act.path))
-                    last = act.place
-                elif not left and act.word in names:
-                    return act.place
-        return last
-
-    def place_acts(self, make: Make, start: int, ready: int, end: int) -> None:
-        """Gives what make did itself, after it had read, to the targets that were being made then."""
-        rounds = [(n, r) for n, r in enumerate(make.words.rounds) if r.start == start]
-        table = sorted((self.births.get(id(job), 0), number, job.number + 1) for number, one in rounds for job in one.jobs)  # the last: jobs of the round so far
-        births = [t[0] for t in table]
-        jobs = [job for _, one in rounds for job in one.jobs if job.pids[1:]]
-        names = {n for _, r in rounds for n in r.nodes} | {v for _, r in rounds for v in r.vpath.values()}
-        apart = self.removed_last(make) | self.read_archives(make, names)  # guard: not-removal-of-intermediate-files
-        asked = self.asked_names(make, rounds)
-        programs = Programs(make.words, make.life)
-        pieces: List[Tuple[int, List[Tuple[str, str, int]], Work]] = []
-        for act in make.life.acts:
-            if ready < act.place < end and (act.word not in names or programs.are_at(act.word) or id(act) in asked) and id(act) not in apart:  # guard: relative-folders
-                pieces.append((act.place, [(act.kind, act.path, act.place)], Work()))
-        for life in make.life.children:
-            if id(life) not in self.jobs and ready < life.born < end:
-                work = Work()
-                self.take(work, life)
-                pieces.append((life.born, [(k, p, s) for (k, p), s in work.events.items()], work))
-        looks = make.first_looks[start] = self.first_looks(make, names, make.begin(start), end)
-        for place, events, ran in pieces:
-            at = bisect.bisect_right(births, place)
-            before = make.words.rounds[table[at - 1][1]].jobs[table[at - 1][2] - 1] if at else None
-            last = self.lasts.get(id(before), 0)
-            later = [job for job in jobs if self.births.get(id(job), place) < place < self.lasts.get(id(job), 0)]
-            for job in {id(one): one for one in [*later, *([before] if before is not None and not before.is_ended else [])]}.values():  # make starts a line of a recipe  # guard: between-lines-of-recipe
-                take_piece(make.work.setdefault(id(job), Work()), ran, events)
-            if place > last or len(later) > 1:  # guard: not-of-next-recipe
-                owners = self.owners_at(make, rounds, table, at)  # guard: acts-of-make-belong-to-somebody
-                for number, target in {o for o in owners if looks.get(o[1], -1) < place} or owners:  # guard: not-to-what-make-looks-at-later
-                    take_piece(make.acts.setdefault((number, target), Work()), ran, events)
-
-    def removed_last(self, make: Make) -> Set[int]:
-        """Where make removes intermediate files, once no recipe runs any more: that is beside nothing. The acts, by their ids."""
-        ended = max((life.died for life in make.life.children if id(life) in self.jobs), default=0)
-        names = {os.path.normpath(os.path.join(make.folder, name)) for r in make.words.rounds if r.base is not None for name in r.base.intermediate}
-        return {id(act) for act in make.life.acts if act.kind == REMOVED and act.place > ended and act.path in names}
-
-    def asked_names(self, make: Make, rounds: List[Tuple[int, Round]]) -> Set[int]:
-        """The looks at names for which recipes ask, as by `$(wildcard a)`: the last before a recipe begins. The C library of Debian 11 looks as make does at a
-        target, later ones by `lstat`. The acts, by their ids."""
-        acts: Dict[str, List[Act]] = {}
-        for act in make.life.acts if any(one.asked for _, one in rounds) else ():
-            acts.setdefault(act.path, []).append(act)
-        found: Set[int] = set()
-        for job, name in ((job, name) for _, one in rounds for job in one.jobs for name in one.asked.get(job.target, ())):
-            before = [act for path in make.looked.get(name, ()) for act in acts[path] if act.place < self.births.get(id(job), 0)]
-            found.update(map(id, sorted(before, key=lambda act: act.place)[-1:]))
-        return found  # guard: names-that-recipes-ask-for
-
-    @staticmethod
-    def read_archives(make: Make, names: Set[str]) -> Set[int]:
-        """Make's looks into archives, by which it finds the ages of members: they are looks at these targets. The acts, by their ids."""
-        archives = {os.path.normpath(os.path.join(make.folder, name.partition("(")[0])) for name in names if name.endswith(")")}
-        return {id(act) for act in make.life.acts if act.kind in LOOKS and act.path in archives}
-
-    @staticmethod
-    def first_looks(make: Make, names: Set[str], begin: int, end: int) -> Dict[str, int]:
-        """When make first looked at each target: its recipe is expanded behind that. None where its words say how old files are."""
-        found: Dict[str, int] = {}
-        if re.search(r"(^| )(-[a-zA-Z]*[oW]|--(old|new|what|assume))", make.words.args + " " + make.words.flags):
-            return found
-        for act in make.life.acts:
-            if act.word in names and begin <= act.place < end:
-                found.setdefault(act.word, act.place)
-        return found
-
-    @staticmethod
-    def owners_at(make: Make, rounds: List[Tuple[int, Round]], table: List[Tuple[int, int, int]], at: int) -> Set[Tuple[int, str]]:
-        """The targets that were being made when so many jobs had begun: those that had to be since the last job, and that of the next."""
-        owners: Set[Tuple[int, str]] = set()
-        before: Optional[Tuple[int, int]] = (table[at - 1][1], table[at - 1][2]) if at else None
-        if at < len(table):
-            _, number, done = table[at]
-            owners.add((number, make.words.rounds[number].jobs[done - 1].target))
-        for number, one in rounds:
-            done = before[1] if before and before[0] == number else 0
-            if before and number < before[0] or at < len(table) and number > table[at][1]:
-                continue
-            if before is None and at < len(table) and number != table[at][1] and one.jobs:
-                continue
-            base = one.base or Base()
-            owners.update((number, t) for t in one.due.get(done, ()) if t in base.recipes or t not in base.prerequisites)  # a name like `x:` may not be read  # guard: what-had-to-be-made
-        return owners

@@ -13,7 +13,7 @@ TWO = "this file system takes %s and %s for one file, and the build uses both na
 
 def used(lives: Iterable[Life]) -> Iterator[Tuple[str, str]]:
     """What processes did, to which path."""
-    return ((kind, path.partition("\0")[0].rstrip("/")) for life in lives for kind, path in life.events)
+    return ((kind, path.rstrip("/")) for life in lives for kind, path in life.events)
 
 
 def made(makes: Iterable[Make], names: Names) -> Iterator[str]:

@@ -35,7 +35,6 @@ class Job:
     target: str
     number: int
     pids: List[int] = field(default_factory=list)
-    is_said: bool = False  # it printed something, or make did so for it, and somebody keeps that
     is_ended: bool = False  # make has said so; it does not where the last line names a program that is not there, and may fail
 
 
@@ -61,7 +60,6 @@ class Round:
     must: Dict[str, int] = field(default_factory=dict)  # target: jobs before its line
     failed: List[str] = field(default_factory=list)
     vpath: Dict[str, str] = field(default_factory=dict)
-    asked: Dict[str, List[str]] = field(default_factory=dict)  # target: what make looked for by `glob` while it expanded the recipe; "": what for none
     base: Optional[Base] = None
 
     @cached_property
@@ -94,8 +92,7 @@ class Words:
     environment: FrozenSet[str] = frozenset()  # the names of the variables that it found there
     below: bool = False  # a make above has handed it flags
     slots: str = ""  # how many jobs its own words ask for: digits, or `all`
-    has_log: bool = False  # its output goes to a file, and not where that of the build goes
-    log: str = ""  # the path of that file
+    log: str = ""  # the file to which its output goes, where that of the build does not go there
     version: str = ""
     status: Optional[int] = None
     rounds: List[Round] = field(default_factory=list)
@@ -106,7 +103,7 @@ class Words:
     place: str = ""  # how the paths of its copies begin
     times: "Counter[str]" = field(default_factory=Counter)  # by name of a makefile: how often make has read it
     copies: Dict[str, List[str]] = field(default_factory=dict)  # those that the build had made: copies of what make has read
-    patterns: List[str] = field(default_factory=list)  # what it looked for by `glob` while it read makefiles
+    patterns: List[str] = field(default_factory=list)  # what it looked for by `glob`
     is_deaf: bool = False  # nobody hears what it looks for: it has a `glob` of its own
     start: Start = field(default_factory=Start)  # how it was called
     loaded: List[str] = field(default_factory=list)  # objects that it has loaded into itself
@@ -151,8 +148,6 @@ class _Reader:
         self.children: Dict[str, Job] = {}
         self.clock = 0
         self.name = ""  # the makefile that it reads
-        self.is_said = False  # make has printed something since it began a process
-        self.made = ""  # the target whose recipe it expands
         self.found: Dict[str, str] = {}  # by path: the target that make has found there
 
     def begin(self, stage: str) -> None:
@@ -165,7 +160,6 @@ class _Reader:
         """A line about a job: it starts, goes on with its next line, or has ended. Make names it by a pointer, which a later job may have too."""
         if self.round is None:
             return
-        self.made = ""
         owner = self.children.get(pointer)
         if what == "Putting child" or what == "Live child" and (owner is None or owner.target != name):  # the first line that ran was not the first
             owner = self.children[pointer] = Job(name, len(self.round.jobs))
@@ -175,7 +169,6 @@ class _Reader:
         if owner is not None:
             if owner.pids[-1:] != [pid]:  # guard: jobs-of-one-number-in-order
                 owner.pids.append(pid)
-                owner.is_said, self.is_said = owner.is_said or self.is_said, False
                 self.words.jobs.setdefault(pid, []).append(owner)
                 self.words.processes.append((pid, owner))
             owner.is_ended = what == "Removing child"
@@ -183,7 +176,7 @@ class _Reader:
     def considered(self, depth: int, name: str) -> None:
         """Make considers a target: it is a prerequisite of the last one that is less deep, or a goal."""
         assert self.round is not None
-        self.made, name = "", self.found.get(name, name)  # guard: targets-in-search-paths
+        name = self.found.get(name, name)  # guard: targets-in-search-paths
         while self.stack and self.stack[-1][0] >= depth:
             self.stack.pop()
         nodes = self.round.nodes
@@ -231,26 +224,15 @@ class _Reader:
         """Whether make has read its makefiles, since it was started anew."""
         return self.round is not None and self.round.start == len(self.words.read) - 1
 
-    def looks_for(self, pattern: str) -> None:
-        """A pattern for which make looks: in a recipe that it expands, or elsewhere."""
-        if self.round is not None and self.is_making():
-            self.round.asked.setdefault(self.made, []).append(pattern)  # guard: recipes-that-look
-        else:
-            self.words.patterns.append(pattern)
-
     def is_of_library(self, text: str) -> bool:
         """Whether a line is one that the library adds to make's own (watch.c); what it says is kept."""
         (key, _, value), words = text.partition(" "), self.words
-        if key in ("SAID", "GREW"):
-            self.is_said = self.is_said or key == "SAID" or not self.children
-            for job in self.children.values():
-                job.is_said = True
-        elif key == "COPY":
+        if key == "COPY":
             number, _, path = value.partition(" ")
             if path == self.name or path.endswith("/" + self.name):
                 words.copies.setdefault(self.name, []).append("%s%s.read" % (words.place, number))
         elif key == "GLOB":
-            self.looks_for(value)
+            words.patterns.append(value)
         elif key == "DEAF":
             words.is_deaf = True
         elif key == "EXIT":
@@ -273,8 +255,7 @@ class _Reader:
             self.round.vpath[name] = path
             self.found.update({path: name} if path not in self.round.nodes else {})
         elif must:
-            self.made = must.group(1)
-            self.round.must.setdefault(self.made, len(self.round.jobs))
+            self.round.must.setdefault(must.group(1), len(self.round.jobs))
         elif FAILED.match(text):
             self.round.failed.append(FAILED.match(text).group(1))  # type: ignore[union-attr]
 
@@ -327,8 +308,7 @@ def begun(words: Words, start: Start, own: Container[Tuple[int, int]]) -> Words:
     words.flags, words.environment = start.environment.get("MAKEFLAGS", ""), frozenset(start.environment)
     words.slots = own_jobs(start.args)
     words.below = {"MAKELEVEL", "MAKEFLAGS"} <= words.environment
-    words.has_log = first.kind == "f" and (first.device, first.number) not in own
-    words.log = first.path if words.has_log else ""
+    words.log = first.path if first.kind == "f" and (first.device, first.number) not in own else ""
     return words
 
 

@@ -3,14 +3,13 @@
 import os
 import re
 from dataclasses import dataclass
-from fnmatch import fnmatchcase
 from typing import Dict, Iterable, List, Mapping, Set, Tuple
 
 from record.build.tasks import Task
 from record.commands.shelltext import is_removal
 from record.make.graph import MakeBuild
-from record.make.owners import called_by
 from record.tools.python import BYTE_CODE
+from record.trace.events import ABSENT, LISTED
 from record.trace.names import Names
 
 CHANGES = "WCD"
@@ -63,20 +62,9 @@ class Footprints:
         self.seen.absent -= self.written
 
     def events(self, task: Task) -> Iterable[Tuple[str, str]]:
-        """What a recipe did, and what make did for it."""
+        """What a recipe did."""
         for work in task.works:
             yield from work.events
-        acts = self.build.make.acts.get((self.build.graph.number, task.node.name)) if task.node.rule == 0 else None
-        looks = self.build.make.looked.get(task.node.name, {})
-        seen = min(looks.values(), default=0)  # what came earlier is what the makefiles call while they are read
-        if acts is not None:
-            born = min((life.born for work in task.works for life in work.lives), default=1 << 60)
-            again = self.called_between(seen, born) if min(acts.events.values(), default=seen + 1) <= seen else set()
-            yield from (event for event, place in acts.events.items() if place > seen or event in again)  # guard: what-make-does-for-recipe
-
-    def called_between(self, seen: int, born: int) -> Set[Tuple[str, str]]:
-        """What make itself calls before a recipe starts: a file may be read for the recipe though it was read earlier too."""
-        return {event for life in called_by(self.build.make) if seen < life.born < born for event in life.events}
 
     def is_inside(self, path: str) -> bool:
         """Whether a name is in the project, and not in the record."""
@@ -84,7 +72,7 @@ class Footprints:
 
     def take(self, at: int, kind: str, path: str) -> None:
         """One event."""
-        name = path.rstrip("/").partition("\0")[0]
+        name = path.rstrip("/")
         if kind == "t" and not os.path.isdir(name):
             self.set_back.add(name)
         if kind not in "RSlNLWCDMTE":
@@ -109,11 +97,10 @@ class Footprints:
 
     def removed_later(self, at: int, task: Task) -> Set[str]:
         """What a recipe finds nothing to remove of in this build, and what another recipe makes: a later build has it when the first one runs."""
-        asked = {path.rstrip("/") for work in task.works for life in work.lives if is_removal(life.argv) for kind, path in life.events if kind in "NL"}
-        plain, listed = {path for path in asked if "\0" not in path}, [path.split("\0") for path in asked if "\0" in path]
-        others = set().union(*(writes for other, writes in enumerate(self.writes) if other != at)) - self.writes[at] if asked else set()
-        return {path for path in others if any(is_below(path, name) for name in plain)  # guard: trees-that-it-removes-later
-                or any(os.path.dirname(path) == folder and fnmatchcase(os.path.basename(path), pattern) for folder, pattern in listed)}  # guard: patterns-that-it-removes-later
+        lives = [life for work in task.works for life in work.lives if is_removal(life.argv)]
+        plain, listed = ({path.rstrip("/") for life in lives for event, path in life.events if event == kind} for kind in (ABSENT, LISTED))
+        others = set().union(*(writes for other, writes in enumerate(self.writes) if other != at)) - self.writes[at] if lives else set()
+        return {path for path in others if any(is_below(path, name) for name in plain) or os.path.dirname(path) in listed}  # guard: trees-that-it-removes-later
 
     @staticmethod
     def is_read_first(task: Task, path: str) -> bool:

@@ -7,15 +7,12 @@ What make itself looks for is no part of it: later_graph.py compares what it kno
 import os
 from typing import Dict, Iterator, List, Optional, Sequence, Set, Tuple
 
-from record.build.tasks import Task
 from record.build.work import Work
 from record.commands.shelltext import base_name, is_removal, shell_text
-from record.make.asked import MAGIC
 from record.make.graph import MakeBuild
 from record.make.owners import Make, called_by
 from record.missing.footprints import is_below
 from record.tools.python import BYTE_CODE
-from record.trace.lists import fits
 from record.trace.courses import Key
 from record.trace.lives import Life
 from record.trace.names import Names
@@ -65,8 +62,6 @@ class Turned:
             self.note_changes(life)
         for life in self.lives:
             self.note_looks(life, self.chain(life), life.events)
-        for build in builds:
-            self.note_expanding(build)
 
     def chain(self, life: Life) -> List[Work]:
         """The recipes that a process works for, the innermost last."""
@@ -95,9 +90,8 @@ class Turned:
             if kind in "NSRl" and path in self.changes and self.differs(kind, path):
                 self.compare(life, mine, path, place)
             elif kind == "L":  # guard: what-later-recipes-list
-                folder, _, pattern = path.partition("\0")
-                for name in self.below(folder, shell_text(life.argv) == ""):
-                    if self.is_there(name) != self.was_there(name, place) and name.endswith(ends) and fits(pattern, name, self.names, not os.path.isfile(name)):  # guard: later-build
+                for name in self.below(path, shell_text(life.argv) == ""):
+                    if self.is_there(name) != self.was_there(name, place) and name.endswith(ends):  # guard: later-build
                         self.compare(life, mine, name, place)
 
     def below(self, folder: str, deep: bool) -> Iterator[str]:
@@ -106,26 +100,6 @@ class Turned:
         for one in self.folders if deep else ():
             if one != folder and is_below(one, folder) and one not in self.names.before:  # guard: new-folders
                 yield from self.folders[one]
-
-    def note_expanding(self, build: MakeBuild) -> None:
-        """What processes look for that make calls when it expands a recipe, and the folders that a recipe lists by `$(wildcard ..)`."""
-        make = build.make
-        seen = {event for life in called_by(make) for event in life.events}
-        for task in build.tasks:
-            if task.works and task.node.rule == 0:
-                acts = make.acts.get((build.graph.number, task.node.name))
-                events = {event: place for event, place in acts.events.items() if event in seen} if acts is not None else {}  # guard: processes-in-recipes
-                events.update(self.expanded_lists(build, task))  # guard: lists-in-recipes
-                self.note_looks(make.life, [*self.chain(make.life), task.works[0]], events)
-
-    def expanded_lists(self, build: MakeBuild, task: Task) -> Iterator[Tuple[Key, int]]:
-        """What a recipe asks for by `$(wildcard ..)`. Make keeps a list once it has read it: that of a later build may say more."""
-        make, asked = build.make, build.graph.round.asked.get(task.node.name, [])
-        born = min((life.born for life in task.works[0].lives), default=0)
-        for folder, place in make.listed.items() if asked else ():
-            yield from ((("L", folder + "\0" + pattern), place) for pattern in make.fitting(asked, folder))
-        for path in {self.names.find(make.folder, word, True).path for word in asked if not MAGIC.search(word)}:
-            yield ("S" if self.was_there(path, born) else "N", path), born  # guard: names-in-recipes
 
     def differs(self, kind: str, path: str) -> bool:
         """Whether a look has another answer at the end; what was read, and is there, may have changed."""

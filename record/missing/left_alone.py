@@ -5,10 +5,9 @@ A make inside a recipe makes only what is stale. A script compares what it makes
 
 import os
 import re
-from typing import Dict, Optional
+from typing import Dict
 
 from record.build.tasks import Task
-from record.build.work import Work
 from record.make.database import Base
 from record.make.texts import Texts
 
@@ -63,11 +62,9 @@ def asks_what_is_newer(name: str, known: Texts) -> bool:
     return any(NEWER.search(one.replace("$$", "  ")) for one in (text, *map(known.text_of, known.reached(text))))  # guard: canned-recipes
 
 
-def expands_by_files(task: Task, known: Texts, acts: Optional[Work]) -> bool:
-    """Whether make looks at files when it expands a recipe, which may be empty then: by functions, or by a process that it calls
-    and that looks at what the recipe writes."""
+def expands_by_files(task: Task, known: Texts) -> bool:
+    """Whether make looks at files when it expands a recipe, which may be empty then."""
     text = "\n".join(known.base.recipes.get(task.node.name, ()))
     values = known.base.values
     texts = [text, *(one for name in known.reached(text) for one in (values.get(name, ""), *known.base.bodies.get(name, ())))]
-    written = {path for work in task.works for kind, path in work.events if kind in "CW"}
-    return any(FILES.search(one) for one in texts) or acts is not None and any(kind in "RSN" and path in written for kind, path in acts.events)  # guard: functions-that-look-for-files
+    return any(FILES.search(one) for one in texts)  # guard: functions-that-look-for-files

@@ -107,12 +107,11 @@ class OldTree:
         task, never = self.build.tasks[at], self.stand_in(NEVER, "/")[: -len("root")]
         is_forced = any(one in self.fresh or one.startswith(never) for one in self.needs[at])
         asks = asks_what_is_newer(task.node.name, self.known)
-        acts = self.build.make.acts.get((self.build.graph.number, task.node.name))
         if asks:
             self.premises.add("newer", task.node.name)
         if asks and is_forced:  # guard: what-is-newer
             self.needs[at] = [one for one in self.needs[at] if not one.startswith(never)]
-        if asks and is_forced or keeps(task, path, self.first, is_forced) or is_forced and expands_by_files(task, self.known, acts):
+        if asks and is_forced or keeps(task, path, self.first, is_forced) or is_forced and expands_by_files(task, self.known):
             self.kept.add(at)
         elif is_forced:
             self.fresh.update({path}, self.tasks[at].writes)

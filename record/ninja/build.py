@@ -1,22 +1,22 @@
 """One stage of a ninja as a build: a task for each build statement whose command ran, and for each that passes order on."""
 
 import os
+from pathlib import Path
 from typing import Any, Dict, List, Set
 
 from record.build.assumptions import Assumptions
 from record.build.builder import Builder
 from record.build.tasks import Build, Node, Task, befores, drop_lonely, order_tasks, renumber
 from record.build.work import Work
-from record.make.folders import add_folders, apart, parents
-from record.make.locks import pass_locks
+from record.build.folders import add_folders, apart
+from record.build.locks import pass_locks
 from record.ninja.fix import owner_of
 from record.ninja.manifest import Edge
 from record.ninja.runs import NEVER, Job, Ninja, Stage
-from record.trace.lists import fits
+from record.trace.events import MADE, MADE_BEFORE
 from record.trace.names import Names, join
 
 TEXT_LIMIT = 400
-LOG, DEPS = ".ninja_log", ".ninja_deps"
 FIRST, PRIME, BITS = 14695981039346656037, 1099511628211, (1 << 64) - 1
 
 
@@ -56,7 +56,7 @@ class NinjaBuild(Build):
 
 
 class NinjaBuilder(Builder):
-    """Makes the tasks of a stage; footprints, folders and ages are those of make's builds."""
+    """Makes the tasks of a stage; footprints and folders are those of make's builds."""
 
     build: NinjaBuild
 
@@ -215,51 +215,29 @@ class NinjaBuilder(Builder):
 
     def add_folder(self, work: Work, folder: str, place: int) -> None:
         """Ninja makes a folder, and those above it, if they are not there."""
-        for above in [folder] + parents(folder):
-            if self.is_known(above) and (self.before.get(above) != "d" or above in self.removed):
-                work.add("T", above, place)  # guard: its-folders-are-made-quietly
+        for above in (folder, *map(str, Path(folder).parents)):
+            if self.names.is_inside(above) and (self.before.get(above) != "d" or above in self.removed):
+                work.add(MADE_BEFORE, above, place)  # guard: its-folders-are-made-quietly
 
     def check_folders(self) -> None:
         """Each folder that ninja made while commands ran is one of a statement."""
         end = min((other.opened for other in self.ninja.stages if other.opened > self.stage.opened), default=NEVER)
         begin = min(job.life.born for job in self.stage.jobs)
-        owned = {path for job in self.stage.jobs for kind, path in job.work.events if kind == "T"}
+        owned = {path for job in self.stage.jobs for kind, path in job.work.events if kind == MADE_BEFORE}
         for (kind, path), place in self.ninja.life.events.items():
-            if kind in "MT" and begin < place < end and path not in owned and self.is_known(path):
+            if kind == MADE and begin < place < end and path not in owned and self.names.is_inside(path):
                 self.holes.append("ninja made the folder %s, and no statement needs it" % path)  # guard: folder-of-no-statement
 
     # ---------------------------------------------------------------- footprints
     def fill(self) -> None:
         """What each task reads and writes."""
-        created = self.created()
-        for at, task in enumerate(self.build.tasks):
-            self.add_events(at, self.events(task), created)
-        self.add_logs()  # guard: its-log
+        for task in self.build.tasks:
+            self.add_events(task)
         add_folders(self)
         self.add_files_of_dyndep()  # guard: outputs-that-dyndep-file-adds
         pass_locks(self)  # guard: ninja
         drop_lonely(self.build.tasks, set())
-        self.note_own()
         self.note_late()
-
-    def add_logs(self) -> None:
-        """A command that reads the logs of its ninja sees which commands have ended: ninja writes a line for each. One that lists their folder sees whether the
-        first one has ended, as ninja makes its logs then."""
-        tasks, folder = self.build.tasks, self.full(self.stage.manifest.top.value("builddir") or ".")
-        ran = {at for at, task in enumerate(tasks) if task.works}
-        for name, makers in (LOG, ran), (DEPS, {at for at in ran if self.build.edges[at].value("deps")}):  # guard: its-log-of-headers-among-names
-            path = join(folder, name)
-            is_new = self.ninja.life.events.get(("C", path), -1) > self.stage.opened  # guard: ninjas-own-log
-            for at in sorted(ran):
-                if any(kind in "RSNl" and found == path for work in tasks[at].works for kind, found in work.events):
-                    apart(self, path + "/@output", "which commands stand in the log of ninja", at, ran - {at})
-                elif is_new and self.lists(at, path) and not any(self.build.is_before(maker, at) for maker in makers):  # guard: its-log-among-names
-                    apart(self, path + "/@output", "that the log of ninja is there", at, makers - {at})
-
-    def lists(self, at: int, path: str) -> bool:
-        """Whether a task lists the folder of a path for such names."""
-        found = (name.split("\0") for work in self.build.tasks[at].works for kind, name in work.events if kind == "L")
-        return any(folder == os.path.dirname(path) and fits(pattern, path, self.names) for folder, pattern in found)  # guard: log-that-does-not-fit
 
     def put_makers_first(self) -> None:
         """Lists who makes a declared output before who reads it, where nothing orders the two: a fix then lets the reader wait."""

@@ -58,7 +58,6 @@ class Ninja(Tool):
     file: str
     goals: List[str]
     stages: List[Stage] = field(default_factory=list)
-    acts: Dict[Tuple[int, str], Work] = field(default_factory=dict)  # none: what ninja does has its place in the jobs
     log: str = ""
     logged: Optional[List[str]] = None  # the outputs that were added to its log, if that is known
     is_tried: bool = False  # by CMake, in a folder of its own that is gone

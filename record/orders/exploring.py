@@ -2,6 +2,7 @@
 
 from __future__ import annotations
 
+import json
 import os
 import sys
 import tempfile
@@ -11,10 +12,11 @@ from pathlib import Path
 from typing import Any
 
 from record.folder import Record, runs_programs
+from record.judge import judge, unshown
 from record.orders.builds import BESIDE, CannotTry, Plan, Room, Running, is_child_able
+from record.orders.gate import Key
 from record.orders.graph import Graph
-from record.orders.joined import contested, join
-from record.orders.softness import conflicts
+from record.orders.joined import contested, join, judged
 from record.orders.trees import held_by, remove
 from record.orders.trial import Trial
 from record.watch.lay import leave
@@ -84,8 +86,8 @@ def explore(room: Room, record: Record, out: Path, race: str, most: int, running
     if not SHARED.isdisjoint(one["kind"] for one in record.assumptions):  # guard: what-builds-beside-could-see
         running.end()
     graph = Graph(out)
-    soft, after = conflicts(graph, race, room.top)
-    trial = Trial(room, graph, [held_by(Path(top), str(out)) for top in room.tops], soft, after, most, {*record.markers}, record.is_parallel)
+    after = fixes(graph, race, room.top / "tasks")
+    trial = Trial(room, graph, [held_by(Path(top), str(out)) for top in room.tops], after, most, {*record.markers}, record.is_parallel)
     count = trial.expected() - (0 if not running.children else 1 if after else 2)
     if count:
         say(count, record, "; one more for each step where something differs")
@@ -96,7 +98,22 @@ def explore(room: Room, record: Record, out: Path, race: str, most: int, running
         other = Graph(room.top / "record")
         trial.overlap(contested(graph, other))  # guard: folders-that-two-make
         join(graph, other)
-    trial.soft, _ = conflicts(Graph(out), race, room.top)
-    trial.cleared = [pair for pair in trial.cleared if pair in trial.soft]
-    trial.left.soft = [pair for pair in trial.left.soft if pair in trial.soft]
     return trial.result()
+
+
+def fixes(graph: Graph, race: str, text: Path) -> dict[Key, set[Key]]:
+    """Which recipe has to wait for which so that no two conflict, by what `race` says, other than on what is tried out. `CannotTry` where it does not judge a
+    build."""
+    after: dict[Key, set[Key]] = {}
+    for number, build in graph.builds.items():
+        with open(text, "w", encoding="utf-8") as file:
+            for row in graph.rows[number]:
+                file.write(json.dumps(judged(build, row)) + "\n")
+        verdict = judge(race, text, build["folder"])
+        if verdict.refused:
+            raise CannotTry("no verdict on build %s" % number)
+        for late, _, early in (unshown(line).partition(": ") for line in verdict.fix):
+            keys = [graph.tasks[graph.recipe_of(number, label)].key if (number, label) in graph.at else None for label in (late, early)]
+            if keys[0] and keys[1]:
+                after.setdefault(keys[0], set()).add(keys[1])
+    return after

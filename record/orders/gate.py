@@ -55,14 +55,13 @@ def held_command(pid: int) -> str:
 class Gate:
     """What waits, and what has begun. `places`: of each recipe its place in the order; of those that wait the one with the greatest begins. `after`: those
     that one waits for besides. `is_flipped`: of those without a place, or of one place, the last that came begins, and else the first. `at_once`: so many
-    may run side by side, of those that wait for no other one and are not `alone`."""
+    may run side by side, of those that wait for no other one."""
 
     top: Path  # the folder of the build: `gate` in it is the socket
     places: Mapping[Key, float]
     after: Mapping[Key, set[Key]] = field(default_factory=dict)
     is_flipped: bool = False
     at_once: int = 1
-    alone: frozenset[Key] = frozenset()
     unknown: float = LAST  # the place of recipes that have none
     waiting: dict[int, socket.socket] = field(default_factory=dict)
     began: list[Key] = field(default_factory=list)
@@ -156,12 +155,10 @@ class Gate:
         return pid in self.targets or held_words(pid)[:1] == [BY_NINJA]
 
     def beside(self, rows: Mapping[int, tuple[int, str, Key]], free: Sequence[int]) -> list[int]:
-        """Those of some processes that may begin beside what runs. A recipe with a make in it runs what that starts, and one that began before those for which
-        it waits, since nothing else could, runs alone."""
+        """Those of some processes that may begin beside what runs: none beside one that began before those for which it waits, since nothing else could. A recipe
+        with a make in it runs what that starts."""
         outer = {key[:length] for key in (*self.running, *(key for _, _, key in rows.values())) for length in range(1, len(key))}
-        alone = self.alone  # guard: recipes-that-run-alone
-        is_full = len(self.running.keys() - outer) >= self.at_once or not alone.isdisjoint(self.running) or not all(map(self.may_begin, self.running))
-        return [pid for pid in free if not is_full and rows[pid][2] not in alone]
+        return list(free) if len(self.running.keys() - outer) < self.at_once and all(map(self.may_begin, self.running)) else []
 
     def turn(self, root: int) -> bool:
         """Lets a recipe begin, if nothing else can happen, or if it may run beside others; whether one does."""

@@ -29,23 +29,6 @@ class Task:
 
 
 @dataclass
-class Left:
-    """Pairs that no other order has tried yet: for each recipe the earlier ones, and those with soft conflicts, also of what make does by itself."""
-
-    recipes: list[int]
-    soft: list[Pair]
-
-    def all(self) -> Iterator[Pair]:
-        """All of them."""
-        yield from ((first, second) for second, some in enumerate(self.recipes) for first in numbers(some))
-        yield from (pair for pair in self.soft if not self.recipes[pair[1]] >> pair[0] & 1)
-
-    def count(self) -> int:
-        """How many there are."""
-        return size(self.recipes) + sum(not self.recipes[second] >> first & 1 for first, second in self.soft)
-
-
-@dataclass
 class Graph:
     """The tasks of a record in the order of its build: those of a make stand behind the recipe that runs it."""
 
@@ -126,9 +109,12 @@ class Graph:
 
     def left_by(self, number: str, label: str) -> set[str]:
         """What a task of a build writes."""
-        build = self.builds[number]
         own: Sequence[str] = self.row_of.get((number, label), {"writes": ()})["writes"]
-        return {os.path.normpath(os.path.join(build["folder"], path)) for path in (*own, *build["labels"].get(label, {}).get("leaves", ()))}
+        return {self.whole(number, path) for path in (*own, *self.builds[number]["labels"].get(label, {}).get("leaves", ()))}
+
+    def whole(self, number: str, path: str) -> str:
+        """A path of a build, from the root on."""
+        return path if path.startswith("/") else "%s/%s" % (self.builds[number]["folder"].rstrip("/"), path)
 
     @cached_property
     def row_of(self) -> dict[tuple[str, str], dict[str, Any]]:
@@ -153,8 +139,7 @@ class Graph:
 
     def free_pairs(self) -> tuple[int, str]:
         """The same, and the first of them."""
-        first = next(Left(self.free, []).all(), ())
-        return self.pairs(), " and ".join(self.tasks[at].label for at in first)
+        return self.pairs(), " and ".join(self.tasks[at].label for at in next(pairs_of(self.free), ()))
 
     def turned(self, began: Sequence[Key]) -> list[int]:
         """For each task those that came before it in the serial build, and behind it in another one, of which this is the log."""
@@ -166,51 +151,33 @@ class Graph:
                 found[at] = left & self.free[at]
         return found
 
-    def places(self, began: Sequence[Key]) -> list[float]:
-        """When each task ran in a build: make looks at what needs no recipe as soon as those before it have ended."""
-        found = [-1.0] * len(self.tasks)
-        for place, key in enumerate(began):
-            if key in self.keys:
-                found[self.keys[key]] = place
-        for at, one in enumerate(self.tasks):
-            if one.key is None:
-                found[at] = max((found[other] + 0.5 for other in numbers(one.before & self.recipes)), default=-0.5)  # guard: looks-of-make
-        return found
-
-    def behind(self, left: Left, began: Sequence[Key]) -> Left:
+    def behind(self, left: Sequence[int], began: Sequence[Key]) -> list[int]:
         """Those of some pairs that a build ran in the order of the serial one, too."""
-        places = self.places(began)
-        return Left([some & ~earlier for some, earlier in zip(left.recipes, self.turned(began))], [pair for pair in left.soft if not places[pair[1]] < places[pair[0]]])
+        return [some & ~earlier for some, earlier in zip(left, self.turned(began))]
 
     def flipped(self) -> dict[Key, float]:
         """Always the last ready recipe of the serial order."""
         return {key: float(at) for key, at in self.keys.items()}
 
-    def covering(self, left: Left) -> dict[Key, float]:
+    def covering(self, left: Sequence[int]) -> dict[Key, float]:
         """An order that turns round as many of some pairs as it can, and at least the first of them."""
         score = [0] * len(self.tasks)
-        for first, second in left.all():
+        for first, second in pairs_of(left):
             score[second] += 1
             score[first] -= 1
         found = self.ordered(score)
         if self.behind(left, sorted(found, key=lambda key: -found[key])) == left:
-            first = next(left.all())[1]
+            _, first = next(pairs_of(left))
             found = self.ordered([int((self.tasks[first].before | 1 << first) >> task & 1) for task in range(len(self.tasks))])
         return found
 
-    def kept_apart(self, left: Left, places: Mapping[Key, float]) -> tuple[dict[Key, set[Key]], frozenset[Key]]:
-        """What keeps some pairs apart in an order, where others run side by side: which recipe waits for which, and which run alone, as make does something
-        by itself before or behind them."""
+    def kept_apart(self, left: Sequence[int], places: Mapping[Key, float]) -> dict[Key, set[Key]]:
+        """Which recipe waits for which so that some pairs keep an order, where others run side by side."""
         after: dict[Key, set[Key]] = {}
-        alone: set[Key] = set()
-        for first, second in left.all():
-            one, other = self.tasks[first].key, self.tasks[second].key
-            if one is None or other is None:
-                alone.update(filter(None, (one, other)))
-            else:
-                early, late = (one, other) if places[one] > places[other] else (other, one)
-                after.setdefault(late, set()).add(early)
-        return after, frozenset(alone)
+        for pair in pairs_of(left):
+            late, early = sorted((key for at in pair for key in [self.tasks[at].key] if key is not None), key=lambda key: places[key])
+            after.setdefault(late, set()).add(early)
+        return after
 
     def ordered(self, score: Sequence[int]) -> dict[Key, float]:
         """The places of all recipes in such an order."""
@@ -238,12 +205,12 @@ class Graph:
             makers: dict[str, set[int]] = {}
             users: dict[str, set[int]] = {}
             for row in rows:
-                at, lists = self.at[number, row["task"]], self.builds[number]["labels"].get(row["task"], {}).get("lists", ())
-                for path in row["writes"]:
+                label, at = row["task"], self.at[number, row["task"]]
+                for path in self.left_by(number, label):
                     makers.setdefault(file_of(path), set()).add(at)
-                    makers.setdefault(os.path.dirname(path) + "/", set()).add(at)
-                for path in row["reads"]:
-                    users.setdefault(os.path.dirname(path) + "/" if path in lists else file_of(path), set()).add(at)  # guard: who-lists-folder
+                    makers.setdefault(os.path.dirname(path), set()).add(at)
+                for path in (*row["reads"], *self.builds[number]["labels"].get(label, {}).get("lists", ())):  # guard: who-lists-folder
+                    users.setdefault(file_of(self.whole(number, path)), set()).add(at)
             for path, who in makers.items():
                 others = {at for at in users.get(path, set()) - who if any(not self.is_ordered(at, one) for one in who)}
                 for at in others if len(who) > 1 else ():
@@ -254,15 +221,27 @@ class Graph:
 
     def alone(self, pair: Pair) -> dict[Key, float]:
         """The serial order, with the second of two tasks before the first, and what it needs before both."""
-        return self.beside(*reversed(pair))
+        return placed([self.tasks[at].key for at in self.moved([*range(len(self.tasks))], *reversed(pair))])
 
-    def beside(self, one: int, other: int) -> dict[Key, float]:
-        """The serial order, with two tasks one right behind the other, where the earlier one stands, each with what runs inside of it; what they need comes before both."""
-        first, second = sorted((one, other))
-        need, inside = self.tasks[second].before, [{at, *(of for of, task in enumerate(self.tasks) if task.around >> at & 1)} for at in (one, other)]
-        rest = [at for at in range(first, len(self.tasks)) if at not in inside[0] | inside[1]]
-        order = [*range(first), *(at for at in rest if at < second and need >> at & 1), *sorted(inside[0]), *sorted(inside[1]), *(at for at in rest if not (at < second and need >> at & 1))]
-        return placed([self.tasks[at].key for at in order])
+    def beside(self, pairs: Sequence[Pair]) -> tuple[dict[Key, float], list[Pair]]:
+        """An order in which the tasks of pairs run one right behind the other, what they need before both, and the pairs of which that is so: at least the last."""
+        order = [*range(len(self.tasks))]
+        for pair in pairs:
+            order = self.moved(order, *pair)
+        at = {task: place for place, task in enumerate(order)}
+        return placed([self.tasks[task].key for task in order]), [(one, other) for one, other in pairs if at[other] - at[one] == len(self.inside(one))]
+
+    def inside(self, one: int) -> list[int]:
+        """A task, and those that run inside of it."""
+        return [one, *(at for at, task in enumerate(self.tasks) if task.around >> one & 1)]
+
+    def moved(self, order: Sequence[int], one: int, other: int) -> list[int]:
+        """An order of all tasks with one right before another, each with what runs inside of it, and what they need before both."""
+        blocks = [self.inside(one), self.inside(other)]
+        both, need = {*blocks[0], *blocks[1]}, self.tasks[one].before | self.tasks[other].before
+        first = min(map(order.index, (one, other)))
+        rest = [at for at in order[first:] if at not in both]
+        return [*(at for at in order[:first] if at not in both), *(at for at in rest if need >> at & 1), *blocks[0], *blocks[1], *(at for at in rest if not need >> at & 1)]
 
     def is_ordered(self, one: int, other: int) -> bool:
         """Whether two tasks have one order in all builds."""
@@ -277,6 +256,11 @@ class Graph:
                 if self.tasks[first].build == self.tasks[second].build and first != second:
                     return self.tasks[first].build, self.tasks[first].label, self.tasks[second].label
         return None
+
+
+def pairs_of(sets: Sequence[int]) -> Iterator[Pair]:
+    """For each recipe a set of earlier ones: all these pairs."""
+    yield from ((first, second) for second, some in enumerate(sets) for first in numbers(some))
 
 
 def numbers(bits: int) -> Iterator[int]:

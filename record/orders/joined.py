@@ -3,24 +3,30 @@
 from __future__ import annotations
 
 import json
+from collections.abc import Mapping
+from typing import Any
 
 from record.folder import replace
+from record.kinds import is_of_folder
 from record.orders.graph import Graph, Pair
-from record.orders.softness import is_soft
 
 
 def join(graph: Graph, other: Graph) -> None:
-    """Adds to the tasks of a record what their recipes read and wrote in a build in another order. What stands for no file is tried out, and not added."""
+    """Adds to the tasks of a record what their recipes read and wrote in a build in another order."""
     for known, number in graph.known.items():
         rows = {row["task"]: row for row in other.rows.get(other.known.get(known, ""), ())}
         for row in graph.rows[number]:
-            also = rows.get(row["task"], {"reads": (), "writes": ()})
-            lists = other.builds[other.known[known]]["labels"].get(row["task"], {}).get("lists", ()) if rows else ()
-            writes = {*row["writes"], *(path for path in also["writes"] if not is_soft(path))}
-            reads = {*row["reads"], *(path for path in also["reads"] if not is_soft(path) and path not in lists)} - writes
-            row["reads"], row["writes"] = sorted(reads), sorted(writes)
+            also = judged(other.builds[other.known[known]], rows[row["task"]]) if row["task"] in rows else row
+            writes = {*row["writes"], *also["writes"]}
+            row["reads"], row["writes"] = sorted({*row["reads"], *also["reads"]} - writes), sorted(writes)
         text = "".join(json.dumps(row, ensure_ascii=False, separators=(",", ":")) + "\n" for row in graph.rows[number])
         replace(graph.record / "builds" / number / "tasks", text)
+
+
+def judged(build: Mapping[str, Any], row: Mapping[str, Any]) -> dict[str, Any]:
+    """A task of a build without what is tried out in other orders: that a folder is there, and the names for which make alone asks."""
+    asks = build["labels"].get(row["task"], {}).get("asks", ())
+    return {**row, "reads": [path for path in row["reads"] if not is_of_folder(path) and path not in asks], "writes": [path for path in row["writes"] if not is_of_folder(path)]}
 
 
 def contested(graph: Graph, other: Graph) -> list[Pair]:
@@ -35,8 +41,8 @@ def contested(graph: Graph, other: Graph) -> list[Pair]:
                     for path in paths:
                         ways.setdefault(path, {}).setdefault(how, set()).add(label)
         for way in ways.values():
-            made, shared, there = ({graph.recipe_of(number, label) for label in way.get(how, ()) if (number, label) in graph.at} for how in ("made", "shared", "found"))
+            made, there = ({graph.recipe_of(number, label) for label in way.get(how, ()) if (number, label) in graph.at} for how in ("made", "found"))
             for late in sorted(made - there):  # guard: who-found-it-there
-                early = next((one for one in sorted(made | shared) if one != late and graph.is_free(one, late)), None)
+                early = next((one for one in sorted(made | there) if one != late and graph.is_free(one, late)), None)
                 found.update({(early, late): None} if early is not None else {})  # guard: who-looks-before-the-other-makes-it
     return list(found)

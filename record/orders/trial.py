@@ -9,9 +9,9 @@ from dataclasses import dataclass, field, replace
 from pathlib import Path
 from typing import Any, Optional
 
-from record.orders.builds import FLIPPED, MANY, ONE, OWN, SERIAL, Built, CannotTry, Plan, Room, Running, side_by_side
+from record.orders.builds import FLIPPED, ONE, OWN, SERIAL, Built, CannotTry, Plan, Room, Running, side_by_side
 from record.orders.gate import Key
-from record.orders.graph import Graph, Left, Pair, placed, size
+from record.orders.graph import Graph, Pair, pairs_of, placed, size
 from record.orders.trees import difference, differing, passing
 
 AT_ONCE = 4  # builds that run side by side
@@ -45,22 +45,21 @@ class Trial:
     room: Room
     graph: Graph
     serial: list[dict[str, str]]  # what the recorded build left
-    soft: dict[Pair, list[list[str]]]  # soft conflicts
-    after: dict[Key, set[Key]]  # which recipe waits for which besides: what ends the other conflicts
+    after: dict[Key, set[Key]]  # which recipe waits for which besides: what ends the conflicts
     most: int
     markers: set[str]  # files that say that a folder is there: which of the recipes runs that make one depends on the order
     is_parallel: bool = False  # a make of the recorded build ran several recipes at once
     order: list[Key] = field(default_factory=list)  # recipes as they begin in a serial build
     builds: int = 0
     others: int = 0  # builds in other orders that left the same
-    cleared: list[Pair] = field(default_factory=list)
     shown: list[Shown] = field(default_factory=list)
     failed: list[str] = field(default_factory=list)  # how builds ended that ended well when they were made again
+    is_whole: bool = True  # all that should run at once did
     bases: set[int] = field(default_factory=set)  # with so many jobs the order of the serial build leaves the same
 
     def __post_init__(self) -> None:
-        self.left = Left(self.graph.apart(self.after), [*self.soft])  # guard: all-pairs-are-tried
-        self.single = [*self.left.all()] if self.left.count() <= AT_ONCE else []  # those that are turned round alone
+        self.left = self.graph.apart(self.after)  # pairs that no other order has tried yet: for each recipe the earlier ones
+        self.single = [*pairs_of(self.left)] if size(self.left) <= AT_ONCE else []  # those that are turned round alone
         self.turned = [0] * len(self.graph.tasks)
         self.unstable: list[set[str]] = [set() for _ in self.serial]  # names in which serial builds differ
         self.passing: list[list[re.Pattern[str]]] = [[] for _ in self.serial]
@@ -69,11 +68,11 @@ class Trial:
         """How many builds it will take if nothing differs, and each runs as its order says."""
         orders = [self.graph.ordered(range(len(self.graph.tasks))), *self.each_alone()]
         builds, left, known = 1 + len(orders) + len(self.one_by_one()), self.unturned(self.left, *orders), self.left
-        while left.count() and left != known and builds < self.most:
+        while any(left) and left != known and builds < self.most:
             builds, left, known = builds + 1, self.unturned(left, self.graph.covering(left)), left
         return builds
 
-    def unturned(self, left: Left, *orders: dict[Key, float]) -> Left:
+    def unturned(self, left: list[int], *orders: dict[Key, float]) -> list[int]:
         """Those of some pairs that some orders do not turn round, where each build runs as its order says."""
         for places in orders:
             left = self.graph.behind(left, sorted(places, key=lambda key: -places[key]))
@@ -81,7 +80,7 @@ class Trial:
 
     def each_alone(self) -> list[dict[Key, float]]:
         """What a look finds may depend on several: orders that turn round each pair alone, and where there are many, one in which all users come first."""
-        return [self.graph.alone(pair) for pair in self.single] if self.single or not self.soft else list(filter(None, [self.graph.users_first()]))
+        return [self.graph.alone(pair) for pair in self.single] if self.single else list(filter(None, [self.graph.users_first()]))
 
     def make(self, *plans: Plan) -> list[tuple[Built, Optional[Ended]]]:
         """Some builds that count, side by side, and how they ended where that is otherwise than the serial one."""
@@ -98,7 +97,8 @@ class Trial:
     def begin(self, running: Running) -> list[Plan]:
         """The second serial build, and the flipped one: those that ran beside the recorded build, where they count. A flipped one that is still to be made.
         `CannotTry` where the project cannot be built a second time."""
-        flip, is_beside = Plan(FLIPPED, self.graph.flipped(), after=self.after, is_recorded=True), bool(running.children)
+        is_beside = bool(running.children)
+        flip = Plan("fixed" if is_beside and self.after else FLIPPED, self.graph.flipped(), after=self.after, is_recorded=True)  # what ends may still write into its folder
         if not is_beside:
             running.begin(Plan(SERIAL, {}, OWN), flip)
         elif self.after:  # it began before anybody knew the fixes
@@ -129,15 +129,6 @@ class Trial:
         for number, (one, other) in enumerate(zip(self.serial, again.held)):
             self.unstable[number] |= differing(one, other)
             self.passing[number] += passing(one.keys() - other.keys(), other.keys() - one.keys())
-        self.pass_unseen()
-
-    def pass_unseen(self) -> None:
-        """Conflicts of which nobody sees what they do stay races."""
-        self.left.soft, self.cleared = ([pair for pair in some if not self.is_unseen(pair)] for some in (self.left.soft, self.cleared))  # guard: what-is-not-compared-clears-nothing
-
-    def is_unseen(self, pair: Pair) -> bool:
-        """Whether what two tasks leave is not compared."""
-        return any(self.is_loose(number, first, second) for number, first, second in self.soft[pair])
 
     def is_loose(self, number: str, *labels: str) -> bool:
         """Whether two serial builds differ in what some tasks of a build leave."""
@@ -168,34 +159,29 @@ class Trial:
         """A build that left the same clears what it turned round."""
         self.others += 1
         self.turned = [one | earlier for one, earlier in zip(self.turned, self.graph.turned(built.began))]
-        known, self.left = self.left.soft, self.graph.behind(self.left, built.began)
-        left = {*self.left.soft}
-        self.cleared += [pair for pair in known if pair not in left]
+        self.left = self.graph.behind(self.left, built.began)
 
     def run(self, running: Running) -> None:
         """All builds: the flipped one, that with one job, those in which one pair alone is turned, and those that cover what is left."""
         plans = self.begin(running)
-        covers = [] if plans or not self.left.count() else [self.cover()]  # beside the others, where the flipped one has shown what is left
+        covers = [] if plans or not any(self.left) else [self.cover()]  # beside the others, where the flipped one has shown what is left
         self.try_all(plans + covers + self.one_by_one() + [Plan("alone%d" % number, places, after=self.after) for number, places in enumerate(self.each_alone())])
-        left = self.left.count() + 1
-        while 0 < self.left.count() < left or self.left.soft and len(covers) < 2:
-            left = self.left.count()
-            covers.append(self.cover(not covers))
-            self.try_all(covers[-1:])
-            if not self.goes_on:
-                break
+        left = size(self.left) + 1
+        while 0 < size(self.left) < left and self.goes_on:
+            left = size(self.left)
+            self.try_all([self.cover()])
 
     def one_by_one(self) -> list[Plan]:
         """Where the recorded build ran several recipes at once, a build with one job: make goes through targets in another order then."""
         return [Plan("one", placed(self.order), ONE, self.after)] if self.is_parallel else []  # guard: jobs-of-the-recorded-build
 
-    def cover(self, is_first: bool = True) -> Plan:
-        """A build that turns round what no other has, and in which the rest runs side by side; the first one with two jobs, where conflicts are left."""
+    def cover(self) -> Plan:
+        """A build that turns round what no other has, and in which the rest runs side by side."""
         places = self.graph.covering(self.left)
-        after, alone = self.graph.kept_apart(self.left, places)
+        after = self.graph.kept_apart(self.left, places)
         for late, early in self.after.items():
             after.setdefault(late, set()).update(early)
-        return Plan("cover", places, 2 if is_first and self.left.soft else MANY, after, at_once=os.cpu_count() or 1, alone=alone)
+        return Plan("cover", places, after=after, at_once=os.cpu_count() or 1)
 
     def try_all(self, plans: Sequence[Plan]) -> None:
         """Makes builds, some at once."""
@@ -228,9 +214,7 @@ class Trial:
             if found.first is None or found.second is None or not self.goes_on:
                 return
             self.after.setdefault(found.second, set()).add(found.first)
-            both = {self.graph.keys.get(found.first), self.graph.keys.get(found.second)}
-            self.left = Left([one & other for one, other in zip(self.left.recipes, self.graph.apart(self.after))], [one for one in self.left.soft if {*one} != both])
-            self.cleared = [one for one in self.cleared if {*one} != both]
+            self.left = [one & other for one, other in zip(self.left, self.graph.apart(self.after))]
             (built, ended), = self.make(Plan("again", built.plan.places, built.plan.jobs, self.after))
         self.note(built)
 
@@ -239,25 +223,34 @@ class Trial:
         if once.status == 0 and names:
             for number, name in names:
                 self.unstable[number].add(name)
-            self.pass_unseen()
         elif once.status is not None:
             self.failed.append("; ".join(once.text))
 
     def overlap(self, pairs: Sequence[Pair]) -> None:
-        """Tries out recipes that make a folder where it is not there, the second of each pair beside the first: it looks while that makes the folder. What
-        is not tried, or differs, is not cleared."""
-        left = {(min(pair), max(pair)) for pair in pairs}
-        for first, second in pairs:
-            keys = self.graph.tasks[min(first, second)].key, self.graph.tasks[max(first, second)].key
-            if not self.goes_on or {*keys} in ({one.first, one.second} for one in self.shown) or any(one in self.after.get(other, ()) for one, other in (keys, keys[::-1]) if one and other):
-                continue
-            plan = Plan("overlap", self.graph.beside(first, second), after=self.after, is_slow=True)
+        """Tries out recipes that make a folder where it is not there, the second of each pair beside the first: it looks while that makes the folder."""
+        left = [pair for pair in pairs if not self.is_known(pair)]
+        while left:
+            if not self.goes_on:
+                self.is_whole = False
+                return
+            places, met = self.graph.beside(left)
+            plan = Plan("overlap", places, after=self.after, is_slow=True)
             (_, ended), = self.make(plan)
-            if ended is None:
-                left.discard((min(first, second), max(first, second)))
-            elif self.make(replace(plan, is_slow=False))[0][1] is None:
-                self.shown.append(Shown(*keys, ended, True))
-        self.cleared = [pair for pair in self.cleared if pair not in left]
+            if ended is not None and len(met) > 1:
+                for pair in met:
+                    self.overlap([pair])
+            elif ended is not None and self.make(replace(plan, is_slow=False))[0][1] is None:
+                self.shown.append(Shown(*self.keys_of(met[0]), ended, True))
+            left = [pair for pair in left if pair not in met]
+
+    def keys_of(self, pair: Pair) -> tuple[Optional[Key], Optional[Key]]:
+        """The recipes of a pair, in the order of the serial build."""
+        return self.graph.tasks[min(pair)].key, self.graph.tasks[max(pair)].key
+
+    def is_known(self, pair: Pair) -> bool:
+        """Whether a difference between two recipes is shown already, or one waits for the other."""
+        keys = self.keys_of(pair)
+        return {*keys} in ({one.first, one.second} for one in self.shown) or any(one in self.after.get(other, ()) for one, other in (keys, keys[::-1]) if one and other)
 
     def made_again(self, plan: Plan) -> tuple[Built, Optional[Ended]]:
         """Makes a build in which something differs again, one recipe at a time, and a serial one beside it: that shows what goes by the time. What another build
@@ -307,10 +300,10 @@ class Trial:
     def result(self) -> dict[str, Any]:
         """What a record keeps of it."""
         return {"builds": self.others, "failed": self.failed, "made": self.builds, "pairs": self.graph.pairs(), "turned": size(self.turned),
-                "untried": bool(self.graph.pairs()) and (any(self.left.recipes) or any(self.is_loose(number, *build["labels"]) for number, build in self.graph.builds.items())),
+                "untried": bool(self.graph.pairs()) and (not self.is_whole or any(self.left) or any(self.is_loose(number, *build["labels"]) for number, build in self.graph.builds.items())),
                 "files": sum(text.startswith("file") for held in self.serial for text in held.values()),
                 "unstable": sorted(os.path.join(self.room.tops[number], name) for number, found in enumerate(self.unstable) for name in found),
-                "cleared": [one for pair in self.cleared for one in self.soft[pair]], "left": [one for pair in self.left.soft for one in self.soft[pair]], "shown": list(map(self.shown_labels, self.shown))}
+                "shown": list(map(self.shown_labels, self.shown))}
 
     def shown_labels(self, one: Shown) -> dict[str, Any]:
         """A difference, by the build and the labels of its two recipes."""

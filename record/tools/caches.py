@@ -9,7 +9,7 @@ import re
 from dataclasses import dataclass
 from typing import Dict, Iterator, List, Pattern, Sequence, Set
 
-from record.trace.events import ABSENT, MADE_QUIETLY, READ, SEEN, STRICT, WAY_ABSENT
+from record.trace.events import ABSENT, MADE_BEFORE, MAKES, READ, SEEN, WAY_ABSENT
 from record.trace.lives import Life, Program
 
 
@@ -35,7 +35,7 @@ KEEPERS = (
     Keeper(re.compile(r"guile(?:-[\d.]+)?"), re.compile(r"(/.+/guile/ccache)/.+\.go(?:\..+)?")),
     Keeper(re.compile(r"dot|fc-\w+|gnuplot(?:-\w+)?|inkscape|rsvg-convert|convert|magick|(?:xe|lua)latex"), re.compile(r"(/.+/fontconfig)/[^/]+\.cache-\d+(?:\..+)?")),
 )
-LOOKS = READ + SEEN + ABSENT + WAY_ABSENT + STRICT  # acts on a folder that mean no more than that it makes it if it is not there
+LOOKS = READ + SEEN + ABSENT + WAY_ABSENT + MAKES  # acts on a folder that mean no more than that it makes it if it is not there
 
 
 def settle_caches(lives: Sequence[Life], tops: Sequence[str]) -> Iterator[str]:
@@ -44,7 +44,7 @@ def settle_caches(lives: Sequence[Life], tops: Sequence[str]) -> Iterator[str]:
         callers = {life: place for life in lives for place in starts_of(life, keeper, tops)}
         known = {one: place for life, start in callers.items() for one, place in below(life, start).items()}
         folders = own_folders(keeper, lives, known)
-        made = {path for life in known for kind, path in life.events if kind in STRICT and any(is_in(folder, path) for folder in folders)}
+        made = {path for life in known for kind, path in life.events if kind in MAKES and any(is_in(folder, path) for folder in folders)}
         for life in known if folders else ():
             leave_out(life, folders, made)
         yield from (" ".join(life.argv)[:60] for life in callers if folders or keeper is KEEPERS[0])
@@ -84,8 +84,8 @@ def own_folders(keeper: Keeper, lives: Sequence[Life], known: Dict[Life, int]) -
 
 
 def is_in(path: str, folder: str) -> bool:
-    """Whether a path, or a list, is about a folder or what is below it."""
-    return path.startswith(folder) and path[len(folder):len(folder) + 1] in ("", "/", "\0")
+    """Whether a path is a folder or below it."""
+    return path.startswith(folder) and path[len(folder):len(folder) + 1] in ("", "/")
 
 
 def leave_out(life: Life, folders: Set[str], made: Set[str]) -> None:
@@ -97,4 +97,4 @@ def leave_out(life: Life, folders: Set[str], made: Set[str]) -> None:
             del life.events[kind, path]
     for path in made if within else ():
         places = [place for place in (life.events.pop((kind, path), None) for kind in LOOKS) if place is not None]
-        life.events.setdefault((MADE_QUIETLY, path), min([first, *places]))  # guard: who-makes-folder
+        life.events.setdefault((MADE_BEFORE, path), min([first, *places]))  # guard: who-makes-folder

@@ -10,18 +10,15 @@ from dataclasses import dataclass
 from typing import Dict, Iterable, List, Optional, Set, Tuple
 
 from record.build.work import Work
-from record.commands.shelltext import contents
 from record.make.database import Base
 from record.make.owners import Owners
 from record.make.words import Round, Words
-from record.trace.events import LISTED, MAKER_SEEN, READ, REMOVED, WRITTEN
+from record.trace.events import LISTED, MADE_BEFORE, READ, REMOVED, WRITTEN
 from record.trace.lives import Life
 
 NAME = ".exists"
 TOUCHES = ["-MExtUtils::Command", "-e", "touch", "--"]
 LINE = re.compile(r"\s*\$\(NOECHO\) \$\((?:MKPATH|CHMOD|TOUCH)\) (?:\$\(PERM_DIR\) )?\$\(\w+\)(?:\$\(DFSEP\)\.exists)?\s*")
-
-LOOKS = re.compile(r"\$[({](?:wildcard|realpath)\s")  # functions by which make looks at any file
 
 
 @dataclass
@@ -40,7 +37,7 @@ def settle_exists(lives: List[Life], logs: Iterable[Words]) -> Markers:
             if path.endswith(NAME) and os.path.basename(path) == NAME:
                 users.setdefault(path, []).append(life)
     bases = [one.base for words in logs for one in words.rounds if one.base is not None] if users else []
-    listed = {os.path.dirname(path) for path in users} & {path.partition("\0")[0] for life in lives if users for kind, path in life.events if kind == LISTED}
+    listed = {os.path.dirname(path) for path in users} & {path for life in lives if users for kind, path in life.events if kind == LISTED}
     plain = {path for path in users if os.path.dirname(path) not in listed and all(is_plain(base, path) for base in bases)}  # guard: folders-that-are-listed
     found = {path for path in plain if all(is_marker(life, path) for life in users[path])}
     looks: Dict[Tuple[int, str], int] = {}
@@ -60,7 +57,7 @@ def credit_makes(owners: Owners, markers: Markers) -> None:
                 place, folder = markers.looks.get((id(make.life), path), -1), os.path.dirname(path)
                 if place >= 0 and all(waits(one, job.target, name) for job in one.jobs if is_used(make.work.get(id(job)), folder)):  # guard: who-waits-for-rule
                     for work in (work for above in owners.makes for work in above.work.values() if make in work.makes):
-                        work.add(MAKER_SEEN, folder, place)
+                        work.add(MADE_BEFORE, folder, place)
 
 
 def is_used(work: Optional[Work], folder: str) -> bool:
@@ -80,18 +77,12 @@ def waits(one: Round, target: str, name: str) -> bool:
 
 
 def is_marker(life: Life, path: str) -> bool:
-    """Whether a process does no more with such a file than to touch it, or is a make that looks at it, by no function."""
+    """Whether a process does no more with such a file than to touch it, or is a make that looks at it."""
     if life.is_make:
-        is_read = {(READ, path), (WRITTEN, path), (REMOVED, path)} & life.events.keys()
-        return not is_read and not any(asks(contents(one)) for kind, one in life.events if kind == READ)  # guard: looks-of-functions
+        return not {(READ, path), (WRITTEN, path), (REMOVED, path)} & life.events.keys()
     name = os.path.basename("".join(life.argv[:1]))
     is_touch = name == "perl" and life.argv[1:5] == TOUCHES or name == "touch" and len(life.argv) == 2  # guard: who-reads
     return is_touch and (REMOVED, path) not in life.events
-
-
-def asks(text: str) -> bool:
-    """Whether a makefile looks at files by functions; make's own program is read too, and is none."""
-    return "\0" not in text and LOOKS.search(text) is not None
 
 
 def is_plain(base: Base, path: str) -> bool:

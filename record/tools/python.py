@@ -4,7 +4,7 @@ import os
 import re
 from typing import Iterator, List, Sequence, Set, Tuple
 
-from record.trace.events import ABSENT, BY_LIST, MADE_QUIETLY, MAKER_SEEN, READ, SEEN, STRICT, WAY_ABSENT
+from record.trace.events import ABSENT, BY_LIST, MADE, MADE_BEFORE, READ, SEEN, WAY_ABSENT
 from record.trace.lives import Life
 
 PYTHON = re.compile(r"(?:.*/)?python[\d.]*$")
@@ -49,7 +49,6 @@ def settle_code(life: Life, others: Set[str]) -> None:
             continue
         if kind in (READ, SEEN, ABSENT) and ({(SEEN, source), (BY_LIST, source), (READ, source)} & life.events.keys() or is_cache) or kind == WAY_ABSENT and is_cache:
             del life.events[kind, path]
-            life.events.setdefault((MAKER_SEEN, path) if is_cache else (READ, source), place)
-        elif kind in STRICT and is_cache:
-            del life.events[kind, path]
-            life.events.setdefault((MADE_QUIETLY, path), place)
+            life.events.update({} if is_cache else {(READ, source): life.events.get((READ, source), place)})
+        elif kind == MADE and is_cache:
+            life.events.setdefault((MADE_BEFORE, path), place)  # it would have gone on where the folder is there

@@ -4,19 +4,16 @@ A finished call of a life goes in; events of that life come out (`put`), a name 
 is printed under a yes (sockets, locks, watchers). moves.py, processes.py, descriptors.py and started.py have the other methods.
 """
 
-import os
 import re
 from typing import Callable, Dict, Iterable, Tuple
 
-from record.commands import shelltext
 from record.commands.system import SETTINGS
 from record.trace.arguments import TEXT_END, Opening, opening, spelled
 from record.trace.classes import COPIES, DOUBLES, LIMITS, NO_FILES, PAIRS, SHARING, SIGNALLED, SIGNALS, SLEEPS, WAITS, WRITES
 from record.trace.descriptors import CHANGING, OF_KERNEL, READING, requests
 from record.trace.events import (
-    ABSENT, CREATED, ENTERED, FOLDER_CHANGED, FOLDER_KEPT, FOLDER_REMOVED, HELD, LISTED, MADE, MADE_BEFORE, MADE_QUIETLY, MAKE_LISTED, READ, REFUSED, REMOVED, SEEN, TIME_SET,
+    ABSENT, CREATED, ENTERED, FOLDER_CHANGED, FOLDER_REMOVED, HELD, LISTED, MADE, MADE_BEFORE, READ, REFUSED, REMOVED, SEEN, TIME_SET,
 )
-from record.trace.findwords import find_patterns
 from record.trace.lives import Life
 from record.trace.names import Found, Inode
 from record.trace.proc import plain_path
@@ -137,7 +134,7 @@ class Calls(Started):
             self.open_words(life, path[len(self.said):], ok)
             return
         if ok and DEVICES.match(path):
-            if not call.opened.startswith("/") or DEVICES.match(call.opened) and not self.is_inside(call.opened):
+            if not call.opened.startswith("/") or DEVICES.match(call.opened) and not self.names.is_inside(call.opened):
                 self.note_watcher(life, path)  # guard: others-said
                 return  # a pipe, a terminal or the like
             if "/.." in path:  # guard: way-of-proc
@@ -165,12 +162,9 @@ class Calls(Started):
 
     def fail_to_open(self, life: Life, call: Call, asked: Opening) -> None:
         """Nothing was opened: the process sees that something has the name, or that nothing has it. Who wants to create a file sees also which folder is absent."""
-        if call.error == "ENOTDIR" and "O_DIRECTORY" in asked.flags and life.traits().is_shell:  # guard: folders-in-pattern-files
-            self.look_for_folder(life, asked.path, asked.base)
-            return
+        if call.error == "ENOTDIR" and "O_DIRECTORY" in asked.flags:  # guard: folders-in-pattern-files
+            return  # it looks for folders, and finds a file, as a shell does for `*/x`
         found = self.found(life, asked.path, asked.follow, asked.base)
-        if self.makes_way(life, asked.flags, found.missing):  # guard: file-that-it-opens-first
-            return
         self.put_look(life, found, call.error in THERE, SEEN)
         if call.error == "EEXIST":
             self.put(life, REFUSED, found.path)  # guard: files-that-could-not-be-made
@@ -182,22 +176,14 @@ class Calls(Started):
         is_new = "O_EXCL" in flags or found.inode is not None and found.inode.is_unmade  # another process may have seen it before this call has ended
         if "O_EXCL" in flags:
             self.fresh.add(found.path)
-        if "O_CREAT" in flags and (is_new or not self.is_inside(found.path)):  # guard: files-that-others-saw-first
+        if "O_CREAT" in flags and (is_new or not self.names.is_inside(found.path)):  # guard: files-that-others-saw-first
             self.put(life, CREATED, found.path)  # the disk has what is outside after the build: nobody knows whether it was there before
         if self.opens_to_lock(life, flags):
             self.open_to_lock(life, found)
             return
         if "O_WRONLY" not in flags and "O_TRUNC" not in flags and not is_creat:
             self.put(life, READ, found.path)
-        self.makes_way(life, flags, os.path.dirname(found.path))
         self.write(life, found)
-
-    def look_for_folder(self, life: Life, path: str, base: str) -> None:
-        """A shell that looks for names asks for a folder where a file is, as for `*/x`: it goes on as where nothing is there. So a folder
-        or a link of this name counts, and no file."""
-        found = self.found(life, path, True, base)
-        folder, _, name = (found.path if found.inode is not None else found.missing or found.path).rpartition("/")
-        self.put(life, LISTED, "%s\0%s/" % (folder or "/", re.sub(r"[*?\[]", "?", name)))  # guard: files-that-become-folders
 
     def note_watcher(self, life: Life, path: str) -> None:
         """What the kernel shows of another process, or of all of them."""
@@ -214,50 +200,33 @@ class Calls(Started):
         """A file or a folder is opened, and not to change it."""
         is_folder = found.inode is not None and found.inode.kind == "d"
         self.put_links(life, found)
-        if is_folder and life.is_make and life.number >= 0:
-            return self.open_by_make(life, found.path)
         self.put_look(life, found, True, SEEN if is_folder else READ)
-        if is_folder or life.is_query:
-            return
-        if life.is_make:
-            self.is_open_shell = self.is_open_shell or shelltext.sets_options_in(found.path)  # guard: options-in-environment
-        elif life.traits().is_shell:
-            life.taken += (found.path,) if shelltext.takes_in(life.argv, found.path) else ()  # guard: what-they-read-first
 
     def on_list(self, life: Life, call: Call, ok: bool) -> None:
-        """A folder is listed: the event says for which names. Make remembers what it lists."""
+        """A folder is listed."""
         where = folders(call.args)
         if not ok or not where:
             return
-        if life.is_make:
-            self.put(life, MAKE_LISTED, where[0])
-        elif where[0] == "/proc":  # guard: listed-said
+        if where[0] == "/proc" and not life.is_make:  # guard: listed-said
             self.watchers.append(" ".join(life.argv)[:100])
         else:
-            life.listed.add(where[0])
-            for pattern in self.patterns(life):
-                self.put(life, LISTED, where[0] + "\0" + pattern)  # guard: listings-count
-
-    def patterns(self, life: Life) -> Iterable[str]:
-        """The patterns of names that a program lists a folder for, by its words; options of shells in the environment may change what they say."""
-        return ["*"] if self.is_open_shell or life.taken or life.cut else find_patterns(life) or shelltext.patterns(life.argv, False)  # guard: names
+            life.listed.update(() if life.is_make else where[:1])
+            self.put(life, LISTED, where[0])
 
     def on_mkdir(self, life: Life, call: Call, ok: bool) -> None:
-        """A folder is made, or is there already: with a word where the program shows who was first, else quietly."""
+        """A folder is made, or is there already."""
         base, path = self.base_and_path(life, call)
         found = self.found(life, path.rstrip("/") or "/", False, base)
-        quiet = shelltext.is_quiet_mkdir(life.argv) and not self.is_inside(life.program)  # guard: quiet-makers
-        quiet = quiet or any(not up.is_make and shelltext.makes(up.argv, found.path) for up in life.up())  # guard: scripts-that-make-folders
         if ok:
             self.fresh.add(found.path)
             if found.folder is not None and found.inode is None:
                 child = Inode("d")
                 child.walked = True
                 self.names.put(found.folder, found.name, child)
-            self.put(life, MADE_QUIETLY if quiet else MADE, found.path)
+            self.put(life, MADE, found.path)
             self.put(life, CREATED, found.path + "/")
         elif call.error == "EEXIST":
-            self.put(life, MADE_QUIETLY if quiet else MADE_BEFORE, found.path)
+            self.put(life, MADE_BEFORE, found.path)
             if found.inode is None or found.inode.kind != "d":  # guard: whose-name-file
                 self.put_look(life, found, True, SEEN)  # a file, or a link, has the name
         else:
@@ -282,10 +251,7 @@ class Calls(Started):
         found = self.found(life, path.rstrip("/"), False, base)
         folder = call.name == "rmdir" or "AT_REMOVEDIR" in call.args
         if not ok:
-            there = call.error != "ENOENT"
-            self.look(life, path, there, False, base=base)
-            if folder and there:
-                self.put(life, FOLDER_KEPT, found.path)
+            self.look(life, path, call.error != "ENOENT", False, base=base)
             return
         others = [a for a in self.names.aliases(found.inode) if a != found.path]
         if found.folder is not None:
@@ -314,7 +280,7 @@ class Calls(Started):
     def on_ioctl(self, life: Life, call: Call, ok: bool) -> None:
         """A request about an open file: it may change the file, or the names in a folder."""
         path, asked = "".join(folders(call.args)[:1]), requests(call.args)
-        if not ok or not path.startswith("/") or asked & READING or OF_KERNEL.match(path) and not self.is_inside(path):  # guard: who-reads
+        if not ok or not path.startswith("/") or asked & READING or OF_KERNEL.match(path) and not self.names.is_inside(path):  # guard: who-reads
             return
         if asked & CHANGING:  # guard: flags-of-file
             self.on_change(life, call, ok)

@@ -5,7 +5,7 @@ from typing import List, Set
 
 from record.commands import shelltext
 from record.trace.classes import HIDING, LEFT_OUT, NO_FILES, SHARING, UNFOLLOWED, WRITES, named
-from record.trace.events import CREATED, HELD, LOCKED, MAKER_SEEN, OUTPUT
+from record.trace.events import CREATED, HELD, LOCKED, OUTPUT
 from record.trace.lives import Life
 from record.trace.names import Found, Inode
 from record.trace.processes import Processes
@@ -113,7 +113,7 @@ class Opened(Processes):
     def opens_to_lock(self, life: Life, flags: str) -> bool:
         """Whether it is `flock` that opens the file which its words name, and waits for the lock: it makes the file where it is not there, and does nothing
         else with it."""
-        return LOCK_FILE.match(flags) is not None and shelltext.base_name(life.argv) == "flock" and waits(life.argv) and not self.is_inside(life.program)  # guard: how-it-is-opened
+        return LOCK_FILE.match(flags) is not None and shelltext.base_name(life.argv) == "flock" and waits(life.argv) and not self.names.is_inside(life.program)  # guard: how-it-is-opened
 
     def open_to_lock(self, life: Life, found: Found) -> None:
         """The file of a lock."""
@@ -127,13 +127,6 @@ class Opened(Processes):
         """Who opens a make as a file finds the copy that lies over it: it sees another file than without the recorder."""
         if path in self.covered and not any(one.startswith(STAND_IN) for one in self.holes):  # guard: make-that-is-read
             self.holes.append(STAND_IN + " ".join(life.argv)[:100])
-
-    def makes_way(self, life: Life, flags: str, folder: str) -> bool:
-        """Whether it is g++ that opens the file of a new module, and makes the folder for it where that is not there."""
-        is_own = "O_CREAT" in flags and shelltext.base_name(life.argv) == "cc1plus" and shelltext.makes(life.argv, folder)
-        if is_own:
-            self.put(life, MAKER_SEEN, folder)
-        return is_own
 
     def on_socket(self, life: Life, call: Call, ok: bool) -> None:
         """Datagrams go to a server without a call that connects."""

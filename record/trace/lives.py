@@ -7,7 +7,6 @@ from dataclasses import dataclass, field
 from functools import cached_property
 from typing import Dict, Iterable, List, Optional, Set, Tuple
 
-from record.commands.shelltext import Traits
 from record.trace.courses import Course, Key
 
 
@@ -56,12 +55,11 @@ class Life:
     is_query: bool = False
     number: int = -1  # which life of this number among the makes with words
     adopted: bool = False
+    has_failed: bool = False  # when it ended
     is_heir: bool = False  # it was seen before the call that started it was finished, and has its folder from who began that call
     children: List["Life"] = field(default_factory=list)
     threads: List["Life"] = field(default_factory=list)  # those that change their folder together, with this one
     handle: Tuple[int, str] = (-1, "")  # the descriptor that it got last, and what stands behind it, where that only stands for a name
-    taken: Tuple[str, ...] = ()  # files that a shell read which its text does not name as its input
-    known: Optional[Traits] = None
     begun: int = 0  # where the program began that runs now
     programs: List[Program] = field(default_factory=list)  # all that it ran itself
 
@@ -69,12 +67,6 @@ class Life:
     def course(self) -> Course:
         """How it went: of a thread how its process did."""
         return Course(self)
-
-    def traits(self) -> Traits:
-        """What the words say of its looks."""
-        if self.known is None or self.known.argv is not self.argv:
-            self.known = Traits(self.argv)
-        return self.known
 
     def join_threads(self, other: "Life") -> None:
         """Another life is a thread of this one."""

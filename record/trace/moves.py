@@ -2,7 +2,7 @@
 
 from typing import Tuple
 
-from record.trace.events import ABSENT, CREATED, FOLDER_KEPT, FOLDER_REMOVED, MADE, READ, REMOVED, SEEN, WRITTEN
+from record.trace.events import ABSENT, CREATED, FOLDER_REMOVED, MADE, READ, REMOVED, SEEN, WRITTEN
 from record.trace.lives import Life
 from record.trace.names import Found, Inode
 from record.trace.replay import Replay
@@ -34,8 +34,6 @@ class Moves(Replay):
         if not ok:
             self.put(life, ABSENT if old.inode is None else SEEN, old.path)
             self.put_absent(life, new, ABSENT if new.inode is None else SEEN)
-            if call.error in ("ENOTEMPTY", "EEXIST"):  # guard: that-another-is-moved-over
-                self.put(life, FOLDER_KEPT, new.path)  # that it holds something counts
             return
         self.put(life, READ, old.path)
         if "RENAME_EXCHANGE" in call.args:

@@ -112,6 +112,10 @@ class Names:
         self.shared: Set[str] = set()  # copies of files that have names elsewhere too
         self.folds = False  # whether the file system takes `a` and `A` for one name
 
+    def is_inside(self, path: str) -> bool:
+        """Whether a path is in one of the folders that the build works in."""
+        return any(path == top or path.startswith(top.rstrip("/") + "/") for top in self.tops)
+
     def walk(self, top: str) -> None:
         """Takes in the tree below a real path, as it is now. A folder that is not there yet is empty, and made by the build."""
         self.tops.append(top)

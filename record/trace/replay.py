@@ -4,11 +4,10 @@ import os
 import re
 from typing import Dict, List, Set, Tuple
 
-from record import machine
 from record.commands import shelltext
 from record.commands.system import OF_SYSTEM
 from record.trace.events import (
-    ABSENT, BY_LIST, CHANGES, CREATED, ENTERED, FOLDER_REMOVED, MADE, MADE_QUIETLY, MAKER_SEEN, MAKE_OPENED, READ, REFUSED, REMOVED, SEEN, TREE_CHANGES, WAY_ABSENT, WRITTEN,
+    ABSENT, BY_LIST, CHANGES, CREATED, ENTERED, FOLDER_REMOVED, MADE, READ, REFUSED, REMOVED, SEEN, TREE_CHANGES, WAY_ABSENT, WRITTEN,
 )
 from record.trace.courses import Course
 from record.trace.lives import Act, Life
@@ -33,7 +32,6 @@ class Replay:
         self.silent: Set[str] = set()  # names of the files of makes that only answer
         self.covered: Set[str] = set()  # the makes over which copies lie that have the library
         self.unheard: Dict[int, str] = {}  # by id of a life: the words of a make that has not opened its file
-        self.below_tops = tuple(top.rstrip("/") + "/" for top in tops)
         self.first_folder = folder
         self.lives: Dict[int, Life] = {}
         self.all: List[Life] = []
@@ -53,7 +51,6 @@ class Replay:
         self.makes_by_path: Dict[str, bool] = {}  # by program: whether it is the make that the recorder knows
         self.watchers: List[str] = []  # who lists the processes that run, or waits for changes of files
         self.changes: List[Tuple[int, str, str]] = []  # names that come and go, in order
-        self.is_open_shell = bool(shelltext.SHELL_MACROS & {*machine.variables()})  # shells may have other options than their words say
 
     # ---------------------------------------------------------------- processes
     def life(self, pid: int) -> Life:
@@ -85,7 +82,7 @@ class Replay:
         if not child.is_heir:  # else it may have changed these since  # guard: what-process-changed-before-its-start-is-finished
             child.folder = parent.folder
             child.course.files = {**parent.course.files}  # guard: descriptors-of-who-started-it
-            child.cut, child.taken = parent.cut, parent.taken
+            child.cut = parent.cut
         child.argv = child.argv or parent.argv
 
     def play(self, event: Event) -> None:
@@ -122,7 +119,7 @@ class Replay:
             self.sharing.update([event.pid] if event.shares else [])
         else:
             life = self.life(event.pid)
-            life.died = self.place
+            life.died, life.has_failed = self.place, event.has_failed
             life.course.end_row(False)  # guard: waits-until-end
 
     def child(self, parent: Life, pid: int, is_thread: bool, flags: str = "") -> None:
@@ -154,16 +151,16 @@ class Replay:
     # ---------------------------------------------------------------- events
     def put(self, life: Life, kind: str, path: str, word: str = "") -> None:
         """An event of a life, and an act of make where a make does it. `word`: the path as make spelled it. Devices and the recorder's own files have none."""
-        if path.startswith(KERNEL) and DEVICES.match(path) and not self.is_inside(path):  # guard: devices-are-no-files
+        if path.startswith(KERNEL) and DEVICES.match(path) and not self.names.is_inside(path):  # guard: devices-are-no-files
             if is_hidden(kind, path):  # guard: numbers-hole
                 self.holes.append("a file is known by the number of its descriptor alone: %s of %s" % (path, " ".join(life.argv)[:100]))
             return
         if path.startswith(self.own):
             return
-        if PROGRESS in path and life.traits().shows_progress:  # guard: what-cmake-counts
+        if PROGRESS in path and shelltext.shows_progress(life.argv):  # guard: what-cmake-counts
             self.progress.append(path[:path.index(PROGRESS) + len(PROGRESS)])
             return
-        if kind in TREE_CHANGES and path.rstrip("/") not in self.fresh and not self.is_inside(path) and not (kind == MADE_QUIETLY and path in self.names.above):  # guard: those-above
+        if kind in TREE_CHANGES and path.rstrip("/") not in self.fresh and not self.names.is_inside(path):
             self.outside[path.rstrip("/")] = None  # guard: names-outside-of-project
         if life.is_make and life.number >= 0 or life.is_ninja and kind in (READ, ENTERED):
             life.acts.append(Act(self.place, kind, path, word))
@@ -180,10 +177,6 @@ class Replay:
         if first < life.course.limit:
             life.course.note(key, first, self.place)
 
-    def is_inside(self, path: str) -> bool:
-        """Whether a path is in one of the folders that the build works in."""
-        return path.startswith(self.below_tops) or path in self.tops
-
     def found(self, life: Life, path: str, follow: bool, base: str = "", word: str = "") -> Found:
         """Where a path leads a process, from its folder or from `base`; the links on the way are read. `follow`: also a link at the end."""
         if path.startswith(KERNEL):
@@ -193,7 +186,7 @@ class Replay:
             found = self.names.find(base or life.folder, path, follow)
         if found.links:
             self.put_links(life, found, word)
-        if "/.." in path and (not OF_SYSTEM.match(path) or self.is_inside(os.path.normpath(path))):  # guard: folders-that-path-leaves-again
+        if "/.." in path and (not OF_SYSTEM.match(path) or self.names.is_inside(os.path.normpath(path))):  # guard: folders-that-path-leaves-again
             self.put_left(life, path, base or life.folder)
         return found
 
@@ -207,7 +200,7 @@ class Replay:
             if part == ".." != parts[at - 1]:  # guard: last-folder-that-is-left
                 left = self.names.find("/" if path.startswith("/") else base, "/".join(parts[:at]), True)
                 if left.inode is not None and left.inode.kind == "d":
-                    self.put(life, SEEN, left.path)
+                    self.put(life, SEEN if life.is_make or life.is_ninja else ENTERED, left.path)
 
     def put_links(self, life: Life, found: Found, word: str = "") -> None:
         """Links on the way are read."""
@@ -231,22 +224,9 @@ class Replay:
             found.inode = Inode("f")
             found.inode.is_unmade = True
             self.names.put(found.folder, found.name, found.inode)
-        if kind == SEEN and not life.is_make and life.traits().makes_folders and shelltext.makes(life.argv, found.path):  # guard: scripts-that-make-folders-are-quiet
-            for path in (found.path, *shelltext.above(life.argv, found.path)):  # guard: extutils-of-perl-those-above
-                self.put(life, MAKER_SEEN, path)
-        else:
-            self.put(life, kind if ok else ABSENT, found.path, word)
+        self.put(life, kind if ok else ABSENT, found.path, word)
         if not ok and found.missing and found.missing != found.path:
             self.put(life, WAY_ABSENT if found.path.startswith(found.missing + "/") else ABSENT, found.missing)  # (`d/../f` is there where d is)  # guard: folders-that-are-absent-on-way
-
-    def open_by_make(self, life: Life, path: str) -> None:
-        """A make opens a folder, at which it looked right before: both are one question for the names there."""
-        last = life.acts[-1] if life.acts else None
-        if last is not None and last.kind == SEEN and last.path == path:  # guard: look-right-before-folder-is-opened
-            last.kind = MAKE_OPENED
-            if life.events.get((SEEN, path)) == last.place:
-                del life.events[SEEN, path]
-        self.put(life, MAKE_OPENED, path)
 
     def put_absent(self, life: Life, found: Found, kind: str) -> None:
         """A name that could not be made: that its folder is absent counts too."""

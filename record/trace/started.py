@@ -38,7 +38,6 @@ class Started(Opened):
         self.take_words(life, call, words, found)
         self.begin_program(life, (words[1:] or words)[0])
         self.note_rights(life, found.path)
-        self.is_open_shell = self.is_open_shell or shelltext.sets_options(life.argv, life.folder)
         is_real = self.is_real_make(found.path)
         life.is_make = is_real or life.is_make and life.number >= 0
         if is_real or is_other_make(found.path, self.real):
@@ -49,7 +48,6 @@ class Started(Opened):
     def take_words(self, life: Life, call: Call, words: List[str], found: Found) -> None:
         """A life has other words from here on, those of a script as its interpreter gets them. `words`: the program, and the words that it is handed."""
         argv = words[1:]
-        life.taken = ()
         argv = shelltext.with_interpreter(argv, found.path, self.first_words(found.path))  # guard: scripts-are-of-their-interpreter
         life.program = found.path
         life.is_ninja = argv == words[1:] and bool(shelltext.NINJA.match(os.path.basename(found.path)))
@@ -78,9 +76,8 @@ class Started(Opened):
 
     def fail_to_run(self, life: Life, program: str, error: str) -> None:
         """A program did not start. Where the kernel does not know what kind of file it is, bash reads it itself, as a script."""
-        found = self.look(life, program, False, True)
+        self.look(life, program, False, True)
         self.look_at_interpreters(life, program)  # guard: interpreters
-        life.taken += (found.path,) if error == "ENOEXEC" and life.traits().is_shell else ()  # guard: texts-that-bash-reads-itself
 
     def first_words(self, path: str) -> List[str]:
         """The words of a script's first line, read once: the build has ended."""
@@ -98,7 +95,7 @@ class Started(Opened):
         """The kernel reads the interpreter of a script by itself, and that of an interpreter which is a script; so it does with the loader of a program."""
         for _ in range(SCRIPTS):
             path = self.names.find(life.folder, program, True).path
-            words = interpreter_words(path) if self.is_inside(path) else self.first_words(path)  # guard: loaders-are-read
+            words = interpreter_words(path) if self.names.is_inside(path) else self.first_words(path)  # guard: loaders-are-read
             if not words:
                 return
             program = words[0]

@@ -54,6 +54,7 @@ class Ended:
     """A process has ended."""
 
     pid: int
+    has_failed: bool = False  # with another status than 0, or by a signal
 
 
 @dataclass(frozen=True)
@@ -126,7 +127,7 @@ UNFINISHED = "<unfinished ...>"
 def ends(pid: int, text: str) -> List[Event]:
     """What a line about the end of a process says: also that the kernel has kept its memory."""
     kept: List[Event] = [Call(pid, "core", "", 0, "")] if "(core dumped)" in text else []  # guard: memory-that-is-kept
-    return kept + ([] if "superseded" in text else [Ended(pid)])
+    return kept + ([] if "superseded" in text else [Ended(pid, "exited with 0" not in text)])
 
 
 def read_trace(lines: Iterable[str]) -> Iterator[Event]:

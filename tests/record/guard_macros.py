@@ -6,11 +6,8 @@ from guard import FALSE_RACE, YES, Guard, guards
 
 GUARDS: List[Guard] = [
     *guards("make/asked.py",
-        ("makes-with-glob-of-their-own", "return sorted({one for word in words for one in parts_of(word)})", "words.Patterns.make_that_nobody_hears"),
-        ("make", "pattern = part", "asked.Makefiles.file_where_make_goes_into_folders", FALSE_RACE),
-        ("folders-of-patterns", "return sorted({one.part for one in asked if True})", "asked.Makefiles.pattern_of_another_folder_inside", FALSE_RACE),
-        ("folders-of-patterns", "return sorted({one.part for one in asked if fnmatchcase(folder, whole(one.folder, own))})", "asked.Makefiles.pattern_of_a_folder_by_a_link_inside", YES),
-        ("folders-by-way-of-others", "return os.path.join(glob.escape(own), pattern) if pattern[:1] != ANY else pattern", "asked.Makefiles.pattern_of_a_folder_by_another_inside", YES),
+        ("folders-of-patterns", "if MAGIC.search(part):", "asked.Asked.folders"),
+        ("folders-of-patterns", "if MAGIC.search(part) and fnmatchcase(folder, where):", "asked.Asked.folders"),
     ),
     *guards("make/references.py",
         ("called-function-that-shows", r'BUILT_IN = re.compile(r"\$([({])call\s+(call|eval|guile)\s*,")', "references.Texts.functions_that_call_calls"),

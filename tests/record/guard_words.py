@@ -9,7 +9,6 @@ GUARDS: List[Guard] = [
         ("targets-that-were-given-up-for-makefile", r"""FAILED = re.compile(r"^ *(?:Failed to remake) target file '(.*)'\.$")""", "words.Makefiles.target_that_is_given_up_for_a_makefile", LOST_HOLE),
         ("each-time", "return found ", "words.Copies.one_for_each_time"),
         ("names-of-rules", "pass", "warm.Warm.target_in_a_search_path"),
-        ("recipes-that-look", "self.words.patterns.append(pattern)", "words.Patterns.who_looks"),
         ("targets-in-search-paths", 'self.made = ""', "warm.Warm.target_in_a_search_path"),
         ("recipe-that-goes-on-in-next-round", "self.stack, self.children, self.found = [], {}, {}", "words.Several.recipe_that_goes_on_in_the_next_round"),
         ("jobs-of-one-number-in-order", "if pid not in self.words.jobs:", "owners.Holes.number_of_two_jobs"),

@@ -22,6 +22,7 @@ class Case:
     races: int = -1  # lines that begin with RACE, where that is asked
     missing: int = -1  # what `ninja -t missingdeps` finds, where that is asked
     is_new: bool = False  # it is about what ninja 1.11 has, and no older one
+    is_tried: bool = False  # built in other orders too
 
 
 def sh(outputs: str, inputs: str, command: str, *more: str, rule: str = "sh") -> str:
@@ -67,7 +68,7 @@ CASES = [
     Case("folder-of-outputs", SAFE, sh("d/e/a", "", "echo > $out") + sh("d/e/b", "", "echo > $out") + sh("d/f/c", "", "echo > $out")),
     Case("folder-of-another", RACE, sh("d/e/a", "", "echo > $out") + sh("b", "", "echo > d/e/b; touch b"), ["that the folder"]),
     Case("folder-of-another-ordered", SAFE, sh("d/e/a", "", "echo > $out") + sh("b", "|| d/e/a", "echo > d/e/b; touch b")),
-    Case("mkdir", RACE, sh("a", "", "mkdir d 2> $out; echo > d/a") + sh("b", "", "mkdir d 2> $out; echo > d/b")),
+    Case("mkdir", RACE, sh("a", "", "mkdir d 2> $out; echo > d/a") + sh("b", "", "mkdir d 2> $out; echo > d/b"), is_tried=True),
     Case("mkdir-p", SAFE, sh("a", "", "mkdir -p d; echo > d/a; touch a") + sh("b", "", "mkdir -p d; echo > d/b; touch b")),
     Case("folder-removed", RACE, sh("d/a", "", "echo > $out") + sh("b", "", "rm -rf d; touch b")),
     Case("restat", SAFE, sh("a", "", "touch a", "restat = 1") + sh("b", "a", "cat a > b")),
@@ -78,10 +79,9 @@ CASES = [
     Case("dyndep-output-forgotten", RACE, sh("dd", "", DYNDEP % (" | x", "") + "; echo 'build b: dyndep' >> dd") + sh("a", "|| dd", "touch a x", "dyndep = dd") + sh("b", "|| dd", "cat x > b; true", "dyndep = dd")),
     Case("subninja", RACE, "c = no\nsubninja sub/other.ninja\n" + sh("a", "", "cat 'g h' > a"), ["RACE  g h"], files={"sub/other.ninja": sh("g$ h", "", "echo > 'g h'")}),
     Case("subninja-ordered", SAFE, "subninja sub/other.ninja\n" + sh("a", "g$ h", "cat $in > a"), files={"sub/other.ninja": sh("g$ h", "", "echo > 'g h'")}),
-    Case("listing", RACE, GEN + sh("a", "", "ls . > a")),
+    Case("listing", RACE, GEN + sh("a", "", "ls . > a"), is_tried=True),
     Case("listing-ordered", SAFE, GEN + sh("a", "g", "ls . > a")),
-    Case("listing-by-python", RACE, GEN + sh("a", "", "python3 list.py > a"), files={"list.py": "import os\nprint(sorted(os.listdir('.')))\n"}),
-    Case("listing-by-python-of-its-folder", RACE, GEN + sh("a", "", "python3 list.py > a"), files={"list.py": "import os\nprint(os.listdir(os.path.dirname(os.path.abspath(__file__))))\n"}),
+    Case("listing-by-python", RACE, GEN + sh("a", "", "python3 list.py > a"), files={"list.py": "import os\nprint(sorted(os.listdir('.')))\n"}, is_tried=True),
     Case("listing-by-python-ordered", SAFE, GEN + sh("a", "g", "python3 list.py > a"), files={"list.py": "import os\nprint(sorted(os.listdir('.')))\n"}),
     Case("glob", RACE, sh("g.x", "", "touch $out") + sh("a", "", "cat *.x > a; touch a"), files={"h.x": ""}),
     Case("glob-of-other-names", SAFE, sh("g.y", "", "touch $out") + sh("a", "", "cat *.x > a"), files={"h.x": ""}),
@@ -178,14 +178,7 @@ CASES += [
     Case("another-name", NONE, GEN + sh("a", "", USE), ["a ninja of another name ran past the recorder: ./n2"], setup="cp $(command -v ninja) n2", files={"Makefile": "x: ; ./n2 -j1\n"}, words="make"),
     Case("tried-by-another", NONE, sh("x", "", "sh ./try && touch x"), ["nobody kept"], files={"try": TRY, "next": RULES + GEN + sh("a", "g", USE)}),
 ]
-LISTING, BESIDE = {"d/x": "", "e/x": ""}, sh("d/b", "", "touch $out")
-DEPS = "rule r\n  command = echo '$out: d/x' > $out.m; touch $out\n  deps = gcc\n  depfile = $out.m\nbuild d/b: r\n"
 CASES += [
-    Case("log-that-is-listed", RACE, BESIDE + sh("e/a", "", "ls -A . > e/a"), ["that the log of ninja is there"], files=LISTING),
-    Case("log-that-is-listed-behind-another", SAFE, BESIDE + sh("e/a", "d/b", "ls -A . > e/a") + sh("d/c", "", "touch d/c"), files=LISTING),
-    Case("log-that-a-pattern-does-not-fit", SAFE, BESIDE + sh("e/a", "", "echo *.x > e/a"), files=LISTING),
-    Case("log-that-was-there", SAFE, BESIDE + sh("e/a", "", "ls -A . > e/a"), files=LISTING, setup="ninja -j1 d/b > /dev/null; rm d/b", options=["--warm"]),
-    Case("log-of-headers-that-is-listed", RACE, sh("d/c", "", "touch d/c") + DEPS + sh("e/a", "d/c", "ls -A . > e/a"), files=LISTING),
     Case("folder-that-was-removed-first", RACE, sh("a", "", "mkdir -p d; touch a") + sh("b", "", "echo > d/b; touch b"), ["that the folder"], words="sh ./all", files={"all": "rm -r d; ninja -j1\n", "d/x": ""}),
     Case("folder-that-a-stage-removed", RACE, REMADE.replace("next.ninja\n", "next.ninja | r\n") + sh("r", "", "rm -r d; touch r"), ["that the folder"], setup="touch -d 2001-01-01 build.ninja",
          files={"next.ninja": RULES + REMADE + sh("a", "", "mkdir -p d; touch a") + sh("b", "", "echo > d/b; touch b"), "d/x": ""}),

@@ -15,7 +15,7 @@ KEEPS = ['1 mkdir("%s", 0777) = 0' % PLACE, '1 mkdir("%s/0", 0777) = 0' % PLACE,
 COMPILES = ['1 vfork() = 2', '2 execve("/usr/bin/cc", ["cc", "-E"], 0x1) = 0', '2 openat(AT_FDCWD</w>, "%s/tmp/x.i", O_WRONLY|O_CREAT, 0666) = 3<%s/tmp/x.i>' % (PLACE, PLACE)]
 OTHER = ['3 openat(AT_FDCWD</w>, "%s/0/stats", O_RDONLY) = 3<%s/0/stats>' % (PLACE, PLACE)]
 MAKEFILE = "export CCACHE_DIR := $(CURDIR)/../kept\nall: a.o b.o c\n%.o: %.c ; ccache cc -c -o $@ $<\nc: ; "
-LEFT: Set[Tuple[str, str]] = {("T", ""), ("C", "/")}  # the folder gets a name in the one above, and who looks for it makes it too
+LEFT: Set[Tuple[str, str]] = {("E", ""), ("C", "/")}  # the folder gets a name in the one above, and who looks for it makes it too
 
 
 def left(*lines: str) -> Set[Tuple[str, str]]:

@@ -52,8 +52,6 @@ Makefiles = makefiles(__name__, {
     # processes of other recipes
     "process_that_is_looked_for": Small("safe", "all: ; test -d /proc/$$PPID; touch all\n", says=SEES),
     # listings
-    "pattern_of_what_a_shell_reads_first": Small("race", BASH + "export BASH_ENV = s\nall: a b\na: ; echo a > d/n\nb: ; show > b; echo e/*.x >> b\n", {"s": FUNCTION, "d/k": "k", "e/1.x": ""}),
-    "pattern_of_options_in_the_environment": Small("race", BASH + "export BASHOPTS = extglob\nall: a b\na: ; echo a > d/n\nb: ; echo d/@(n|m) e/*.x > b\n", {"d/k": "k", "e/1.x": ""}),
     # ages
     # what programs ask of a folder
     # what goes past files
@@ -67,7 +65,6 @@ Makefiles = makefiles(__name__, {
     "folder_whose_name_a_link_has": Small("race", "all: a b\na: ; ln -s d x; touch a\nb: ; mkdir x 2> /dev/null || echo there > b; touch b\n", {"d/k": "k"}),
     "folder_whose_name_a_file_has_that_comes_first": Small("safe", "all: a b\na: ; echo 1 > x; touch a\nb: a ; mkdir x 2> /dev/null || echo there > b; touch b\n"),
     # folders that are made, where something shows who made them
-    "folder_made_by_a_program_of_the_project": Small("race", "all: a b\na b: ; ./mkdir -p d > $@\n", {"o.c": MAKES}, "cc -o mkdir o.c"),
     # names below another root
     "name_below_another_root": Small("no verdict", "all: b a\na: ; echo 1 > d/x; touch a\nb: ; ./o || touch b\n", {"d/k": "k", "o.c": IN_ROOT}, "cc -o o o.c", says="RESOLVE_IN_ROOT"),
     # ages of the folder that a script is in
@@ -77,7 +74,6 @@ Makefiles = makefiles(__name__, {
     "script_that_bash_takes_in": Small("safe", "SHELL = /bin/bash\nall: a b\na: ; y=2; . ./v; echo $$x > a\nb: ; touch b\n", {"v": "x=1\n"}),
     # the same of a script
     "file_that_is_there_beside_folders": Small("safe", SCRIPT.replace("a b", "b a", 1) % "touch y d/y", {"s": DEEP}, TREE, is_tried=True),
-    "folder_that_was_a_file_and_is_named": Small("race", SCRIPT % "rm y; mkdir y", {"s": "for f in y/*.c; do echo $f; done\n"}, TREE + "; touch y"),
     "folder_that_a_path_by_way_of_proc_leaves_again": Small("race", WAY % "/proc/self/cwd/d/../f", {"f": ""}, says=IS_THERE),
     # folders that several recipes give an owner
 })
@@ -146,14 +142,6 @@ class Descriptors(unittest.TestCase):
         made = f'1 openat(AT_FDCWD<{TOP}>, "x", O_WRONLY|O_CREAT, 0666) = 3<{TOP}/x>'
         replay = played(made, '1 link("x", "y") = 0', '1 rename("x", "y") = 0', "1 vfork() = 2", made.replace("1", "2", 1))
         self.assertIn(("W", "y"), events_of(lives_of(replay, 2)[0]))
-
-    def test_folder_of_modules(self) -> None:
-        opened = '1 openat(AT_FDCWD<%s>, "gcm.cache/m.gcm~", O_RDWR|O_CREAT|O_TRUNC|O_CLOEXEC, 0666) = ' % TOP
-        lines = [opened + "-1 ENOENT (No such file or directory)", '1 mkdir("gcm.cache", 0777) = 0', opened + "3<%s/gcm.cache/m.gcm~>" % TOP]
-        for name, option, wanted in (("cc1plus", "-fmodules-ts", "KT"), ("cc1plus", "-fno-modules", "MNP"), ("other", "-fmodules-ts", "MNP")):
-            replay = played('1 execve("/opt/%s", ["%s", "%s"], 0x1 /* 1 var */) = 0' % (name, name, option), *lines)
-            kinds = {kind for kind, path in events_of(lives_of(replay, 1)[0]) if path == "gcm.cache"}
-            self.assertEqual({*wanted}, kinds & {*"KTNMP"}, (name, option))
 
     def test_attributes_of_a_link(self) -> None:
         self.assertIn(("W", "l"), self.events('1 lremovexattr("l", "trusted.x") = 0'))

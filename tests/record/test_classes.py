@@ -85,7 +85,7 @@ class Traces(unittest.TestCase):
         for line in ('getxattrat(AT_FDCWD<%s>, "f", 0, "user.x", {}, 16) = 0', 'listxattrat(AT_FDCWD<%s>, "f", 0, 0x1, 16) = 0', 'file_getattr(AT_FDCWD<%s>, "f", {}, 24, 0) = 0'):
             self.assertIn(("S", "f"), self.events(line % TOP), line)
         self.assertIn(("N", "f"), self.events('oldstat("f", 0x1) = -1 ENOENT (No such file or directory)'))
-        self.assertIn(("L", "d\0*"), self.events("readdir(3<%s/d>, {}) = 1" % TOP))
+        self.assertIn(("L", "d"), self.events("readdir(3<%s/d>, {}) = 1" % TOP))
 
     def test_names_of_open_files(self) -> None:
         for path in ("NULL", '""'):

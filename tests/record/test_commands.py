@@ -15,14 +15,9 @@ Makefiles = makefiles(__name__, {
     "another_make": Small("no verdict", "export PATH := $(CURDIR)/bin:$(PATH)\nall: ; make -s -f in.mk\n", {"in.mk": "all: ; touch all\n"}, "mkdir bin; cp /bin/true bin/make", says="ran past the recorder"),
     "script_that_is_called_make": Small("safe", "all: ; ./make all\n", {"make": "#!/bin/sh\ntouch $1\n"}, "chmod +x make"),
     # folders that are made, where something shows who made them
-    "folder_made_or_true_and_traced": Small("race", "all: a b\na b: ; set -x; exec 2> $@; mkdir d 2> /dev/null || true\n"),
-    "folder_made_or_true_and_traced_by_a_word": Small("race", ".SHELLFLAGS = -xc\nall: a b\na b: ; exec 2> $@; mkdir d 2> /dev/null || true\n"),
     "folder_made_or_true_and_traced_for_nobody": Small("safe", "all: a b\na b: ; set -x; mkdir d 2> /dev/null || true; touch $@\n", is_tried=True),
-    "folder_made_or_true_and_last_word": Small("race", "SHELL = /bin/bash\nall: a b\na b: ; mkdir d 2> /dev/null || true; echo \"$$_\" > $@\n"),
     # folders
-    "folder_by_a_function_of_that_name": Small("race", FOLDER % 'mkdir() { /bin/mkdir "$$@" && echo made > a; }; test -d d || mkdir -p d; touch a'),
     "folder_beside_a_function": Small("safe", FOLDER % "f() { touch a; }; test -d d || mkdir -p d; f", is_tried=True),
-    "folder_and_a_list_of_the_programs_that_ran": Small("race", FOLDER % "test -d d || mkdir -p d; hash > a"),
 })
 
 

@@ -85,7 +85,7 @@ class Configured(unittest.TestCase):
         self.status(2, "all: config.h a b\na: ; cp old config.status; touch a\nb: a ; touch b\nconfig.h: s ; cp s config.h\n", "mv config.status old; ")
 
     def test_status_that_the_build_changes(self) -> None:
-        self.status(2, MAKEFILE + "all: c\nc: ; cat a.c > t; cp t config.status; touch c\n", says="WARM  4 files")
+        self.status(1, MAKEFILE + "all: c\nc: ; cat a.c > t; cp t config.status; touch c\n", says="WARM  4 files")
 
     # As in `less`: the stamp comes with the first make.
     STAMPED = "all: a b\na: a.c config.h ; cat a.c config.h > a\nb: b.c ; cat b.c > b\nconfig.h: stamp-h\nstamp-h: config.in config.status ; touch stamp-h\nconfig.status: configure ; ./config.status --recheck\n"

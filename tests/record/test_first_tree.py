@@ -81,7 +81,6 @@ class Left(unittest.TestCase):
         files = {"Makefile": "all: a b\na: ; ls p > a\nb: ; echo > p/b; touch b\nclean: ; rm -f a b\n", "p/k": ""}
         self.warm(files, GIT + "; make -s; make -s clean", "p/b")
         self.warm(files, "make -s; make -s clean", "p/b")
-        self.assertEqual(0, self.recorded({**files, "Makefile": files["Makefile"].replace("ls p", "ls p/k*")}, "make -s; make -s clean").status)
 
     def test_folder_that_make_lists(self) -> None:
         self.warm({"Makefile": "all: list sub\nlist: ; echo $(wildcard p/*/) > list\nsub: ; mkdir -p p/d; touch sub\nclean: ; rm -f list sub\n", "p/k": ""}, GIT + "; make -s; make -s clean", "p/d")
@@ -172,7 +171,7 @@ class Fresh(unittest.TestCase):
 
     def test_new_file_that_a_recipe_writes(self) -> None:
         """It is no source, and without it its folder is not there."""
-        files = {"Makefile": "all: d a\na: ; test -d d; : >> d/log; touch a\nd: ; test -d d || mkdir d\nclean: ; rm -f a\n", ".gitignore": "a\n"}
+        files = {"Makefile": "all: d a\na: ; : >> d/log; touch a\nd: ; test -d d || mkdir d\nclean: ; rm -f a\n", ".gitignore": "a\n"}
         outcome = self.fresh(files, GIT + "; make -s; make -s clean")
         self.assertEqual(1, outcome.status, outcome.text())
 

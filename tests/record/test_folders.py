@@ -1,4 +1,4 @@
-"""Folders and ages: what tasks do to names that stand for something else, of events that are made here."""
+"""Who makes a folder, and who uses it, of events that are made here."""
 
 import unittest
 from typing import Dict, List, Mapping, Sequence, Tuple
@@ -13,9 +13,6 @@ from record.trace.lives import Life
 from record.trace.names import Inode, Names
 from test_small import Small, makefiles
 
-OWNED = "U := $(shell id -un)\nall: a b\na: ; install -d -o $U -m %s d; touch d/$@ $@\nb: ; install -d -o $U d -m %s; touch d/$@ $@\n"
-ABOVE = "all: sub\nsub: mk ; $(MAKE) -C in\nmk: ; umask 022; mkdir -m %d b; touch mk\n"
-MODES = "all: a c\na: ; chmod 755 ../b; touch a\nc: ; ls -d ../b > c\n"
 PAIR = "all: x y\nx: ; mkdir -p out; touch x\ny: ; %s; touch y\n"
 # Recipes for which make itself makes the folder of their target, as many of git's makefile.
 AHEAD = "$(if $(wildcard $(@D)),,%s$(shell mkdir -p $(@D)))"
@@ -73,61 +70,37 @@ AB: Dict[str, List[str]] = {"a": [], "b": []}
 
 
 class Folders(unittest.TestCase):
-    """Who makes, uses, removes and lists a folder."""
+    """Which two tasks meet."""
 
     def meet(self, one: Events, two: Events, there: Mapping[str, str] = {}, argv: Sequence[str] = ("cc",)) -> List[str]:
         return sorted(meetings(build_of(AB, {"a": one, "b": two}, there, argv)))
 
-    def test_two_strict_makers(self) -> None:
-        self.assertEqual(["d/@make"], self.meet([("M", "d")], [("E", "d")]))
-
-    def test_two_quiet_makers(self) -> None:
-        self.assertEqual([], self.meet([("T", "d")], [("T", "d")]))
+    def test_two_makers(self) -> None:
+        self.assertEqual([], self.meet([("M", "d"), ("C", "d/")], [("E", "d")]))
 
     def test_user_without_a_maker_before_it(self) -> None:
-        self.assertEqual(["d/@seen"], self.meet([("T", "d")], [("W", "d/x")]))
+        for use in (("C", "d/x"), ("U", "d"), ("L", "d"), ("N", "d"), ("P", "d")):
+            self.assertEqual(["d/@seen"], self.meet([("M", "d")], [use]), use)
+
+    def test_user_that_looks_first(self) -> None:
+        self.assertEqual([], self.meet([("M", "d")], [("S", "d"), ("C", "d/x")]))
+        self.assertEqual(["d/@seen"], self.meet([("M", "d")], [("C", "d/x"), ("S", "d")]))
 
     def test_user_behind_its_maker(self) -> None:
-        self.assertEqual({}, meetings(build_of({"a": [], "b": ["a"]}, {"a": [("M", "d")], "b": [("W", "d/x")]})))
+        self.assertEqual({}, meetings(build_of({"a": [], "b": ["a"], "c": []}, {"a": [("M", "d")], "b": [("C", "d/x")], "c": [("E", "d")]})))
+
+    def test_user_that_makes_it(self) -> None:
+        self.assertEqual([], self.meet([("M", "d")], [("C", "d/x"), ("E", "d")]))
 
     def test_folder_that_was_there(self) -> None:
-        self.assertEqual([], self.meet([("E", "d")], [("E", "d")], {"d": "d"}))
-
-    def test_maker_that_looks_first(self) -> None:
-        self.assertEqual(["d/@seen"], self.meet([("N", "d"), ("T", "d")], [("T", "d")]))
-
-    def test_removed_folder_and_its_user(self) -> None:
-        self.assertEqual(["d/@gone"], self.meet([("X", "d")], [("S", "d")], {"d": "d"}))
-
-    def test_removal_that_failed_and_a_name_in_the_folder(self) -> None:
-        self.assertEqual(["d/x"], self.meet([("C", "d/x"), ("W", "d/x")], [("x", "d")], {"d": "d"}))
-
-    def test_listing_and_a_folder_that_is_made(self) -> None:
-        self.assertEqual(["d/@seen"], self.meet([("M", "d"), ("C", "d/")], [("L", "\0*")]))
-        self.assertEqual([], self.meet([("M", "d"), ("C", "d/")], [("L", "\0*.c")]))
-
-    def test_scripts_that_make_it(self) -> None:
-        self.assertEqual([], self.meet([("T", "d"), ("W", "d/x")], [("K", "d"), ("W", "d/y")]))
-
-
-class Ages(unittest.TestCase):
-    """Ages that somebody compares."""
+        self.assertEqual([], self.meet([("M", "d")], [("C", "d/x")], {"d": "d"}))
 
 
 Makefiles = makefiles(__name__, {
-    # names that cannot be made, as their folder is not there, or is full
     "folder_that_is_not_closed": Small("safe", "all: a u\na: ; chmod 700 d; touch a\nu: ; cat d/x > u\n", {"d/x": "x"}),
-    # folders that several recipes give an owner
-    "folder_of_one_owner_whose_mode_is_changed": Small("race", OWNED % ("755", "755; chmod 700 d"), is_tried=True),
-    # `.exists` files of Perl's makefiles
-    "mode_that_a_make_above_has_set": Small("safe", ABOVE % 755, {"in/Makefile": MODES}),
-    "mode_of_a_folder_that_is_found": Small("race", PAIR % "umask 077; test -d out || mkdir -p out"),
-    # folders that a recipe makes, and uses before that
+    "folder_of_another_mode": Small("race", PAIR % "umask 077; test -d out || mkdir -p out", is_tried=True),
+    "folder_asked_for_behind_its_use": Small("race", PAIR % "touch out/y; test -d out || mkdir -p out", is_tried=True),
     "folder_made_before_its_use": Small("safe", PAIR % "mkdir -p out; touch out/y"),
-    "folder_made_behind_its_use": Small("race", PAIR % "touch out/y; mkdir -p out"),
-    "folder_asked_for_behind_its_use": Small("race", PAIR % "touch out/y; test -d out || mkdir -p out"),
-    "folder_made_twice": Small("safe", PAIR % "mkdir -p out; touch out/y; mkdir -p out"),
-    "folder_made_behind_its_use_and_waited_for": Small("safe", PAIR.replace("y: ;", "y: x ;") % "touch out/y; mkdir -p out"),
-    # folders that make itself makes for a recipe
+    "folder_of_another_recipe": Small("race", PAIR % "touch out/y", says="that the folder out is there"),
     "folder_that_make_makes_ahead": Small("safe", FIRST % "" + "out/b: ; $(F)\n\techo b > $@\n", is_tried=True),
 })

@@ -130,13 +130,6 @@ class Directed(unittest.TestCase):
         blocks = [Block([name], "%s: ; $N $@; echo w > x; touch %s\n" % (name, name)) for name in "ab"]
         self.assertEqual("race not seen", self.kind(Project(1, blocks)))
 
-    @unittest.skipUnless(shutil.which("ninja"), "ninja is missing (Debian: apt-get install ninja-build)")
-    def test_statements_in_another_order(self) -> None:
-        """Ninja makes the folder of the first statement before it starts the second, though nothing orders them."""
-        text = "build d/a: sh\n  c = touch d/a\nbuild u: sh\n  c = echo u > d/u || true; touch u\n"
-        self.assertEqual("race seen", self.kind(NinjaProject(1, [Block(["d/a", "u"], text)])))
-        self.assertEqual("safe", self.kind(NinjaProject(1, [Block(["d/a", "u"], text.replace("u: sh", "u: sh || d/a"))])))
-
     def test_what_is_held_back(self) -> None:
         """A recipe at each of its steps; a look by the recipes that it waits for and the other one does not."""
         after = {"a": [], "b": ["a"], "c": ["b"], "c@look": ["b"], "w": ["a"]}

@@ -38,18 +38,13 @@ LOCKS: Dict[str, Small] = {
     "file_that_each_removes": Small("race", "all: a b\na b: ; flock lock touch $@; rm -f lock\n"),
     "file_that_another_makes": Small("race", BOTH + "c: ; touch lock c\n"),
     "file_that_another_moves_there": Small("race", BOTH + "c: ; echo 1 > c; ln c lock || true\n"),
-    "file_in_a_list": Small("race", BOTH + "c: ; echo l* > c\n"),
     "file_in_a_list_behind_one": Small("safe", BOTH + "c: a b ; ls l* > c\n"),
     "file_in_a_list_of_other_names": Small("safe", BOTH + "c: ; echo *.i > c\n"),
-    "file_in_a_list_of_make": Small("race", BOTH.replace("lock t", "d/lock t") + "c: x ; echo $(wildcard d/l*) > c\nx: ; touch x\n", {"d/k": ""}),
     "file_in_a_list_of_make_for_other_names": Small("safe", BOTH.replace("lock t", "d/lock t") + "c: x ; echo $(wildcard d/k*) > c\nx: ; touch x\n", {"d/k": ""}),
     "file_that_a_make_inside_looks_for": Small("race", BOTH + "c: ; $(MAKE) -f in.mk\n", {"in.mk": "all: $(wildcard loc?)\n\ttouch c\n"}),
-    "file_that_make_looks_for": Small("race", "all: a b\na b: ; flock lock touch $@\nb: lock\nlock: ; touch lock\n"),
     # its folder, its mode and its age
     "folder_that_another_makes": Small("race", "all: d a b\nd: ; mkdir d\na b: ; flock d/lock touch $@\n"),
     "folder_that_comes_first": Small("safe", "all: a b\nd: ; mkdir d\na b: | d ; flock d/lock touch $@\n"),
-    "folder_that_its_maker_uses_too_early": Small("race", "all: b a\nb: ; mkdir -p d; touch b\na: ; flock d/lock true || echo no > a; mkdir -p d; touch a\n"),
-    "folder_that_is_removed": Small("race", "all: d a b c\nd: ; mkdir d\na b: | d ; flock d/lock touch $@\nc: | d ; rmdir d 2>/dev/null; touch c\n"),
     # makes inside
     "age_that_an_unknown_program_under_it_asks_for": Small("safe", "all: a b\na b: ; flock lock ./s -Lc %s /dev/fd/3 > $@\n", {"s.c": ""}, setup="cp $(command -v stat) s"),
     "locks_of_two_makes": Small("safe", "all: a b\na b: ; $(MAKE) -f in.mk G=$@\n", {"in.mk": "all: $G.x $G.y\n$G.x $G.y: ; flock lock touch $@\n"}),

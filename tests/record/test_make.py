@@ -29,21 +29,15 @@ Makefiles = makefiles(__name__, {
     # names with blanks
     "name_with_a_blank_behind_a_bar": Small("race", "all: g x\ng: ; touch a g\nx: a | a\\ b ; touch log x\na\\ b: ; touch 'a b'\n", {"a": "a", "x": "x"}, "touch -d 2001-01-01 a; touch -d 2002-01-01 x"),
     # programs that make itself looks for before a line of a recipe
-    "program_that_is_a_target_by_a_macro": Small("race", "X = bin\nu: export PATH = $(X):bin2:/usr/bin:/bin\nall: u bin/tool\nbin/tool: ; cp t bin/tool\nu: p ; tool u\np: ; touch p\n", TOOLS, SETUP),
     "target_that_is_no_program": Small("safe", "export PATH := bin:$(PATH)\nall: bin/k g\ng: ; touch g\nbin/k: ; touch bin/k\n", TOOLS, "rm bin/k"),
     # who makes a folder first
-    "folder_that_a_script_makes_too": Small("race", "all: a b\na b: ; sh mk.sh $@; mkdir d 2> /dev/null || true\n", {"mk.sh": "mkdir d 2> /dev/null && echo first > $1 || echo second > $1\n"}),
     # macros that make exports, and those that their values refer to
     # what make does for a recipe when that starts, which a bound on the load lets wait
-    "program_in_a_folder_of_path": Small("race", PATH % "$(CURDIR)/bin", {"bin/k": "", "y": ""}),
-    "program_in_a_relative_folder_of_path": Small("race", "all: ; $(MAKE) -C d\n", {"d/Makefile": (PATH % "../bin").replace(" bin/cp", " ../bin/cp"), "bin/k": "", "d/y": ""}),
     "program_in_a_folder_of_path_elsewhere": Small("safe", LOAD.replace("$$X", "$(shell cat x)") % ("export PATH := /usr/bin:$(PATH)\n", "echo 1 > x")),
     # folders that are made
-    "folder_made_or_true_in_another_shell": Small("race", "all: a b\na b: ; sh -c 'mkdir d || true' 2> $@.log; touch $@\n"),
     # macros that make sets by the way
     "macros_that_set_others_in_a_script": Small("safe", "set = $(eval $1 := 1)\n$(call set,X)\n" + SET % ("echo '$(X)' > a", "echo '$(X)' > b"), {"build.sh": "make all\n"}),
     # folders that are made, where something shows who made them
-    "folder_made_by_a_line_in_a_make_with_errors": Small("race", KEEPS % ("$(MAKE)", "2> log"), {"in.mk": "all: a b\na b:\n\t@-mkdir d\n\t@touch $@\n"}),
     # macros
     "names_of_macros_that_nobody_sets": Small("safe", "of = PHONY\n" + OTHER_SHOWS % "$(filter X,$(MY_$(of)))" + "a: s ; $(eval X := set)touch a\n"),
     # what is worked out once

@@ -5,8 +5,7 @@ import unittest
 import support
 from record.make.build import is_row
 from record.make.database import read_base
-from record.make.targets import looked_with
-from record.make.words import LATER, Words
+from record.make.words import Words
 from test_small import OLD, Small, makefiles
 
 TWO_RULES = "%.t: %.a ; cp $< $@\n%.t: %.b ; cp $< $@\n"
@@ -33,6 +32,11 @@ GROUP = "all: a t w\n" + SLOW + "t: b ; echo t >> t\na b &: g ; touch q\nw: ; ec
 LEFT = "all: t w\n" + SLOW + "t: p ; echo t >> t\np: f | g ; touch q\nf:\nw: ; echo w > p; touch w\n"
 DOUBLE = "all: t w\n" + SLOW + "t: p ; echo t >> t\np:: x | g ; touch q\np:: f ; touch r\nf:\nw: ; echo w > p; touch w\n"
 Makefiles = makefiles(__name__, {
+    # names for which make asks
+    "file_that_a_recipe_makes_before_make_asks": Small("race", "all: w u\nw: ; echo x > x; touch w\nu: x ; touch u\n", says="make looks at it"),
+    "file_that_a_recipe_makes_when_make_has_asked": Small("safe", "all: u w\nw: ; echo x > x; touch w\nu: x ; touch u\n", {"x": "x"}),
+    "target_that_another_recipe_makes": Small("race", "all: a b\na b: ; touch a b\n", says="make looks at it"),
+    "target_that_another_recipe_writes_too": Small("race", "all: b a\na: ; touch a\nb: ; ls a; touch b\n"),
     # a file that no rule makes
     "prerequisite_that_is_written_later": Small("safe", NEEDED % "g t w", {"t": "t", "x": "x"}, NEW, is_tried=True),
     "prerequisite_that_is_written_before": Small("race", NEEDED % "w g t", {"t": "t", "x": "x"}, NEW),
@@ -54,12 +58,10 @@ Makefiles = makefiles(__name__, {
     # what make looks for when it first considers a target, though what that needs is made later
     "search_before_what_a_target_needs": Small("race", "all: gen sub/z.t\n" + TWO_RULES + "gen: ; rm sub/z.a; touch gen\nsub/z.b: gen ; echo b > $@\n", {"sub/z.a": "a"}, is_tried=True),
     "search_by_way_of_another_file": Small("race", "all: gen sub/z.t\n" + CHAINS + "gen: ; rm sub/z.a; touch gen\n", {"sub/z.a": "a", "sub/z.b": "b"}, is_tried=True),
-    "search_by_a_pattern_of_names": Small("race", "all: gen src.zip\ngen: ; rm src/n; touch gen\n%.zip: %/* ; echo $^ > $@\n", {"src/n": "n", "src/k": "k"}),
     "search_for_a_declared_intermediate_file": Small("race", ".INTERMEDIATE: sub/x.t\nall: g u\nu: sub/x.t ; cp $< $@\n" + TWO_RULES + "g: ; rm sub/x.a; touch g\n", {"sub/x.a": "a", "sub/x.b": "b"}, is_tried=True),
     "search_path_with_a_file_that_goes": Small("race", "VPATH = v w\nall: g t\ng: ; rm v/x.c; touch g\nt: x.c ; touch t log\n", {"v/x.c": "1", "w/x.c": "2", "t": "t"}, "touch -d 2001-01-01 w/x.c; touch -d 2002-01-01 t", is_tried=True),
     "second_expansion_that_reads": Small("race", SECOND + "all: a b.o\na: ; echo new > list; touch a\n%.o: %.c $$(shell cat list) k ; cat $^ > $@\nk: a ; touch k\n", LISTS, is_tried=True),
     "second_expansion_of_a_target_that_is_kept": Small("race", SECOND + "all: a b.o\na: ; echo new > list; touch a\n%.o: %.c $$(shell cat list) ; cat $^ > $@\n", {**LISTS, "b.o": "o"}, "touch -d 2001-01-01 b.c new; touch -d 2002-01-01 b.o", is_tried=True),
-    "second_expansion_to_a_pattern": Small("race", SECOND + "X = d/*.h\nall: a b.o\na: ; rm d/n.h; touch a\n%.o: %.c $$(X) ; echo $^ > $@\n", {"b.c": "c", "d/n.h": "n", "d/k.h": "k"}),
     # one job at a time
     "not_parallel_by_a_pattern": Small("race", ROW % (" .NOTPARALLEL", ".PHONY: all\n%: ; @:\n")),
     # folders with a quote in their names
@@ -104,11 +106,6 @@ class Builds(unittest.TestCase):
         for names, version, wanted in (("", "4.3", True), (" a", "4.3", True), ("", "4.4", True), (" a", "4.4", False), (" a", "4.4.1", False)):
             base = read_base([text % names if "%" in text else text for text in self.BASE])
             self.assertEqual(wanted, is_row(base, Words(7, 0, version=version)), (names, version))
-
-    def test_targets_at_which_make_looks_together(self) -> None:
-        base = read_base(["# Files", "", "x:", "#  Also makes: y", "", "# files hash-table stats:"])
-        for version, name, ran, wanted in (("4.3", "x", "", []), ("4.4", "x", "", ["y"]), ("4.4", "x", "x", ["y"]), ("4.4", "x", "y", []), ("4.4", "y", "", [])):
-            self.assertEqual(wanted, looked_with(base, version, name, {ran}), (version, name, ran))
 
     def test_text_of_a_program_that_a_second_expansion_reads(self) -> None:
         for gives in ("$(shell cat f)", "$(file <f)"):

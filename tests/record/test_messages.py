@@ -66,15 +66,15 @@ class NoVerdict(unittest.TestCase):
         both = report(written(HOLES[:1]), [refused("refused F22 WritesTarget")], Path("/r"))
         self.assertEqual(("NO VERDICT  the record has holes:", True, "  - hole 0"), (both[0], "F22" in both[1], both[2]))
 
-    def test_the_build_is_not_safe_beside_a_look_that_no_line_orders(self) -> None:
-        labels = {"a": {"target": "a"}, "b": {"target": "b"}, "b@first": {"target": "b", "kind": "first"}}
+    def test_the_build_is_not_safe_beside_a_rule_that_no_line_orders(self) -> None:
+        labels = {"a": {"target": "a"}, "b": {"target": "b"}, "c": {"target": "c", "colons": 2}}
         about = {**ABOUT, "labels": labels, "meanings": {}}
-        races = [Race("f", "a", "writes", "b", "reads"), Race("g", "a", "writes", "b@first", "reads")]
+        races = [Race("f", "a", "writes", "b", "reads"), Race("g", "c", "writes", "b", "reads")]
         for count, says in ((1, "With this line the build is safe (checked)."), (2, "No line ends 1 of the races.")):
             lines = report(written([]), [Judged("001", about, Verdict(1, races[:count], count, ["b: a"]))], Path("/r"))
             self.assertIn("  fix: b: a          (checked: ends this race)", lines)
             self.assertTrue(any(line.endswith(says) for line in lines), lines)
-        self.assertIn("  advice: let one recipe alone write it; make asks whether it is there before that recipe has run", lines)
+        self.assertIn("  advice: write the rules of c as one: what needs it is only sure to wait for the first of them", lines)
 
     def test_calls_with_many_words(self) -> None:
         """Each build is named by its call, which may hand on many macros."""

@@ -27,7 +27,6 @@ Makefiles = makefiles(__name__, {
     # names that cannot be made, as their folder is not there, or is full
     "link_in_a_folder_that_is_absent": Small("race", ABSENT % "ln x d/y", {"x": "x"}),
     "symbolic_link_in_a_folder_that_is_absent": Small("race", ABSENT % "ln -s x d/y"),
-    "folder_that_is_moved_over_a_full_one": Small("race", "all: a u\na: ; touch e/x a\nu: ; mv -T d e 2> /dev/null || echo no > u; touch u\n", setup="mkdir d e"),
     # folders that move
     "folder_that_is_moved": Small("race", "all: a b\na: ; mv d e; touch a\nb: ; echo z > e/z; touch b\n", {"d/k": "k"}),
     "folder_below_one_that_is_moved": Small("race", "all: a b\na: ; mv d e; touch a\nb: ; echo z > e/s/z; touch b\n", {"d/s/k": "k"}),

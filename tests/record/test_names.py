@@ -93,7 +93,6 @@ Makefiles = makefiles(__name__, {
     # files with a name elsewhere
     "name_outside_that_is_written": Small("race", "all: a b\na: ; echo 1 > ../y; touch a\nb: ; cat x > b\n", setup="echo 0 > ../y; ln ../y x"),
     # the same of a script
-    "link_for_a_while": Small("race", SCRIPT % "ln -s d y; rm y", {"s": DEEP}, TREE),
     # folders above the project, and those of the system
     "folders_by_a_whole_path": Small("safe", "all: x y\nx: ; mkdir -p $(CURDIR)/d/e; touch x\ny: ; touch $(CURDIR)/y\n", lacks="outside of the project"),
     "folder_beside_the_project": Small("race", "all: x y\nx: ; mkdir -p ../d/e; touch x\ny: ; touch ../d/y 2> /dev/null; touch y\n"),

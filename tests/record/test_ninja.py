@@ -18,7 +18,7 @@ def test_of(case: Case) -> Callable[[unittest.TestCase], None]:
             self.skipTest("ninja 1.11 has that, and later versions")
         with support.Project({"build.ninja": RULES + case.manifest, **case.files} if case.manifest else case.files) as project:
             project.sh(case.setup)
-            outcome = project.record(case.words.split(), case.options)
+            outcome = project.record(case.words.split(), case.options, once=not case.is_tried)
             found = support.missing(project.folder) if (project.folder / ".ninja_deps").exists() else []
         text = outcome.text() + outcome.stderr.decode()[-800:]
         self.assertEqual(case.want, outcome.status, text)

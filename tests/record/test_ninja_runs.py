@@ -138,7 +138,6 @@ class Changed(unittest.TestCase):
 
 Makefiles = makefiles(__name__, {
     # what ninja writes when a command has ended
-    "log_of_ninja": Small("race", "", {"build.ninja": NINJA % ""}),
     "log_of_ninja_that_is_waited_for": Small("safe", "", {"build.ninja": NINJA % " | a"}),
 })
 

@@ -8,7 +8,7 @@ from typing import Any, Dict, List, Optional, Sequence, Tuple
 
 import support  # noqa: F401  (it finds the modules)
 
-from record.orders.graph import Graph, Left
+from record.orders.graph import Graph
 
 Row = Tuple[str, Sequence[str], Sequence[str], Sequence[str]]  # label, after, reads, writes
 
@@ -51,21 +51,14 @@ class Graphs(unittest.TestCase):
         """A recipe has the place of the first that runs inside it: that waits for it."""
         rows: List[Row] = [("a", [], [], []), ("b#1", [], [], []), ("b", ["b#1"], [], [])]
         graph = self.graph((None, rows), ({"build": "001", "task": "b#1"}, [("x", [], [], [])]), kinds={"b#1": {"kind": "part", "target": "b"}})
-        places = graph.covering(Left([0] * 4, [(0, 2)]))
+        places = graph.covering([0, 0, 1, 0])
         self.assertEqual(places[("/p", "b", 1),], places[("/p", "b", 1), ("/p", "x", 1)])
 
     def test_covers(self) -> None:
         """The order turns round what is wanted, with what that needs first."""
         graph = self.graph((None, [("a", [], [], []), ("n", [], [], []), ("b", ["n"], [], []), ("c", [], [], [])]))
-        self.assertEqual(["n", "b", "c", "a"], self.began(graph.covering(Left([0] * 4, [(0, 2)]))))
+        self.assertEqual(["n", "b", "c", "a"], self.began(graph.covering([0, 0, 1, 0])))
         self.assertEqual(["n", "b", "a", "c"], self.began(graph.alone((0, 2))))
-
-    def test_looks_of_make(self) -> None:
-        """What has no recipe comes as soon as those before it have ended."""
-        graph = self.graph((None, [("a", [], [], []), ("look", [], [], []), ("b", [], [], []), ("d", ["b"], [], [])]), kinds={"look": {"kind": "look"}, "d": {"kind": "decision"}})
-        keys = [*graph.keys]
-        self.assertEqual([(0, 3)], graph.behind(Left([0] * 4, [(0, 3), (0, 1)]), [keys[0], keys[1]]).soft)
-        self.assertEqual([], graph.behind(Left([0] * 4, [(0, 3), (0, 1)]), [keys[1], keys[0]]).soft)
 
     def test_parts(self) -> None:
         """A part of a recipe begins when that does, and what it runs is inside the recipe."""
@@ -76,7 +69,7 @@ class Graphs(unittest.TestCase):
 
     def test_users_first(self) -> None:
         """Who lists a folder, or uses one, begins before the several that make it."""
-        graph = self.graph((None, [("a", [], [], ["d/a"]), ("c", [], ["d/a", "d/b"], []), ("b", [], [], ["d/b"])]), kinds={"c": {"lists": ["d/a", "d/b"]}})
+        graph = self.graph((None, [("a", [], [], ["d/a"]), ("c", [], [], []), ("b", [], [], ["d/b"])]), kinds={"c": {"lists": ["d"]}})
         self.assertEqual(["c"], self.began(graph.users_first() or {})[:1])
         self.assertIsNone(self.graph((None, [("a", [], [], ["d"]), ("c", [], ["d"], [])])).users_first())
 

@@ -72,7 +72,6 @@ class Output(unittest.TestCase):
     def test_makefiles_that_a_recipe_includes(self) -> None:
         text = "all: x y\nx:\n\t$(eval include v.mk)@echo $(V) > x; echo first\ny: x\n\t$(eval -include no.mk)$(eval include v.mk)@echo $(V)y > y; echo $(V)\n"
         self.assertEqual(0, self.both(text, v_mk="V = 1\n"))
-        self.assertEqual(1, self.both(text.replace("all:", "all: v.mk") + "v.mk: ; @echo V = 2 > v.mk\n"))
 
     def test_target_that_stands_in_a_folder_of_search_paths(self) -> None:
         """Make says that it does not take it, where it makes another one: a tree that was built in its own folder, and then out of it."""

@@ -105,10 +105,9 @@ class Holes(unittest.TestCase):
 
 
 Makefiles = makefiles(__name__, {
+    "output_that_a_recipe_reads": Small("no verdict", "all: ; $(MAKE) -f in.mk > log\n", {"in.mk": "all: ; cat log > b\n"}, says="looks into the file that keeps what its make prints"),
     # when make has read its makefiles
-    "makefile_that_is_not_there_and_comes": Small("race", "-include cfg.mk\nall: w b c\ns: ; touch s\nw: s ; echo 1 > x; touch w cfg.mk\nb: ; echo '$(file <x)' > b\nc: w ; echo '$(file <cfg.mk)' > c\n", {"x": "0"}),
     # what a make inside a recipe asks of a list that it keeps of a folder
-    "pattern_of_a_rule_in_a_make_inside": Small("race", INNER % "echo n > d/n.c", {"d/k.c": "k", "in.mk": "out: d/*.c ; cat $^ > out\n"}),
     "pattern_of_a_default_that_changes_nothing": Small("safe", INNER % "echo n > d/n.h", {"d/k.c": "k", "d/k.h": "k", "in.mk": "C = d/k.c\ninclude more.mk\n", "more.mk": "C ?= $(shell ls d/*)\nout: $(C) ; cat $^ > out\n"}),
     # what is there when a build begins, and not when the recording does
     "target_that_the_make_above_has_made": Small("race", "in: pre ; $(MAKE) -f 2.mk; touch in\npre: ; touch t pre\n", {"p": "p", "2.mk": KEPT}),
@@ -119,30 +118,15 @@ Makefiles = makefiles(__name__, {
     "make_that_make_calls_without_flags": Small("safe", "X := $(shell env -u MAKEFLAGS $(MAKE) -s -f in.mk)\nall: ; touch all\n", {"in.mk": ROW}),
     "make_of_one_job_that_make_calls": Small("safe", "X := $(shell $(MAKE) -s -j1 -f in.mk)\nall: ; touch all\n", {"in.mk": ROW}),
     # programs that make itself looks for before a line of a recipe
-    "program_of_a_later_line": Small("race", "export PATH := $(CURDIR)/bin:$(CURDIR)/bin2:$(PATH)\n" + LATER + "u:\n\ttrue\n\ttool u\n", TOOLS, SETUP),
     "program_of_a_later_line_that_comes_first": Small("safe", "export PATH := $(CURDIR)/bin:$(CURDIR)/bin2:$(PATH)\n" + LATER + "u: gen\n\ttrue\n\ttool u\n", TOOLS, SETUP),
-    "program_that_is_not_there": Small("race", "export PATH := $(CURDIR)/bin:$(PATH)\n" + LATER + "u:\n\ttrue\n\t-tool u\n", TOOLS, SETUP),
-    "program_that_is_a_target": Small("race", "export PATH := bin:bin2:$(PATH)\nall: u bin/tool\nbin/tool: ; cp t bin/tool\nu: p ; tool u\np: ; touch p\n", TOOLS, SETUP),
     "program_that_the_next_recipe_does_not_need": Small("safe", "export PATH := $(CURDIR)/bin:$(PATH)\n" + LATER + "all: w\nw: ; touch w\nu: gen\n\ttrue\n\ttool u\n", TOOLS, SETUP),
     # names that a data base of make shows in an odd way
-    "name_that_begins_like_a_remark": Small("race", "all: u \\#x v\nv: ; touch v\n\\#x: ; $(file >x,w)\nu: p ; cat x > u || true\np: v ; touch p\n"),
-    "name_that_ends_in_a_colon": Small("race", "all: u x\\: v\nv: ; touch v\nx\\:: ; $(file >x,w)\nu: p ; cat x > u || true\np: v ; touch p\n"),
     # branches that are not read
-    "branch_with_a_macro_that_is_taken_away": Small("race", MAKES, {"in.mk": "N = 1\n" + LISTS + "ifdef N\nM = 1\nL := $(wildcard *.x)\nendif\nundefine M\n"}),
 })
 
 
 class Names(unittest.TestCase):
     """At what make itself looks."""
-
-    def test_name_for_which_a_recipe_asks(self) -> None:
-        """By `stat`, as make looks at targets, or by `lstat`: the look is of that recipe."""
-        for word in ("a", ""):
-            lives = make_of((8, 5), (9, 10))
-            lives[0].acts = [Act(3, ABSENT, "/w/a", "a"), Act(8, SEEN, "/w/a", "a"), Act(9, SEEN, "/w/a", word)]
-            words = words_of("Considering target file 'a'.", "Must remake target 'a'.", Holes.JOB, "Considering target file 'b'.", "Must remake target 'b'.", "GLOB a", Holes.AGAIN)
-            (make,) = Owners(lives, [words]).makes
-            self.assertEqual({(0, "b"): {(SEEN, "/w/a"): 9}}, {owner: work.events for owner, work in make.acts.items()}, word)
 
 
 class Texts(unittest.TestCase):

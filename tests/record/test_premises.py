@@ -38,11 +38,6 @@ class Loaded(unittest.TestCase):
             project.sh(COMPILES if is_there else "")
             return project.record()
 
-    def test_function_that_writes_beside_a_recipe(self) -> None:
-        outcome = self.loaded("load obj.so\n" + WRITES + "b: ; cat w > b || true\n")
-        self.assertEqual(1, outcome.status, outcome.text())
-        self.assertEqual(["w"], support.races_of(outcome.text()))
-
     def test_function_that_writes_before_a_recipe(self) -> None:
         outcome = self.loaded("load obj.so\n" + WRITES + "b: a ; cat w > b\n")
         self.assertEqual(0, outcome.status, outcome.text())

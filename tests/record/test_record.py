@@ -25,10 +25,6 @@ Makefiles = makefiles(__name__, {
     "target_that_an_earlier_make_has_made": Small("race", "t: p ; touch t\n", {"p": "p", "2.mk": KEPT}),
     # ages
     # lists of folders, which are said to be that
-    "list_of_a_folder": Small("race", "all: s a\na: ; touch a\ns: ; ls > s\n", says="  s  Makefile:3  lists its folder\n"),
-    "list_of_a_folder_by_a_make_inside": Small("race", "all: s a\na: ; touch a\ns: ; $(MAKE) -f in.mk\n", {"in.mk": "s: ; ls > s\n"}, says="  s  Makefile:3  lists its folder\n"),
-    "list_of_a_folder_with_several_files": Small("race", "all: s a t\na: ; touch a\ns: ; ls > s\nt: ; touch t t2\n", says="  and 1 more on files in folders that s lists: let it need what it lists, or write the names down\n"),
-    "lists_by_two_recipes": Small("race", "all: r s a\na: ; touch a\nr s: ; ls *a > $@; true\n", says="RACE  a\n  s  Makefile:3  lists its folder\n"),
     # names
     "names_with_the_time": Small("safe", "all: a b\n" + TIMED, says="recipes that put the time into the name"),
     "names_with_the_time_in_order": Small("safe", "all: a b\nb: a\n" + TIMED, lacks="recipes that put the time into the name"),

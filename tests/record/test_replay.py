@@ -81,10 +81,9 @@ class Lives(unittest.TestCase):
                             '1 stat("a", {st_mode=S_IFREG|0644, st_size=0, ...}) = 0', f"2 <... openat resumed>) = 3<{TOP}/a>")
             self.assertIn(("C", "a"), events_of(lives_of(replay, 2)[0]))
 
-    def test_script_above_a_child_that_is_seen_first(self) -> None:
-        replay = played('1 execve("/bin/sh", ["sh", "install-sh", "-d", "d"], 0x1 /* 1 var */) = 0', "1 vfork( <unfinished ...>",
-                        '2 execve("/bin/mkdir", ["mkdir", "d"], 0x1 /* 1 var */) = 0', '2 mkdir("d", 0777) = 0', "1 <... vfork resumed>) = 2")
-        self.assertIn(("T", "d"), events_of(lives_of(replay, 2)[0]))
+    def test_who_is_above_a_child_that_is_seen_first(self) -> None:
+        replay = played("1 vfork( <unfinished ...>", '2 mkdir("d", 0777) = 0', '3 mkdir("e", 0777) = 0', "1 <... vfork resumed>) = 2")
+        self.assertEqual([1, 1], [life.parent.pid if life.parent else 0 for pid in (2, 3) for life in lives_of(replay, pid)])
 
     def test_folder_of_a_child_that_is_seen_first(self) -> None:
         replay = played("1 vfork( <unfinished ...>", '2 chdir("sub") = 0', f'2 openat(AT_FDCWD<{TOP}/sub>, "a", O_WRONLY|O_CREAT, 0666) = 3<{TOP}/sub/a>',
@@ -96,13 +95,6 @@ class Lives(unittest.TestCase):
         replay = played("1 clone(child_stack=NULL, flags=SIGCHLD <unfinished ...>", '2 chdir("sub") = 0', "1 <... clone resumed>) = 2", '2 mkdir("a", 0777) = 0', '1 mkdir("b", 0777) = 0')
         one, two = lives_of(replay, 1)[0], lives_of(replay, 2)[0]
         self.assertEqual((True, True), (("M", "sub/a") in events_of(two), ("M", "b") in events_of(one)))
-
-    def test_text_that_a_shell_reads_before_its_start_is_finished(self) -> None:
-        """A shell that reads a file without a first line itself has read it, wherever the call that started it is finished."""
-        shell, begin, end = '1 execve("/bin/bash", ["bash", "s"], 0x7 /* 1 var */) = 0', "1 clone(child_stack=NULL, flags=SIGCHLD <unfinished ...>", "1 <... clone resumed>) = 2"
-        text = '2 execve("./u", ["./u"], 0x7 /* 1 var */) = -1 ENOEXEC (Exec format error)'
-        for lines in ((begin, text, end), (begin, end, text)):
-            self.assertEqual((TOP + "/u",), lives_of(played(shell, *lines), 2)[0].taken, lines)
 
     def test_thread_that_is_seen_first(self) -> None:
         begin, end = "1 clone3({flags=CLONE_VM|CLONE_FS|CLONE_THREAD}, 88 <unfinished ...>", "1 <... clone3 resumed>) = 2"
@@ -248,7 +240,6 @@ Makefiles = makefiles(__name__, {
     "folder_that_a_whole_path_leaves_again": Small("race", WAY % "/usr/lib/../..$(CURDIR)/d/../f", {"f": ""}, says=IS_THERE),
     "folder_that_a_link_leaves_again": Small("race", WAY % "l", {"f": ""}, "ln -s d/../f l", says=IS_THERE),
     "folder_by_way_of_which_nothing_was_there": Small("race", "all: b a\na: ; mkdir d; touch a\nb: ; cat d/../f > b || echo none > b\n", {"f": ""}, says=IS_THERE),
-    "folder_that_make_leaves_again": Small("race", "all: a b\na: ; mkdir d; touch a\nb: d/../f ; cp f b\n", {"f": ""}, says=IS_THERE),
     "folder_that_a_path_leaves_again_in_order": Small("safe", (WAY % "d/../f").replace("b: ;", "b: a ;"), {"f": ""}),
     "folder_that_was_there_and_a_path_leaves_again": Small("safe", (WAY % "d/../f").replace("mkdir", "mkdir -p"), {"f": "", "d/x": ""}),
     "folder_above_the_own_one": Small("safe", "all: a b\na: ; touch d/a a\nb: ; cd d && cat ../f > ../b\n", {"f": "", "d/x": ""}),

@@ -9,7 +9,6 @@ GETS = 'eval "$(echo x=1)"\n'
 # Two recipes that nothing orders make x and y, and a third one looks at both.
 IS_THERE = "RACE  d  (that the folder"
 Makefiles = makefiles(__name__, {
-    "text_without_a_first_line_that_bash_reads": Small("race", "SHELL = /bin/bash\n" "all: a b\na: ; touch h/x a\nb: ; ./u > b; ls h/*.h >> b\n", {"u": "echo h/*\n", "h/k.h": ""}, "chmod +x u"),
     # programs that the kernel reads by itself
     "loader_that_a_recipe_makes": Small("race", "all: use ld.so\nld.so: ; cp /bin/cat ld.so\nuse: ; ./prog > use || true\n", {"p.c": "int main(void) { return 0; }\n"}, "cc -Wl,--dynamic-linker=./ld.so -o prog p.c"),
     # what goes past files

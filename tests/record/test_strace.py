@@ -28,7 +28,7 @@ class Lines(unittest.TestCase):
                          events('7 stat("a", 0x7ffe)       = -1 ENOENT (No such file or directory)'))
 
     def test_end(self) -> None:
-        self.assertEqual([Ended(7), Ended(8)], events("7 +++ exited with 0 +++", "8 +++ killed by SIGINT +++"))
+        self.assertEqual([Ended(7), Ended(8, True)], events("7 +++ exited with 0 +++", "8 +++ killed by SIGINT +++"))
 
     def test_exec_of_a_thread_is_no_end(self) -> None:
         self.assertEqual([], events("8 +++ superseded by execve in pid 7 +++"))

@@ -48,7 +48,6 @@ Makefiles = makefiles(__name__, {
     # by way of /proc, and by numbers
     "folder_of_another_process": Small("race", "all: a b\na: ; echo 1 > f; touch a\nb: ; if test -e /proc/$$PPID/cwd/f; then echo yes; fi > b\n"),
     # folders in the middle of a pattern of make
-    "link_where_make_goes_into_folders": Small("race", INSIDE % "ln -s d y", {"in.mk": "z: ; echo '$(wildcard */*.q)' > z\n", "d/k.q": ""}),
 })
 
 

@@ -5,10 +5,10 @@ import unittest
 from typing import List
 
 import support  # noqa: F401
-from record.make.asked import patterns_of
 from record.make.flags import asks_jobs
-from record.make.owners import Owners
+from record.make.owners import Make, Owners
 from record.make.words import Words, read_words
+from record.trace.lives import Life
 from record.watch.files import read_start
 from test_owners import make_of, words_of
 from test_small import Small, makefiles
@@ -33,15 +33,15 @@ class Copies(unittest.TestCase):
 class Patterns(unittest.TestCase):
     """What a make looks for by `glob`."""
 
-    def test_who_looks(self) -> None:
+    def test_all_looks(self) -> None:
         lines = [*HEAD[:4], "GLOB *.c", HEAD[4], "GLOB *.d", "Considering target file 'a'.", "Must remake target 'a'.", "GLOB d/*.h", "Putting child 0x1 (a) PID 8 on the chain.", "GLOB *.o", *BASE]
         words = read_words(7, 0, [*lines, "EXIT 0"], "")
-        self.assertEqual((["*.c"], {"": ["*.d", "*.o"], "a": ["d/*.h"]}), (words.patterns, words.rounds[0].asked))
+        self.assertEqual(["*.c", "*.d", "d/*.h", "*.o"], words.patterns)
 
     def test_make_that_nobody_hears(self) -> None:
         for lines, found in (([], []), (["DEAF "], ["*"])):
             words = read_words(7, 0, [*HEAD[:4], *lines, *HEAD[4:], *BASE, "EXIT 0"], "")
-            self.assertEqual(found, [one.part for one in patterns_of(words.is_deaf, tuple(words.patterns))])
+            self.assertEqual(found, Make(words, Life(7), "/w").patterns_in("/w"))
 
 
 class Holes(unittest.TestCase):
@@ -103,10 +103,8 @@ Makefiles = makefiles(__name__, {
     "target_that_is_given_up_for_a_makefile": Small("no verdict", "-include x.d\nall: ; touch all\nx.d: p q ; touch x.d\np: r none ; touch p\nr q: ; touch $@\n", says="did not run: p"),
     "target_without_a_rule_for_a_makefile": Small("safe", "-include x.d\nall: ; touch all\nx.d: q none s ; touch x.d\nq s: ; touch $@\n"),
     # makefiles that are written again
-    "makefile_that_is_written_again": Small("race", "all: u gen\ngen: ; touch d/n.c gen\nu: ; " + LISTS % "*" + "; " + LISTS % "k" + "\n", {"d/k.c": ""}),
     "makefile_that_is_written_once": Small("safe", "all: u gen\ngen: ; touch d/n.c gen\nu: ; " + LISTS % "k" + "\n", {"d/k.c": ""}),
     # folders that are made, where something shows who made them
-    "folder_made_or_true_in_a_make_with_errors": Small("race", KEEPS % ("$(MAKE)", "> log 2>&1"), {"in.mk": TWO % "mkdir d || true"}),
     "folder_made_or_true_in_a_make_with_output": Small("safe", KEEPS % ("$(MAKE)", "> log"), {"in.mk": TWO % "mkdir d || true"}, is_tried=True),
 })
 

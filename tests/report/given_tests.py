@@ -77,8 +77,8 @@ class Patches(Reporting):
         self.assertEqual("all: a.h\na.h b.h &: x y\n\tmk\nlast:\n", found["Makefile"])
 
     def test_what_is_done_by_hand(self) -> None:
-        tasks = [records.task("g", (), (), ("z.a", "h")), records.task("z.t@first", (), ("z.a",)), records.task("u", (), ("h",))]
+        tasks = [records.task("g", (), (), ("h",)), records.task("k", (), (), ("z.a",)), records.task("z.t", (), ("z.a",)), records.task("u", (), ("h",))]
         text, found = self.patched(tasks, {"u": ("Makefile", 2)}, {"Makefile": "u:\n\tcc\n"},
-                                   labels={"g": {"target": "g"}, "u": {"target": "u", "file": "Makefile", "line": 2}, "z.t@first": {"target": "z.t", "kind": "first"}})
+                                   labels={"g": {"target": "g"}, "u": {"target": "u", "file": "Makefile", "line": 2}, "k": {"target": "k", "colons": 2}})
         self.assertEqual("u:\n\tcc\nu: g\n", found["Makefile"])
-        self.assertTrue(text.startswith("# by hand: z.a: Advice: let one recipe alone write it"), text)
+        self.assertTrue(text.startswith("# by hand: z.a: Advice: write the rules of k as one"), text)

@@ -51,10 +51,9 @@ class Standing(Reporting):
     def test_not_seen(self) -> None:
         """One of the two was up to date: nobody knows whether the race is gone."""
         baseline, warm = self.baseline(records.header(self.room / "r")), records.header(self.room / "s", is_fixed=True)
-        for kind in ("decision", "look"):
-            records.labelled(warm, "lex.o", kind=kind)
-            text = self.shown(warm, "text", "--baseline", baseline)[1]
-            self.assertIn("\nnot seen  build/keywords.h: build/keywords.h and lex.o\n\n0 new, 0 known, 0 fixed, 1 not seen\n", text)
+        records.labelled(warm, "lex.o", kind="group")
+        text = self.shown(warm, "text", "--baseline", baseline)[1]
+        self.assertIn("\nnot seen  build/keywords.h: build/keywords.h and lex.o\n\n0 new, 0 known, 0 fixed, 1 not seen\n", text)
         self.assertIn("<h2>Not seen in this build</h2>", self.shown(warm, "html", "--baseline", baseline)[1])
 
     def test_not_seen_where_there_is_no_verdict(self) -> None:

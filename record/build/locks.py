@@ -8,9 +8,7 @@ from dataclasses import dataclass, field
 from typing import Dict, Set
 
 from record.build.builder import Builder
-from record.make.folders import each
-from record.trace.events import CHANGES, CREATED, LOCKED
-
+from record.trace.events import CHANGES, CREATED, LISTED, LOCKED
 
 
 @dataclass
@@ -26,7 +24,6 @@ def pass_locks(builder: Builder) -> None:
     """Tasks that only lock a file do not write it, where each task that asks for it comes behind one of them."""
     tasks, build = builder.build.tasks, builder.build
     for path, lock in gather(builder).items():
-        lock.askers |= {at for at, task in enumerate(tasks) if path in task.reads}  # guard: who-lists
         writers = {at for at, task in enumerate(tasks) if path in task.writes}
         is_seen = any(not any(build.is_before(maker, at) for maker in lock.makers - {at}) for at in lock.askers)  # guard: who-looks-at-one-behind-its-maker
         if not (lock.is_changed or is_seen or writers - lock.makers):  # guard: who-changes
@@ -36,13 +33,13 @@ def pass_locks(builder: Builder) -> None:
 
 def gather(builder: Builder) -> Dict[str, Lock]:
     """All files that recipes lock so."""
-    table = {path: Lock() for _, events in each(builder) for kind, path, _ in events if kind == LOCKED}
-    for at, events in each(builder) if table else ():
-        for kind, path, _ in events:
-            lock = table.get(path)
-            if lock is not None and kind == LOCKED:
-                lock.makers.add(at)
-            elif lock is not None and kind != CREATED:  # guard: what-is-under-the-lock
-                lock.askers.add(at)
-                lock.is_changed = lock.is_changed or kind in CHANGES
+    events = [(at, kind, path) for at, task in enumerate(builder.build.tasks) for kind, path, _ in builder.events(task)]
+    table = {path: Lock() for _, kind, path in events if kind == LOCKED}
+    for at, kind, path in events if table else ():
+        lock = table.get(path)
+        if lock is not None and kind == LOCKED:
+            lock.makers.add(at)
+        elif lock is not None and kind not in CREATED + LISTED:  # guard: what-is-under-the-lock
+            lock.askers.add(at)
+            lock.is_changed = lock.is_changed or kind in CHANGES
     return table
