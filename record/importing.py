@@ -43,7 +43,7 @@ from record.trace.sifting import SYSTEM, unseen_changes
 from record.trace.snapshots import Past
 from record.trace.strace import read_trace
 from record.unasked import unasked
-from record.watch.files import PRINTS, files_in, open_file, read_start
+from record.watch.files import OWN_WORDS, PRINTS, files_in, open_file, read_start
 from record.warm import did_nothing, is_inside, made_unseen, stand_alone, warm_names
 
 
@@ -73,7 +73,7 @@ def note_silent(replay: Calls, said: Path) -> None:
         if not start.says:
             replay.silent.add(path.name)
         if start.asks in PRINTS:  # guard: make-with-words-of-its-own
-            replay.holes.append("a make that prints its own words (-d, -p, --debug) cannot be seen: make " + " ".join(start.args)[:200])
+            replay.holes.append(OWN_WORDS % " ".join(start.args)[:200])
 
 
 @dataclass

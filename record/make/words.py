@@ -9,7 +9,7 @@ from typing import Container, Dict, FrozenSet, Iterable, Iterator, List, Optiona
 
 from record.make.database import Base, read_base
 from record.make.flags import own_jobs
-from record.watch.files import Output, Start, files_in, open_file, own_outputs, read_start
+from record.watch.files import OWN_WORDS, Output, Start, files_in, open_file, own_outputs, read_start
 
 KEPT = 1 << 14  # how many lines are remembered: most come again for each target that needs the same
 CHILD = re.compile(r"(Putting child|Live child|Reaping (?:winning|losing) child|Removing child) (0x[0-9a-f]+) (?:\((.*)\) )?PID (\d+)")
@@ -233,6 +233,8 @@ class _Reader:
                 words.copies.setdefault(self.name, []).append("%s%s.read" % (words.place, number))
         elif key == "GLOB":
             words.patterns.append(value)
+        elif key == "ASKS":
+            words.start.asks = value
         elif key == "DEAF":
             words.is_deaf = True
         elif key == "EXIT":
@@ -334,7 +336,9 @@ def read_words(pid: int, life: int, lines: Iterable[str], place: str = "", start
     words.holes += failures(words)  # guard: recipes-that-failed-for-makefile
     if not words.read and not words.status:  # guard: makes-that-are-not-understood
         words.holes.append("a make says nothing that the recorder knows: make " + words.args)
-    if bases != len(words.read) and words.read:  # guard: data-base-of-make-that-goes
+    if words.start.asks:
+        words.holes.append(OWN_WORDS % words.args[:200])
+    elif bases != len(words.read) and words.read:  # guard: data-base-of-make-that-goes
         words.holes.append("a make that began %d times printed %d data bases: make %s" % (len(words.read), bases, words.args))
     return words
 

@@ -9,7 +9,7 @@
      MAKE, ARG, ENV      how make was called, its words, its environment, a line each
      CWD, OUT            the folder in which it began; where standard output leads
      SAYS                its version, where it says from here on what it does
-     ASKS                else the flag of make by which it only answers
+     ASKS                else the flag of make by which it only answers; of a makefile that lets it print its own words, from there on
      lines of make       what it considers, and what it does with jobs, in English
      SAID, GREW          make has printed something; the file that keeps standard output has grown
      GLOB, DEAF          a pattern that it looks for; or nobody hears these, as make has a `glob` of its own
@@ -23,6 +23,7 @@
 #include <dlfcn.h>
 #include <errno.h>
 #include <fcntl.h>
+#include <getopt.h>
 #include <glob.h>
 #include <link.h>
 #include <signal.h>
@@ -44,6 +45,7 @@ extern void hold_after(const char *), hold_child(const char *, char *const[]); /
 
 static FILE *said;          /* the file of this make; NULL in other programs */
 static int number;          /* its descriptor */
+static int *level;          /* make's level of debug words */
 static int is_raised;       /* make says what it considers */
 static int is_base;         /* the data base is being printed */
 static int is_open;         /* make has begun a line for people, and not ended it */
@@ -152,7 +154,7 @@ static int open_file(const char *folder) {
 static void put_base(void) {
   static const char *const parts[] = {"print_variable_data_base", "print_dir_data_base", "print_rule_data_base", "print_file_data_base", "print_vpath_data_base"};
   FILE *real = stdout;
-  if (!is_raised || getpid() != own) return;
+  if (!is_raised || *level < RAISED || getpid() != own) return; /* a signal may have lowered the level: then make has not said all */
   note_growth();
   fputs_unlocked("# Make data base, printed on\n", said);
   stdout = said;
@@ -213,7 +215,8 @@ __attribute__((constructor)) static void begin(int argc, char **argv) {
   Dl_info here;
   struct stat found;
   char folder[LONGEST - 64], cwd[LONGEST] = "";
-  if (!dlsym(RTLD_DEFAULT, "db_level") || !dlsym(RTLD_DEFAULT, "new_job") || !dladdr((void *)begin, &here)) return;
+  level = dlsym(RTLD_DEFAULT, "db_level");
+  if (!level || !dlsym(RTLD_DEFAULT, "new_job") || !dladdr((void *)begin, &here)) return;
   const char *end = strrchr(here.dli_fname, '/');
   if (!end || end - here.dli_fname + 2 > (long)sizeof folder) return;
   snprintf(folder, sizeof folder, "%.*s", (int)(end - here.dli_fname + 1), here.dli_fname);
@@ -237,7 +240,7 @@ __attribute__((constructor)) static void begin(int argc, char **argv) {
 }
 
 static void raise_level(void) {
-  static const char *const asking[] = {"print_version_flag", "just_print_flag", "question_flag", "touch_flag", "print_data_base_flag", "db_level"};
+  static const char *const asking[] = {"just_print_flag", "question_flag", "touch_flag", "print_data_base_flag", "db_level"};
   static int is_known;
   if (!said || is_known++) return;
   for (size_t at = 0; at < sizeof asking / sizeof *asking; at++) {
@@ -252,12 +255,25 @@ static void raise_level(void) {
   char *own_glob = dlsym(RTLD_DEFAULT, "glob");
   if (own_glob >= low && own_glob < high) put_line("DEAF", "");
   is_raised = 1;
-  *(int *)dlsym(RTLD_DEFAULT, "db_level") = RAISED;
+  *level = RAISED;
 }
 
-int isatty(int stream) {
-  raise_level(); /* make has read its options, when it asks first whether it prints to a terminal */
-  return NEXT(isatty)(stream);
+int sigaction(int which, const struct sigaction *now, struct sigaction *old) {
+  if (which == SIGUSR1) raise_level(); /* make has read its options, and printed its version where they ask for it */
+  return NEXT(sigaction)(which, now, old);
+}
+
+/* Make reads the options of a makefile, too. Where they let it print its own words, it is asked no more, and all that it prints is for people. */
+int getopt_long(int count, char *const words[], const char *letters, const struct option *names, int *at) {
+  int found = NEXT(getopt_long)(count, words, letters, names, at);
+  if (!is_raised) return found;
+  while (names->name && names->val != found) names++;
+  const char *name = names->name ? names->name : "";
+  if (strchr("dpv", found) || !strcmp(name, "debug") || (!strcmp(name, "trace") && !dlsym(RTLD_DEFAULT, "trace_flag"))) {
+    is_raised = *level = 0;
+    put_line("ASKS", "db_level");
+  }
+  return found;
 }
 
 /* ---- what make prints */
@@ -417,6 +433,7 @@ static FILE *copied(const char *path, FILE *file) {
 }
 
 FILE *fopen(const char *path, const char *mode) {
+  if (FROM_MAKE) raise_level(); /* at the latest */
   FILE *file = NEXT(fopen)(path, mode);
   if (!file || !is_raised || !is_reading || !FROM_MAKE || *mode != 'r') return file;
   is_reading = 0;

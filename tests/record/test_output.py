@@ -6,6 +6,8 @@ from typing import Dict, Tuple
 
 import support
 
+from record.make.words import LATER
+
 INNER = "all: c d\nc d: ; @echo out; echo error >&2; echo more; echo $@ > $@\n"
 VERDICTS = (b"WARM", b"SAFE", b"RACE", b"NO VERDICT", b"make ")
 
@@ -135,6 +137,18 @@ class Output(unittest.TestCase):
     def test_own_words_of_a_make_that_was_asked_for_them(self) -> None:
         status = self.both("all: ; @$(MAKE) --debug=b -f in.mk > log; grep -c . log; rm log\n", in_mk="all: a b\na: ; echo a > a\nb: ; cat a > b\n")
         self.assertEqual(2, status)
+
+    def test_own_words_for_which_a_makefile_asks(self) -> None:
+        """It prints them, and its version, as without the recorder."""
+        for flag in ("-d", "-p", "-v", "--debug", "--debug=v", "--debug=n", "--trace"):
+            with self.subTest(flag):
+                status = self.both("all: ; @$(MAKE) -f in.mk > log; sed -n 's/PID.*//; s/printed on.*//; /^# Make data\\|target\\|Free Soft/p' log; rm log\n",
+                                   in_mk="include x.d\nMAKEFLAGS += %s\nall: ; @true\nx.d: ; touch x.d\n" % flag)
+                self.assertEqual(0 if flag == "--trace" and support.make_version() < LATER else 2, status)
+
+    def test_signal_that_changes_what_make_says(self) -> None:
+        with support.Project({"Makefile": "all: a b\na: ; kill -USR1 $$PPID; touch a\nb: ; touch b\n"}) as project:
+            self.assertEqual(2, project.record().status)
 
     def test_inner_makes_are_no_assumption(self) -> None:
         with support.Project({"Makefile": "all: ; $(MAKE) -f in.mk\n", "in.mk": "all: ; touch all\n"}) as project:

@@ -11,7 +11,6 @@ from unittest import mock
 
 import support
 
-from record.make.words import LATER
 from record.watch import library
 from record.watch.elf import NotElf, Program
 from record.watch.files import Output, files_in, open_file, read_start, without_values
@@ -76,7 +75,7 @@ class Said(unittest.TestCase):
 
     def test_makes_that_only_answer(self) -> None:
         """They print what they print without the library, and say why they are silent."""
-        for words, asks in ((["-n"], "just_print_flag"), (["-q"], "question_flag"), (["-p"], "print_data_base_flag"), (["-v"], "" if support.make_version() >= LATER else "print_version_flag"), (["--debug=b"], "db_level"), (["-h"], "")):
+        for words, asks in ((["-n"], "just_print_flag"), (["-q"], "question_flag"), (["-p"], "print_data_base_flag"), (["-v"], ""), (["--debug=b"], "db_level"), (["-h"], "")):
             with self.subTest(words), support.Project({"Makefile": "all: ; echo x\n"}) as project:
                 (lines,), ran = self.run_make("all: ; echo x\n", words)
                 start = read_start(line + "\n" for line in lines)

@@ -62,6 +62,9 @@ class Holes(unittest.TestCase):
     def test_no_data_base(self) -> None:
         self.assertEqual(["a make that began 1 times printed 0 data bases: make all"], self.holes([]))
 
+    def test_make_that_prints_its_own_words(self) -> None:
+        self.assertEqual(["a make that prints its own words (-d, -p, --debug, --trace) cannot be seen: make all"], self.holes(["ASKS db_level"]))
+
     def test_make_that_begins_again(self) -> None:
         self.assertEqual([], self.holes(BASE + HEAD[3:] + BASE))
 
