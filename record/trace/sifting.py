@@ -6,13 +6,12 @@ import os
 import re
 from functools import lru_cache
 from pathlib import Path
-from typing import Callable, Iterable, Iterator, List, Optional, Sequence, Set, Tuple
+from typing import Callable, Dict, Iterable, Iterator, List, Optional, Sequence, Set, Tuple
 
 from record.trace.arguments import read_ahead
 from record.trace.strace import KEPT, unescape
 
 PIECE, WAIT = 1 << 18, 0.05  # bytes of a piece; seconds until more may be there
-SMALL = 1 << 16  # bytes that are read in a hundredth of a second
 SYSTEM = ["usr", "lib", "lib32", "lib64", "etc", "bin", "sbin"]
 AT = r"(?:AT_FDCWD(?:<[^>\n]*>|), |)"  # strace 5.10 names no folder there  # guard: looks-are-sifted
 RESULT = r"(?:\d|-1 E(?:NO|INVAL))[^\n]*"
@@ -35,7 +34,9 @@ CHANGING = (
     r"\d+ +(?:open|openat2?)\(" + AT + r'"(?:(?:[^"\\]|\\.)*\.\.)?FOLDERS(?:[^"\\]|\\.)*", [^\n]*' + FLAGS + r"|\d+ +(?:open|openat2?)\([^\n]*" + FLAGS
     + r"[^\n]*= \d+<FOLDERS|\d+ +" + NAMES + r'[^\n]*(?:"(?:(?:[^"\\]|\\.)*\.\.)?|<)FOLDERS|\d+ +(?:chdir|fchdir)\([^\n]*(?:"(?:(?:[^"\\]|\\.)*\.\.)?|<)FOLDERS')
 # A row of writes into one descriptor: the first one says it all.
-ROW = re.compile(rb"(\n(\d+) +write\((0x[0-9a-f]+), [^\n]*)(?:\n\2 +write\(\3, [^\n]*(?<!\.\.\.>)(?=\n|\Z))+")  # guard: one-process-and-one-descriptor
+ROW = re.compile(rb"(\n(\d+) +write\((0x[0-9a-f]+), [^\n]*)(?:\n\2 +write\(\3, [^\n]*)+")  # guard: one-process-and-one-descriptor
+# One half of a call that lines of others cut in two, but not of one that starts a process: that is seen before the call ends.
+HALF = re.compile(rb"\n(\d+) +(?:(?![ <]|clone|v?fork)([^\n]*)<unfinished \.\.\.>(?=\n|\Z)|<\.\.\. (?!clone|v?fork)\w+ resumed>)")  # guard: halves-of-calls-that-start-processes
 # Texts of Python that do not come with it: python.py asks whether they list folders. Modules of OCaml: modules.py asks which names they hold.
 MODULES = re.compile(rb"(?!.*/lib(?:32|64)?/python[\d.]*/(?!(?:site|dist)-packages/)).*\.pyc?$|.*/(?:site|dist)-packages/.*\.so$|.*\.(?:zip|egg|whl|pyz|cm[iox])$", re.S)  # guard: those-of-system
 # What each line that changes something has: a look for these is quick, and few lines have one.
@@ -73,14 +74,24 @@ class Skip:
         self.looks, self.changes, self.tops, self.inside = looks, changes, tops, inside
         self.known: Set[Optional[bytes]] = {None}  # spellings that were looked up; a look at an open file has none
         self.counting: Set[Optional[bytes]] = set()  # those of them that count
+        self.begun: Dict[bytes, bytes] = {}  # by process: the first half of a call
 
     def counts(self, spelling: bytes) -> bool:
         """Whether a look by a name is read all the same: the name leads out of these folders, or Python or OCaml may take in what is there."""
         real = real_path(unescape(spelling.decode("latin-1")))
         return any((real + "/").startswith(top.rstrip("/") + "/") for top in self.tops) or not (real + "/").startswith(self.inside) or bool(MODULES.match(spelling))  # guard: texts-that-python
 
+    def join(self, half: "re.Match[bytes]") -> bytes:
+        """A call stands as a whole where it ends."""
+        pid, first = half.groups()
+        if first is None:
+            return self.begun.pop(pid, half.group())
+        self.begun[pid] = b"\n%s %s" % (pid, first.rstrip())
+        return b""
+
     def rest(self, lines: bytes) -> bytes:
         """What is left of some lines, each behind a newline, without such looks."""
+        lines = HALF.sub(self.join, lines)
         parts = self.looks.split(lines)
         spellings = {*parts[1::2]}
         self.counting.update(one for one in spellings - self.known if self.counts(one))
@@ -124,18 +135,17 @@ def pieces(trace: Path, has_ended: Callable[[float], object]) -> Iterator[bytes]
 
 def sift(trace: Path, tops: List[str], to: Path, has_ended: Callable[[float], object] = lambda seconds: True, counting: Sequence[str] = ()) -> None:
     """Writes what has to be read of a trace, also while that is written, and then reads ahead in it. No file is there where somebody
-    changes a name of the system's folders: then all of the trace has to be read. A small one is read at once when the build has ended.
-    `counting`: files of these folders at which looks are kept."""
+    changes a name of the system's folders: then all of the trace has to be read. `counting`: files of these folders at which looks are kept."""
     skip, part = skipping(tops, counting), to.with_suffix(".part")
     if skip is None:
         return
-    size = 0
     with open(part, "wb") as file:
         for piece in pieces(trace, has_ended):
-            left = ROW.sub(rb"\1", skip.rest(b"\n" + piece.rstrip(b"\n")))
-            if has_change(left, skip.changes):  # guard: what-somebody-changes-is-read
+            lines = b"\n" + piece.rstrip(b"\n")
+            if has_change(lines, skip.changes):  # guard: what-somebody-changes-is-read
                 return
-            size += file.write(left)
-            if size > SMALL and not has_ended(0):
+            left = ROW.sub(rb"\1", skip.rest(lines))
+            file.write(left)
+            if not has_ended(0):
                 read_ahead(left.decode("latin-1").split("\n"))
     part.rename(to)

@@ -133,13 +133,10 @@ def ends(pid: int, text: str) -> List[Event]:
 def read_trace(lines: Iterable[str]) -> Iterator[Event]:
     """The events of a trace, one at a time. Most lines are a whole call: these take the short way."""
     begun: Dict[int, str] = {}  # by process: the call that is not finished
-    pids: Dict[str, int] = {}
     for line in lines:
         number, _, text = line.partition(" ")
         text = text.strip()
-        pid = pids.get(number)
-        if pid is None and number.isdecimal():
-            pid = pids[number] = int(number)
+        pid = int(number) if number.isdecimal() else None
         if pid is None or text[:1] in "+-<" or text.endswith(UNFINISHED):
             events, text = odd(line, pid, text, begun)
             yield from events

@@ -12,7 +12,7 @@ from record.facts import Facts
 from record.importing import replay_trace
 from record.ninja.log import Kept
 from record.trace.names import Inode, Names
-from record.trace.sifting import PIECE, Skip, pieces, sift
+from record.trace.sifting import PIECE, Skip, pieces, sift, skipping
 from record.trace.strace import read_trace
 
 
@@ -49,6 +49,14 @@ class Skips(unittest.TestCase):
     def test_other_folders_are_no_change(self) -> None:
         for other in ('openat(AT_FDCWD</w>, "usr/x", O_WRONLY|O_CREAT, 0666) = 3</w/usr/x>', 'chdir("..") = 0', 'chdir("usr/lib") = 0', 'mkdirat(3</w>, "usr", 0777) = 0'):
             self.assertEqual(1, self.kept([self.LOOK, "8 " + other], ["/w"]), other)
+
+    def test_calls_that_lines_of_others_cut_in_two(self) -> None:
+        """They are whole where they end, except those that start a process."""
+        skip = skipping(["/w"])
+        assert skip is not None
+        pieces = (b'\n7   readlink("/usr/lib/x",  <unfinished ...>\n8   vfork( <unfinished ...>\n9   chdir("a" <unfinished ...>',
+                  b'\n7   <... readlink resumed>0x7, 9) = -1 EINVAL (Invalid argument)\n9   <... chdir resumed>) = 0\n8   <... vfork resumed>) = 9')
+        self.assertEqual([b"\n8   vfork( <unfinished ...>", b'\n9 chdir("a") = 0\n8   <... vfork resumed>) = 9'], [skip.rest(piece) for piece in pieces])
 
     def test_link_that_leads_to_a_top(self) -> None:
         with tempfile.TemporaryDirectory() as room:
