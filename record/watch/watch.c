@@ -11,7 +11,6 @@
      SAYS                its version, where it says from here on what it does
      ASKS                else the flag of make by which it only answers; of a makefile that lets it print its own words, from there on
      lines of make       what it considers, and what it does with jobs, in English
-     SAID, GREW          make has printed something; the file that keeps standard output has grown
      GLOB, DEAF          a pattern that it looks for; or nobody hears these, as make has a `glob` of its own
      COPY                the copy of a makefile as it was read, SAID/PID.LIFE.N.read
      # Make data base .. what `make -p` prints: at its end, and before it begins again
@@ -49,14 +48,12 @@ static int *level;          /* make's level of debug words */
 static int is_raised;       /* make says what it considers */
 static int is_base;         /* the data base is being printed */
 static int is_open;         /* make has begun a line for people, and not ended it */
-static int is_inside;       /* a line of the file has begun, and not ended */
 static int is_reading;      /* make has said that it reads a makefile, and not opened it */
 static int is_cut;          /* a limit does not let the file grow */
 static int own;             /* the process: a child of make is another one */
 static int copies;          /* how many makefiles were copied */
 static char place[LONGEST]; /* the path of the file, without `make` at its end */
 static char *low, *high;    /* where make itself lies: what an object prints that make has loaded is none of its words */
-static off_t printed = -1;  /* the size of the file that keeps standard output; -1 where none does */
 static struct timespec began;
 
 #define NEXT(name) ((__typeof__(&name))dlsym(RTLD_NEXT, #name)) /* that of the C library */
@@ -115,18 +112,9 @@ static void put_output(int stream) {
     kind = S_ISREG(found.st_mode) ? 'f' : 'p';
     snprintf(link, sizeof link, "/proc/self/fd/%d", stream);
     if (readlink(link, path, sizeof path - 1) < 0) *path = 0;
-    if (stream == 1 && kind == 'f') printed = found.st_size;
   }
   fprintf(said, "OUT %d %c %lu %lu", stream, kind, kind == '-' ? 0 : (unsigned long)found.st_dev, kind == '-' ? 0 : (unsigned long)found.st_ino);
   put_line("", path);
-}
-
-/* Something was printed by a recipe, as far as a file shows that. */
-static void note_growth(void) {
-  struct stat found;
-  if (printed < 0 || is_base || is_inside || fstat(1, &found) || found.st_size == printed) return;
-  printed = found.st_size;
-  fputs_unlocked("GREW\n", said);
 }
 
 /* Opens the file of this life; where make begins again, that of the last one. */
@@ -155,7 +143,6 @@ static void put_base(void) {
   static const char *const parts[] = {"print_variable_data_base", "print_dir_data_base", "print_rule_data_base", "print_file_data_base", "print_vpath_data_base"};
   FILE *real = stdout;
   if (!is_raised || *level < RAISED || getpid() != own) return; /* a signal may have lowered the level: then make has not said all */
-  note_growth();
   fputs_unlocked("# Make data base, printed on\n", said);
   stdout = said;
   is_base = 1;
@@ -302,16 +289,14 @@ static int is_word(int from_make) {
   return is_raised && from_make && (!is_open || is_base);
 }
 
-/* A part of such a word was written. Who holds recipes reads at once what make says of its children. */
-static void end_word(const char *format, int is_end) {
-  is_inside = !is_end;
+/* Such a word was written. Who holds recipes reads at once what make says of its children. */
+static void end_word(const char *format) {
   if (!is_base && strstr(format, " child ")) fflush_unlocked(said);
 }
 
 static void note_text(int from_make, FILE *file, const char *text, size_t size) {
   if (!is_raised || is_base || !from_make || file != stdout || !size) return;
   is_open = text[size - 1] != '\n';
-  fputs_unlocked("SAID\n", said);
 }
 
 /* Whether make has said this of a child that lives: it says so of each of them whenever one ends. */
@@ -335,10 +320,9 @@ static int print(int from_make, int flag, const char *format, va_list words) {
   if (!is_word(from_make)) return flag < 0 ? vfprintf(stdout, format, words) : __vfprintf_chk(stdout, flag, format, words);
   hold_after(in_english(format));
   if (is_repeated(in_english(format), words)) return 0;
-  note_growth();
   int done = vfprintf(said, in_english(format), words);
   if (!strcmp(format, "%s")) fputc_unlocked('\n', said); /* why an object cannot be loaded: make ends no line there */
-  end_word(in_english(format), !strcmp(format, "%s") || (*format && format[strlen(format) - 1] == '\n'));
+  end_word(in_english(format));
   return done;
 }
 
@@ -366,15 +350,12 @@ int puts(const char *text) {
   }
   is_reading = is_reading || !strcmp(text, "...");
   fprintf(said, "%s\n", in_english(text));
-  end_word(text, 1);
+  end_word(text);
   return 1;
 }
 
 static int put_sign(int from_make, int sign, FILE *file) {
-  if (file == stdout && is_word(from_make)) {
-    is_inside = sign != '\n';
-    return fputc_unlocked(sign, said);
-  }
+  if (file == stdout && is_word(from_make)) return fputc_unlocked(sign, said);
   if (file == stdout && sign == '\n') is_open = 0;
   return NEXT(fputc)(sign, file);
 }
