@@ -23,7 +23,7 @@ from record.first_tree import Release, left_behind
 from record.folder import Record, write_record
 from record.footprints import write_footprints
 from record.make.build import MakeBuilder as Builder
-from record.make.owners import Owners, beginning
+from record.make.owners import Make, Owners, beginning
 from record.make.spellings import twice
 from record.make.words import makefiles, read_logs
 from record.missing.inputs import write_missing
@@ -81,6 +81,7 @@ class Imported:
     """What a trace and the words of makes come to."""
 
     builds: List[Build]
+    makes: List[Make]
     assumed: Assumptions
     lives: List[Life]
     ninjas: List[Ninja]
@@ -182,7 +183,7 @@ def import_record(facts: Facts, record: Record) -> Imported:
         record.holes.append(IDLE)  # guard: nothing
     tools = [*(make.life for make in owners.makes), *(ninja.life for ninja in ninjas)]
     cleaned = Cleaned(names, replay.changes, tools, replay.all)
-    return Imported(builds, assumed, replay.all, ninjas, cleaned, idle_targets(owners, names, cleaned), find_configured(owners.makes, replay.all, names), texts_of(owners, names))
+    return Imported(builds, owners.makes, assumed, replay.all, ninjas, cleaned, idle_targets(owners, names, cleaned), find_configured(owners.makes, replay.all, names), texts_of(owners, names))
 
 
 def texts_of(owners: Owners, names: Names) -> Dict[str, str]:
@@ -240,5 +241,5 @@ def complete(record: Record, facts: Facts, out: Path, options: argparse.Namespac
         if build.tool == "make":
             write_footprints(out / "builds" / number, build, facts.names, str(out))
     if options.missing:
-        record.missing = write_missing(out, record, found.builds, facts.names, found.lives, facts.spool)
+        record.missing = write_missing(out, record, found.builds, found.makes, facts.names, found.lives)
     return found

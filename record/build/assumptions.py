@@ -29,7 +29,7 @@ TEXTS = {
     "beside": "files that a process which no recipe started changed while make ran are touched by no recipe",
     # What the answer on missing inputs takes for granted.
     "later": "you edit sources, add and remove none, and what you edit gets a new time; in a clean tree recipes then read and write the files that they do now; makefiles, commands and the environment stay; each build ends well",
-    "traces": "a recipe leaves the same after the same inputs, whatever it left before, and writes its target whenever it runs",
+    "traces": "a recipe leaves the same after the same inputs, whatever it left before and whichever of them are newer ($?), and writes its target whenever it runs",
     "always": "recipes that run in every build have no missing inputs: their targets are phony, or are not there after the build",
     "not-run": "targets that were there when their make looked, and whose recipes did not run, have no missing inputs, and are made alike by what makes them",
     "unjudged": "recipes that are not looked at have no missing inputs: double colons, archive members, targets that are not written, prerequisites that are not known",
@@ -37,13 +37,11 @@ TEXTS = {
     "looks": "links, and what recipes look for and do not read, stay as they are, and so do the lists of folders",
     "unlisted": "files that recipes looked for and did not find stay absent",
     "times": "files whose time a recipe sets (touch -r, cp -p) have a new time where they have new contents",
-    "called": "makefiles that the build makes, and files that are read before recipes run, by $(shell ..) or by who calls a make, lead to the same macros, words and files after an edit",
-    "again": "who calls a make does the same in each build, though it looked for files that are there in later builds",
+    "called": "makefiles that the build makes, and files that are read outside of recipes, by $(shell ..) or by who calls a make, lead to the same macros, words and files after an edit",
     "own": "you do not edit sources that a recipe reads and changes itself",
-    "newer": "recipes that are handed newer prerequisites alone ($?) leave what they leave where they are handed all of them",
     "outputs": "a recipe that makes several files writes them all whenever it runs",
     "rewritten": "what another recipe writes to a target as well does no harm",
-    "named": "sources that each recipe which reads them names are left out, as the text would be too large",
+    "unstable": "what two later builds leave otherwise than each other, such as a time, does not go by what was there before",
     "later-ring": "a prerequisite that closes a ring in a later build, which make drops, is not needed",
 }
 

@@ -5,8 +5,7 @@ from dataclasses import dataclass, field
 from functools import cached_property
 from typing import Any, Dict, List, Set, Tuple
 
-from record.make.references import NAME
-
+NAME = r"[^\s:=#,(){}$]"  # a sign of a macro's name that is none of these
 TARGET = re.compile(r"^(.*?)(::?)(?: (.*))?$")
 PLACE = re.compile(r"^#  recipe to execute \(from '(.*)', line (\d+)\):")
 STEM = re.compile(r"^#  Implicit/static pattern stem: '(.*)'$")

@@ -1,39 +1,25 @@
-"""What make itself calls: processes of `$(shell ..)`, and what these and those who call a make decide before recipes run."""
+"""What decides on macros before recipes run: what make, who calls one, and what make itself calls, read; and makefiles that the build makes."""
 
 import os
-import re
-from pathlib import Path
-from typing import Dict, List, Sequence, Set
+from typing import Sequence, Set
 
-from record.make.graph import MakeBuild
-from record.make.owners import called_by
+from record.make.owners import Make
 from record.make.words import makefiles
-from record.missing.later_graph import hands_all
-from record.missing.later_looks import Turned
+from record.missing.footprints import is_below
 from record.trace.events import READ
-
-MACRO = re.compile(r"^[^#\n]*=|^ *define\b|^\t", re.M)  # or a recipe: makefiles that compilers write have neither
-TARGETS = re.compile(r"^([^\s#:][^#:\n]*):", re.M)
-
-
-def called(builds: Sequence[MakeBuild], turned: Turned) -> Set[str]:
-    """What decides on macros before recipes run: what makefiles read with `$(shell ..)` and `$(file ..)`, what is read by who calls a
-    make, and makefiles that the build makes."""
-    found = turned.settling()  # guard: files-of-who-calls-make
-    for build in {id(one.make): one for one in builds}.values():
-        make = build.make
-        names = {turned.names.find(build.folder, name, True).path for name in makefiles(make.words)}
-        first = min((life.born for work in make.work.values() for life in work.lives), default=1 << 60)
-        for life in called_by(make):
-            if life.born < first:
-                found.update(path for kind, path in life.events if kind == READ and turned.is_file(path))
-        found.update(act.path for act in make.life.acts if act.kind == READ and act.place < first and act.path not in names and turned.is_file(act.path))  # guard: files-that-make-reads
-        found.update(path for path in names if turned.is_made(path) and settles(path, build))
-    return {path for path in found if path in turned.names.before or os.path.lexists(path)}
+from record.trace.lives import Life
+from record.trace.names import Names
 
 
-def settles(path: str, build: MakeBuild) -> bool:
-    """Whether a makefile says more than dependencies: it sets macros, or names what a recipe is handed."""
-    text = Path(path).read_text(errors="replace") if os.path.isfile(path) else ""
-    recipes: Dict[str, List[str]] = build.graph.base.recipes
-    return bool(MACRO.search(text)) or any(hands_all(recipes.get(name, [])) for line in TARGETS.findall(text) for name in line.split())  # guard: makefiles-of-dependencies
+def makefiles_of(makes: Sequence[Make], names: Names) -> Set[str]:
+    """All makefiles that some makes read."""
+    return {names.find(make.folder, name, True).path for make in makes for name in makefiles(make.words)}
+
+
+def called(makes: Sequence[Make], names: Names, lives: Sequence[Life], changed: Set[str]) -> Set[str]:
+    """These files, as far as they are there: what processes read that work for no recipe, or for one that calls a make itself."""
+    files = makefiles_of(makes, names)
+    apart = {id(life) for make in makes for work in make.work.values() if not work.makes for life in work.lives}
+    found = {path for life in lives if id(life) not in apart and not life.is_make for kind, path in life.events if kind == READ}  # guard: files-of-who-calls-make
+    found.update(act.path for make in makes for act in make.life.acts if act.kind == READ and act.path not in files)  # guard: files-that-make-reads
+    return {path for path in found | files & changed if os.path.isfile(path) and any(is_below(path, top) for top in names.tops)}

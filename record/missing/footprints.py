@@ -2,8 +2,7 @@
 
 import os
 import re
-from dataclasses import dataclass
-from typing import Dict, Iterable, List, Mapping, Set, Tuple
+from typing import Iterable, Iterator, List, Set, Tuple
 
 from record.build.tasks import Task
 from record.commands.shelltext import is_removal
@@ -21,45 +20,37 @@ def is_below(path: str, folder: str) -> bool:
     return path == folder or path.startswith(folder.rstrip("/") + "/")
 
 
-@dataclass
-class Seen:
-    """What the recipes of a build looked at and no task holds: it is taken that it stays as it is."""
-
-    outside: Set[str]
-    looks: Set[str]  # asked for, and not read; links; folders that were listed
-    absent: Set[str]
-
-
 class Footprints:
     """What each recipe of a build reads and writes in the project."""
 
-    def __init__(self, build: MakeBuild, names: Names, out: str, turned: Mapping[int, Set[str]] = {}) -> None:
+    def __init__(self, build: MakeBuild, names: Names, out: str) -> None:
         self.build, self.names, self.out = build, names, out
         self.reads: List[Set[str]] = [set() for _ in build.tasks]
         self.writes: List[Set[str]] = [set() for _ in build.tasks]
         self.removes: List[Set[str]] = [set() for _ in build.tasks]
         self.folders: List[Set[str]] = [set() for _ in build.tasks]  # that it makes, or finds made
         self.own_looks: List[Set[str]] = [set() for _ in build.tasks]
-        self.seen = Seen(set(), set(), set())
+        # What is looked at and no task holds: it is taken that it stays as it is.
+        self.outside: Set[str] = set()
+        self.looks: Set[str] = set()  # asked for, and not read; links; folders that were listed
+        self.absent: Set[str] = set()
         self.set_back: Set[str] = set()  # names whose time a recipe sets
         self.gone: Set[str] = set()  # files that are read, and that somebody else makes and removes
-        self.known: Dict[str, bool] = {}  # names that are read: whether they can change and matter
         for at, task in enumerate(build.tasks):
             for kind, path in self.events(task) if task.kind == "recipe" else ():
                 self.take(at, kind, path)
-        for at, paths in turned.items():
-            self.reads[at] |= paths  # looks that a later build answers otherwise
         self.written = set().union(*self.writes)
         for at, task in enumerate(build.tasks):
             self.writes[at] |= self.removed_later(at, task)  # guard: what-recipe-removes-later
         self.drop_temporaries()
-        self.changes = [{path for path in self.reads[at] & self.writes[at] if self.is_read_first(task, path)} for at, task in enumerate(build.tasks)]
-        self.both = [{path for path in reads & writes if names.before.get(path) == "f"} for reads, writes in zip(self.reads, self.writes)]  # sources that it changes
-        for at in range(len(build.tasks)):
-            self.reads[at] = {path for path in self.reads[at] - self.writes[at] if self.is_input(path)}
-            self.seen.looks |= self.own_looks[at] - self.reads[at] - self.written  # guard: looks-at-what-others-read
-        self.seen.looks |= {path for path in self.written if os.path.islink(path)}  # guard: links-that-are-made
-        self.seen.absent -= self.written
+        self.changes = [reads & writes for reads, writes in zip(self.reads, self.writes)]
+        inputs = self.inputs(set().union(*self.reads, self.written))
+        for at, task in enumerate(build.tasks):
+            found = self.written.intersection(self.looks_otherwise(task))  # guard: what-later-recipes-make
+            self.reads[at] = inputs.intersection(self.reads[at] | found) - self.writes[at]
+            self.looks |= self.own_looks[at] - self.reads[at] - self.written  # guard: looks-at-what-others-read
+        self.looks |= {path for path in self.written if os.path.islink(path)}  # guard: links-that-are-made
+        self.absent -= self.written
 
     def events(self, task: Task) -> Iterable[Tuple[str, str]]:
         """What a recipe did."""
@@ -83,7 +74,7 @@ class Footprints:
         name = code.group(1) + code.group(2) + ".py" if code else name
         if not self.is_inside(name):
             if kind == "R":
-                self.seen.outside.add(name)
+                self.outside.add(name)
         elif kind in "MTE" or path.endswith("/"):
             self.folders[at].add(name)
         elif kind in CHANGES:
@@ -93,7 +84,13 @@ class Footprints:
         elif kind == "R":
             self.reads[at].add(name)
         else:
-            (self.seen.absent if kind == "N" else self.own_looks[at]).add(name)
+            (self.absent if kind == "N" else self.own_looks[at]).add(name)
+
+    def looks_otherwise(self, task: Task) -> Iterator[str]:
+        """The names for which a recipe looks, and that it finds otherwise in a later build: there, or gone."""
+        for kind, path in self.events(task) if task.kind == "recipe" else ():
+            if kind in "NSl" and os.path.lexists(path) == (kind == "N"):
+                yield path
 
     def removed_later(self, at: int, task: Task) -> Set[str]:
         """What a recipe finds nothing to remove of in this build, and what another recipe makes: a later build has it when the first one runs."""
@@ -101,13 +98,6 @@ class Footprints:
         plain, listed = ({path.rstrip("/") for life in lives for event, path in life.events if event == kind} for kind in (ABSENT, LISTED))
         others = set().union(*(writes for other, writes in enumerate(self.writes) if other != at)) - self.writes[at] if lives else set()
         return {path for path in others if any(is_below(path, name) for name in plain) or os.path.dirname(path) in listed}  # guard: trees-that-it-removes-later
-
-    @staticmethod
-    def is_read_first(task: Task, path: str) -> bool:
-        """Whether a recipe reads a file before it writes it."""
-        never = 1 << 60
-        read, written = (min((work.events.get((kind, path), never) for work in task.works for kind in kinds), default=never) for kinds in ("R", "WC"))
-        return read <= written
 
     def drop_temporaries(self) -> None:
         """Names that are gone before and after the build, where each recipe that touches them makes and removes them itself."""
@@ -119,13 +109,9 @@ class Footprints:
             self.writes[at] -= gone
         self.written -= gone
 
-    def is_input(self, path: str) -> bool:
-        """Whether a name that is read can change and matter: a file that is written here, or that is there."""
-        if path not in self.known:
-            is_link = self.names.before.get(path) == "l"
-            if path not in self.names.before and not os.path.lexists(path) and path not in self.written:
-                self.gone.add(path)  # guard: temporaries-of-others
-            self.known[path] = path in self.written or not os.path.isdir(path) and not is_link and not FIXED.search(path)
-            if is_link and not self.known[path]:
-                self.seen.looks.add(path)
-        return self.known[path]
+    def inputs(self, paths: Set[str]) -> Set[str]:
+        """The names of some that are read that can change and matter: files that are written here, or that are there."""
+        links = {path for path in paths - self.written if self.names.before.get(path) == "l"}
+        self.looks |= links
+        self.gone |= {path for path in paths - self.written if path not in self.names.before and not os.path.lexists(path)}  # guard: temporaries-of-others
+        return {path for path in paths - links if path in self.written or not os.path.isdir(path) and not FIXED.search(path)}

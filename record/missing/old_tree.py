@@ -4,66 +4,55 @@ A task that makes a file and whose prerequisites are known says both. Each other
 """
 
 import os
-from typing import Any, Dict, Iterator, List, Mapping, Optional, Set
+from typing import Any, Dict, Iterator, List, Optional, Set
 
 from record.build.assumptions import Assumptions
-from record.build.tasks import Node, Task, order_tasks
+from record.build.tasks import Node, Task, order_tasks, renumber
 from record.build.text import labels_of, lines_of, relative
-from record.make.database import Base
 from record.make.graph import MakeBuild
-from record.make.texts import Texts
 from record.missing.footprints import Footprints
-from record.missing.later_base import needs_of, phony_of
-from record.missing.left_alone import asks_what_is_newer, expands_by_files, keeps
+from record.missing.later import Knows, Later, call_of
 from record.trace.names import Names
 
 NEVER = "@never"  # folders that no project has: names below this one stand for targets that never have a file,
 KEPT = "@kept"  # and below this one for the run of a recipe that leaves its target alone where nothing has changed
-NODES, EDGES, PATHS = 20_000, 200_000, 1_000_000  # what a text of tasks may hold
 
 
 class OldTree:
     """Makes the text; see the module."""
 
-    def __init__(self, build: MakeBuild, names: Names, later: Base, premises: Assumptions, out: str, turned: Mapping[int, Set[str]] = {}) -> None:
-        self.build, self.names, self.later, self.premises = build, names, later, premises
+    def __init__(self, build: MakeBuild, names: Names, later: Later, knows: Knows, premises: Assumptions, out: str) -> None:
+        self.build, self.names, self.later, self.knows, self.premises = build, names, later, knows, premises
         self.first = build.graph.base
-        self.phony = phony_of(self.first, later)
-        self.foot = Footprints(build, names, out, turned)
-        self.known = Texts(build.make, self.first)
+        self.phony = self.first.phony | self.knows.base.phony
+        self.foot = Footprints(build, names, out)
         self.tasks = [Task(t.label, t.node, t.kind, set(t.after), r, w) for t, r, w in zip(build.tasks, self.foot.reads, self.foot.writes)]
         self.labels = labels_of(build.tasks)
-        self.writers = self.names_of_writers()
+        self.writers = self.writing()  # before any name is lent
         self.makes: Dict[int, str] = {}
         self.needs: Dict[int, List[str]] = {}
         self.paths: Dict[str, List[str]] = {}  # by prerequisite
         self.owners: Dict[int, str] = {}  # of a task that stands for an output: the label of the recipe
         self.kept: Set[int] = set()  # recipes that may leave their target alone where nothing has changed
-        self.fresh: Set[str] = set()  # what is made anew in each build
         self.choose()
+        self.silent = self.find_silent()
         self.lend_names()
-        self.drop_lonely()
-        if self.is_too_large():
-            self.drop_named()
+        self.drop_named()
         self.sort()
         self.count()
 
     # ---------------------------------------------------------------- which tasks say when they run
     def spelled(self, name: str) -> str:
         """A target as make looks for it: by `VPATH`, and of a member the archive."""
-        found = self.build.graph.round.vpath.get(name, name)
+        found = self.knows.vpath.get(name, name)
         return found.partition("(")[0] if found.endswith(")") and "(" in found else found
-
-    def own_path(self, node: Node) -> str:
-        """The target's own name: a link is not followed."""
-        return self.names.find(self.build.folder, self.spelled(node.name), False).path
 
     def choose(self) -> None:
         """The tasks that make a file, and what they need."""
         found: Dict[str, List[int]] = {}
         for at, task in enumerate(self.tasks):
             if task.kind == "recipe":
-                path, needs = self.own_path(task.node), self.paths_needed(task.node)
+                path, needs = self.names.find(self.build.folder, self.spelled(task.node.name), False).path, self.paths_needed(task.node)
                 why = self.why_not(at, path, needs)
                 if why:
                     self.premises.add(why, task.node.name)
@@ -79,7 +68,7 @@ class OldTree:
             else:
                 self.premises.add("unjudged", self.tasks[who[0]].node.name, len(who))
         self.needs = {at: self.needs[at] for at in self.makes}
-        own = {path for at, needs in self.needs.items() for path in self.foot.both[at].difference(needs)}
+        own = {path for at, needs in self.needs.items() for path in self.foot.changes[at].difference(needs) if self.names.before.get(path) == "f"}
         for path in sorted(own):
             self.premises.add("own", relative(self.build.folder, path))  # guard: sources-that-are-changed
 
@@ -103,25 +92,29 @@ class OldTree:
         return "%s/%s/%s" % (self.build.folder.rstrip("/"), kind, name.strip("/") or "root")
 
     def note_run(self, at: int, path: str) -> None:
-        """Notes whether a recipe may leave its target alone, or makes it anew in each build."""
-        task, never = self.build.tasks[at], self.stand_in(NEVER, "/")[: -len("root")]
-        is_forced = any(one in self.fresh or one.startswith(never) for one in self.needs[at])
-        asks = asks_what_is_newer(task.node.name, self.known)
-        if asks:
-            self.premises.add("newer", task.node.name)
-        if asks and is_forced:  # guard: what-is-newer
+        """Notes whether a recipe leaves its target alone in a build of an old tree, or makes it anew in each build. One that runs there for no file that
+        is newer, and does nothing, asks which are (`$?`)."""
+        task, later, never = self.build.tasks[at], self.later, self.stand_in(NEVER, "/")[: -len("root")]
+        is_forced = any(one in later.remade or one.startswith(never) for one in self.needs[at])
+        is_done = path in (later.remade if is_forced else later.renewed) or not os.path.lexists(path)
+        if is_forced and not is_done and task.node.name not in self.knows.ran:  # guard: what-is-newer
             self.needs[at] = [one for one in self.needs[at] if not one.startswith(never)]
-        if asks and is_forced or keeps(task, path, self.first, is_forced) or is_forced and expands_by_files(task, self.known):
+        if not is_done or any(work.makes or work.ninjas for work in task.works):  # guard: targets-that-are-left-alone
             self.kept.add(at)
-        elif is_forced:
-            self.fresh.update({path}, self.tasks[at].writes)
+
+    def find_silent(self) -> List[str]:
+        """Recipes that make does not run again though a source which they need has a new time."""
+        knows = self.later.busy.get(call_of(self.build.make.words))
+        touched = [self.tasks[at].node for at, needs in self.needs.items() if not self.later.sources.isdisjoint(needs)] if knows is not None else []
+        return [node.name for node in touched if node.jobs and knows is not None and knows.ran.isdisjoint({node.name, *self.first.also.get(node.name, ())})]
 
     def paths_needed(self, node: Node) -> Optional[List[str]]:
-        """The files that make a target run, those of all targets of its recipe."""
+        """The files that make a target run, those of all targets of its recipe. None where a name is none of the data base: blanks in names cut them."""
         found: Dict[str, None] = {}
+        base = self.knows.base
         for name in (node.name, *self.first.also.get(node.name, [])):
-            needs = needs_of(name, self.first, self.later, self.build.graph.round.vpath)
-            if needs is None or any(self.is_lost(one) for one in needs):  # guard: names-that-are-searched
+            needs = base.prerequisites.get(name, [])  # guard: what-make-knows-later
+            if any(one not in base.prerequisites for one in needs):  # guard: names-with-blanks
                 return None
             for one in needs:
                 if one not in self.paths:
@@ -131,37 +124,24 @@ class OldTree:
 
     def paths_of(self, name: str) -> Iterator[str]:
         """The names on whose ages a prerequisite comes down: its own, and what it leads to. None of them is outside of the project."""
-        if name.startswith("-l") and name not in self.build.graph.round.vpath:
-            return
         paths = [self.names.find(self.build.folder, self.spelled(name), follow).path for follow in (False, True)]
         if name in self.phony or not self.is_there(name, paths[0]):  # guard: phony-prerequisites
             yield self.stand_in(NEVER, name)
         else:
             yield from (path for path in dict.fromkeys(paths) if self.foot.is_inside(path) and self.is_behind(name, path))
 
-    def is_lost(self, name: str) -> bool:
-        """Whether a prerequisite is one that this build has not met, and is not there under its own name: make may search for it."""
-        return name not in self.build.graph.round.nodes and name not in self.phony and not self.is_there(name, self.names.find(self.build.folder, name, False).path)
-
-    def names_of_writers(self) -> Dict[str, Set[str]]:
-        """For each path that a recipe writes the targets of these recipes."""
-        found: Dict[str, Set[str]] = {}
-        for task in self.tasks:
-            for path in task.writes if task.kind == "recipe" else ():
-                found.setdefault(path, set()).update((task.node.name, *self.first.also.get(task.node.name, ())))
-        return found
-
     def is_behind(self, name: str, path: str) -> bool:
         """Whether make looks at a path by this name when a recipe that writes it has ended: the name is the target of that recipe, or
         has one of its own, be it empty, that runs behind it. Else make takes the age of the file as it was before."""
-        writers, seen = self.writers.get(path) if path not in self.names.before else None, set()
-        todo = [name, self.build.graph.round.vpath.get(name, name)]
+        nodes = [self.build.tasks[at].node for at in self.writers.get(path, ())] if path not in self.names.before else []
+        writers, seen = {one for node in nodes for one in (node.name, *self.first.also.get(node.name, ()))}, set()
+        todo = [name, self.knows.vpath.get(name, name)]
         while todo and writers:
             one = todo.pop()
             if one in writers or self.first.recipes.get(one) in [text for text in map(self.first.recipes.get, writers) if text]:
                 return True  # its own recipe, or one of `a b: c`
-            if one not in seen and any(one in base.recipes or one in base.places for base in (self.first, self.later)):  # guard: rules-without-recipe
-                todo += [*self.first.prerequisites.get(one, ()), *self.later.prerequisites.get(one, ())]
+            if one not in seen and any(one in base.recipes or one in base.places for base in (self.first, self.knows.base)):  # guard: rules-without-recipe
+                todo += [*self.first.prerequisites.get(one, ()), *self.knows.base.prerequisites.get(one, ())]
             seen.add(one)
         return not writers  # guard: second-outputs-without-rule
 
@@ -204,29 +184,12 @@ class OldTree:
         self.owners[at] = self.labels[writers[-1]]
         self.premises.add("outputs", relative(self.build.folder, path))
 
-    def drop_lonely(self) -> None:
-        """Names that one task alone touches say nothing, except that of its own file."""
-        count: Dict[str, int] = {}
-        for task in self.tasks:
-            for path in task.reads | task.writes:
-                count[path] = count.get(path, 0) + 1
-        for at, task in enumerate(self.tasks):
-            task.writes = {path for path in task.writes if count[path] > 1 or self.makes.get(at) == path}
-
-    def is_too_large(self) -> bool:
-        """Whether the text would pass a limit: files that are needed, and waiting for others, are nodes as well."""
-        files = {one for needs in self.needs.values() for one in needs} - set(self.makes.values())
-        edges = sum(len(needs) for needs in self.needs.values()) + sum(len(task.after) + 1 for task in self.tasks)
-        paths = sum(len(task.reads) + len(task.writes) for task in self.tasks)
-        return 2 * len(self.tasks) + len(files) > NODES or edges > EDGES or paths > PATHS
-
     def drop_named(self) -> None:
         """Leaves out the sources that each of their readers names: nobody misses them, and they wake nobody else."""
         written = {*self.makes.values(), *(path for task in self.tasks for path in task.writes)}
         unnamed = {path for at, task in enumerate(self.tasks) for path in task.reads.difference(self.needs.get(at, ())) if at in self.makes}
         needed = {one for needs in self.needs.values() for one in needs if os.path.lexists(one)}
         named = {*needed, *(path for task in self.tasks for path in task.reads)} - written - unnamed
-        self.premises.add("named", relative(self.build.folder, min(named, default="")), len(named))
         for task in self.tasks:
             task.reads -= named
         self.needs = {at: [one for one in needs if one not in named] for at, needs in self.needs.items()}
@@ -239,29 +202,24 @@ class OldTree:
         order, dropped = order_tasks(self.tasks, edges, keys)
         if dropped:
             self.premises.add("later-ring", "make %s" % self.build.words, dropped)
-        place = {old: new for new, old in enumerate(order)}
-        for at, task in enumerate(self.tasks):
-            task.after = {place[one] for one in edges[at] if place[one] < place[at]}
+        self.tasks, place = renumber(self.tasks, order, edges)
         self.needs = {place[at]: [one for one in needs if one not in makers or place[makers[one]] < place[at]] for at, needs in self.needs.items()}
         self.makes = {place[at]: path for at, path in self.makes.items()}
         self.owners = {place[at]: label for at, label in self.owners.items()}
-        self.tasks, self.labels = [self.tasks[at] for at in order], [self.labels[at] for at in order]
+        self.labels = [self.labels[at] for at in order]
 
     # ---------------------------------------------------------------- what comes out
     def count(self) -> None:
         """What is taken for granted of all that was looked at."""
-        seen = self.foot.seen
-        for kind, names in (("beyond", seen.outside), ("looks", seen.looks), ("unlisted", seen.absent)):
+        foot = self.foot
+        for kind, names in (("beyond", foot.outside), ("looks", foot.looks), ("unlisted", foot.absent)):
             if names:
                 example = min(names, key=lambda path: (os.path.isdir(path) and not os.path.islink(path), not os.path.lexists(path), path))
                 self.premises.add(kind, relative(self.build.folder, example), len(names))
-        timed = self.foot.set_back & {*self.makes.values(), *(one for needs in self.needs.values() for one in needs)}  # guard: times-of-goals
-        for path in sorted(timed):
-            self.premises.add("times", relative(self.build.folder, path))
-
-    def judged(self) -> int:
-        """How many recipes say when they run."""
-        return sum(1 for at in self.makes if self.tasks[at].kind == "recipe")
+        goals = {*self.makes.values(), *(one for needs in self.needs.values() for one in needs)}
+        for path in sorted(foot.set_back):
+            if not goals.isdisjoint({path, self.stand_in(KEPT, relative(self.build.folder, path))}):  # guard: times-of-goals
+                self.premises.add("times", relative(self.build.folder, path))
 
     def lines(self) -> Iterator[str]:
         """The text of tasks."""

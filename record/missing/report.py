@@ -56,7 +56,7 @@ class Judged:
             return self.name(one.path)
         if not one.add:
             return ""
-        return self.target(one.reader) if one.kind == "shared" else self.name(one.needed)
+        return self.target(one.reader) if one.kind == "shared" else self.name(one.add)
 
     def fingerprint(self, one: Found) -> str:
         """What stays the same where lines move: the kind, the path and the targets."""
@@ -88,6 +88,7 @@ class Question:
         own += ["build %s: %s" % (one.number, explained(one.answer.refused)) for one in self.judged if one.answer.refused]
         is_broken = bool(self.record["holes"])
         warm = self.record["warm"]["count"] and not any(one["kind"] == "up-to-date" for one in self.record["assumptions"])
+        own += [] if any(True for _ in self.all()) else self.record["missing"]["otherwise"]  # guard: what-later-builds-leave
         own += ["the record has holes"] if is_broken else ["what was up to date did not run (WARM)"] if warm else []
         return own
 
@@ -111,8 +112,7 @@ class Question:
 def rows_of(judged: Judged, found: List[Found]) -> List[str]:
     """The recipes that a group of violations is about, with their places; the writer last."""
     about = judged.about
-    verb = {"missing": "reads it, and is not made again", "late": "reads it", "shared": "writes it", "present": "was there before the build",
-            "tree": "writes below it, and may leave what an earlier build wrote there"}
+    verb = {"missing": "reads it, and is not made again", "late": "reads it", "shared": "writes it"}
     rows = [(judged.target(one.reader), place(about, one.reader), verb[one.kind]) for one in found[:SHOWN_TARGETS]]
     writer, kind = found[0].writer, found[0].kind
     if writer:
@@ -129,8 +129,6 @@ def add_line(judged: Judged, found: List[Found]) -> List[str]:
     """The line for the makefile, for those targets that have one."""
     adding = [one for one in found if judged.early(one)]
     late, early = (" ".join(dict.fromkeys(side(one) for one in adding)) for side in (judged.late, judged.early))
-    if not adding and any(one.is_loose for one in found):
-        return ["  no line helps alone: %s has no rule, and %s may stay as it is when its recipe runs" % (judged.name(found[0].path), judged.target(found[0].writer))]
     if not adding and found[0].kind == "missing" and found[0].writer:
         path, readers = judged.name(found[0].path), " ".join(dict.fromkeys(judged.late(one) for one in found))
         return ["  add: %s: %s" % (readers, path), "  add: %s: %s ;" % (path, judged.target(found[0].writer))]

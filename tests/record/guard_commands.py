@@ -12,7 +12,7 @@ GUARDS: List[Guard] = [
     ),
     *guards("commands/shelltext.py",
         ("what-find-does-beside", 'return "-delete" in argv', "shelltext.Words.removals"),
-        ("what-is-removed", 'words = argv if name == "rm" else []', "later_graph.Later.quiet_folders_that_are_cleaned"),
+        ("what-is-removed", 'words = argv if name == "rm" else []', "later.Later.quiet_folders_that_are_cleaned"),
         ("status", "return bool(words) and not any(SAYS.fullmatch(word) for word in options)", "shelltext.Words.removals"),
         ("status", "return any(FORCES.fullmatch(word) for word in options)", "shelltext.Words.removals"),
     ),

@@ -50,7 +50,7 @@ class NoVerdict(unittest.TestCase):
         self.assertNotIn("more", "".join(report(written(HOLES[:20]), [], Path("/r"))))
 
     def test_holes_of_missing_inputs(self) -> None:
-        about = {"holes": HOLES, "premises": [], "judged": 0}
+        about = {"holes": HOLES, "otherwise": [], "premises": [], "judged": 0}
         for own, ends in (([], "docs/MISSING.md"), (["a hole"], "under holes")):
             question = Question({**written(own), "missing": about, "warm": {"count": 0}}, [], Path("/r"))
             shown = [line for line in missing_text(question, Colours()) if line != "Assumed:"]

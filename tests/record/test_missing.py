@@ -3,13 +3,14 @@
 import json
 import os
 import subprocess
-import sys
 import time
 import unittest
 from pathlib import Path
 from typing import Dict, Set, Tuple
+from unittest import mock
 
 import support
+from record.missing.old_tree import OldTree
 
 PARTS = 4
 Pairs = Set[Tuple[str, str]]  # a target, and what it reads and make does not know of
@@ -67,6 +68,8 @@ PROJECTS: Dict[str, Tuple[str, Pairs]] = {
     "a macro of the shell in two places": (
         "V = $(shell cat h.h)\nN := $(V)\n-include none.mk\nall: a\na: list\n\techo $(V) > a\n", {("a", "h.h")}),
     "a make inside that always runs": ("all: b\nin/x: FORCE\n\t$(MAKE) -C in\nFORCE:\nb: in/x\n\tcat in/x h.h > b\n", {("b", "h.h")}),
+    "a make inside that waits for another file": (
+        "all: b\nin/x: list\n\t$(MAKE) -C in\nb: in/x\n\tcat in/x list > b\n", {("in/x", "in/Makefile"), ("in/x", "in/y"), ("b", "list")}),
     "a file that is written where it differs": (
         "all: a\nv.h: FORCE\n\ttest \"`cat v.h 2>/dev/null`\" = 1 || echo 1 > v.h\nFORCE:\na: v.h list\n\tcat v.h list h.h > a\n", {("a", "h.h")}),
     "a recipe that asks what is newer": (
@@ -79,21 +82,13 @@ PROJECTS: Dict[str, Tuple[str, Pairs]] = {
     "another name of a generated header": (
         "all: a\ng.h: list\n\tcp list g.h\na: a.c | g.h\n\tcat a.c g.h > a\n\techo 'a: $(CURDIR)/g.h' > a.d\n-include a.d\n", {("a", "g.h")}),
     "a file that another recipe changes": ("all: b\na: list\n\tcp list a\nb: | a\n\tsed -i s/x/y/ a\n\tcat a h.h > b\n", {("b", "a"), ("b", "h.h")}),
-    "a name that make has to search": ("VPATH = sub\nall: a\na: list\n\tcat list h.h > a\n\techo 'a: x.h' > a.d\n-include a.d\n", set()),
+    "a name that make has to search": ("VPATH = sub\nall: a\na: list\n\tcat list h.h > a\n\techo 'a: x.h' > a.d\n-include a.d\n", {("a", "h.h")}),
     "a file that a later recipe makes": (
         "all: a b\na: list\n\tcat list o.h > a 2>/dev/null || true\nb: a h.h\n\tcp h.h o.h\n\tcp h.h b\n", {("a", "o.h")}),
-    "a pattern that a later recipe adds to": (
-        "all: a b\na: list\n\tcat list *.def > a 2>/dev/null || true\nb: a h.h\n\tcp h.h o.def\n\tcp h.h b\n", {("a", "o.def")}),
-    "a new folder that is searched": (
-        "all: a b\na: list\n\tfind . -name '*.def' > a; cat list >> a\nb: a h.h\n\tmkdir -p d\n\tcp h.h d/o.def\n\tcp h.h b\n", {("a", "d/o.def")}),
     "a file that a later recipe removes": (
         "all: s a z\ns: list\n\ttouch flag; cp list s\na: s list\n\tif test -f flag; then cp list a; else echo > a; fi\nz: a h.h\n\trm flag; cp h.h z\n", {("a", "flag")}),
-    "a list that a recipe is expanded by": (
-        "all: a b\na: list\n\tcat list $(wildcard *.def) > a\nb: a h.h\n\tcp h.h o.def\n\tcp h.h b\n", {("a", "o.def")}),
     "a name that a recipe is expanded by": (
         "all: a b\na: X = $(wildcard o.h)\na: list\n\tcat list $(X) > a\nb: a h.h\n\tcp h.h o.h\n\tcp h.h b\n", {("a", "o.h")}),
-    "a module that a later recipe makes": (
-        "all: a b\na: list gen2.py\n\tpython3 -B gen2.py > a\nb: a h.h\n\techo X = 1 > later.py\n\tcp h.h b\n", {("a", "later.py")}),
     "a process that a recipe is expanded by": (
         "all: a b\na: list\n\techo $(shell cat list o.h 2>/dev/null) > a\nb: a h.h\n\tcp h.h o.h\n\tcp h.h b\n", {("a", "o.h")}),
     "a recipe of functions that call a process": (
@@ -110,7 +105,7 @@ PROJECTS: Dict[str, Tuple[str, Pairs]] = {
 }
 FILES = {"a.c": "a\n", "b.c": "b\n", "h.h": "h\n", "list": "x\n", "gen.sh": "cat $1\n", "sub/x.c": "x\n", "sub/x.h": "h\n", "p.y1": "y\n",
          "in/Makefile": "x: y\n\tcp y x\n", "in/y": "y\n",
-         "gen2.py": "more = 0\ntry:\n    import later\nexcept ImportError:\n    pass\n", "gen.py": "import mod\nmore = mod.more\n", "mod.py": "more = 0\n"}
+         "gen.py": "import mod\nmore = mod.more\n", "mod.py": "more = 0\n"}
 
 
 def violations(text: str) -> Dict[str, Pairs]:
@@ -155,12 +150,12 @@ class Table(unittest.TestCase):
                 self.assertEqual((target, path) not in missing, is_made_again(folder, target, path), (target, path))
 
     def part(self, number: int) -> None:
-        """Each PARTS-th project, all in one record."""
+        """Each PARTS-th project, all in one record, that has also what each recipe names which reads it."""
         part = {name.replace(" ", "-"): PROJECTS[name] for name in list(PROJECTS)[number::PARTS]}
         files = {"Makefile": "all:\n" + "".join("\t$(MAKE) -C %s\n" % folder for folder in part)}
         for folder, (makefile, _) in part.items():
             files.update({"%s/%s" % (folder, name): text for name, text in {"Makefile": makefile, **FILES}.items()})
-        with support.Project(files) as project:
+        with support.Project(files) as project, mock.patch.object(OldTree, "drop_named", lambda tree: None):
             outcome = project.record(options=["--missing"])
             self.assertEqual(1, outcome.status, outcome.text() + outcome.stderr.decode())
             found = violations(outcome.text())
@@ -212,23 +207,6 @@ class Products(unittest.TestCase):
         with support.Project({"Makefile": PROJECTS["an intermediate file"][0], **FILES}) as project:
             self.assertFalse(is_made_again(project.folder, "a.o", "list"))
             self.assertTrue(is_made_again(project.folder, "a.o", "a.c"))
-
-
-class Large(unittest.TestCase):
-    """A text that would be too large leaves out what each reader names, and gives the same answer."""
-
-    def test_same_answer(self) -> None:
-        for name in ("forgotten header", "named headers", "a chain", "a generated header in order alone"):
-            with self.subTest(name), support.Project({"Makefile": PROJECTS[name][0], **FILES}) as project:
-                program = (support.TOP / "record" / "race-record").read_text()
-                small = program.replace("os._exit(", "import record.missing.old_tree\nrecord.missing.old_tree.NODES = 1\nos._exit(")
-                path = project.folder / "race-record"
-                path.write_text(small.replace("os.path.dirname(os.path.dirname(os.path.realpath(__file__)))", repr(str(support.TOP))))
-                words = [sys.executable, str(path), "--race", support.race_program(), "--missing", "--", "make"]
-                outcome = project.plain(words).stdout.decode()
-                listing = (project.folder / ".race" / "builds" / "001" / "missing-listing").read_text().splitlines()
-                self.assertEqual(PROJECTS[name][1], violations(outcome).get("", set()), outcome)
-                self.assertLessEqual(set(listing), {"h.h", "list"})
 
 
 class Reports(unittest.TestCase):
@@ -285,31 +263,34 @@ class Verdicts(unittest.TestCase):
 
     def test_premises(self) -> None:
         makefile = ("V := $(shell cat v)\nall: a b c\ninclude m.mk\nm.mk: list\n\techo 'X = 1' > m.mk\n"
-                    "a: list h.h\n\tcat list h.h > a\n\ttouch -r list a\nb: a\n\tcp a b\nc: list\n\tcat $? > c\n")
+                    "a: list h.h\n\tcat list h.h > a\n\ttouch -r list a\nb: a\n\tcp a b\nc: list\n\tcp list c\n")
         with support.Project({"Makefile": makefile, "v": "1\n", **FILES}) as project:
             outcome = project.record(options=["--missing"])
         found = {one["kind"]: one["example"] for one in (outcome.record or {})["missing"]["premises"]}
         self.assertEqual(0, outcome.status, outcome.text())
-        self.assertEqual(("a", "m.mk", "c"), tuple(found.get(key) for key in ("times", "called", "newer")), outcome.text())
+        self.assertEqual(("a", "m.mk"), tuple(found.get(key) for key in ("times", "called")), outcome.text())
 
-    def test_searched(self) -> None:
-        with support.Project({"Makefile": PROJECTS["a name that make has to search"][0], **FILES}) as project:
+    def test_line_that_does_not_help(self) -> None:
+        """Make knows no rule of the file: one with an empty recipe, beside that line, lets it look behind who makes the file."""
+        makefile, _ = PROJECTS["a folder that is a target"]
+        with support.Project({"Makefile": makefile, **FILES}) as project:
             outcome = project.record(options=["--missing"])
-        found = {one["kind"]: one["example"] for one in (outcome.record or {})["missing"]["premises"]}
-        self.assertEqual("a", found.get("unjudged"), outcome.text())
-
-    def test_no_line_helps(self) -> None:
-        with support.Project({"Makefile": PROJECTS["a folder that is a target"][0], **FILES}) as project:
-            outcome = project.record(options=["--missing"])
-        self.assertNotIn("add:", outcome.text())
-        self.assertIn("no line helps alone: o/x has no rule, and o may stay as it is when its recipe runs", outcome.text())
+        self.assertIn("  add: a: o/x\n  add: o/x: o ;\n", outcome.text())
+        with support.Project({"Makefile": makefile + "a: o/x\no/x: o ;\n", **FILES}) as project:
+            self.assertTrue(is_made_again(project.folder, "a", "list"))
 
     def test_makefile_from_standard_input(self) -> None:
         makefile = "all: a\na: list ; cat list h.h > a\n"
         with support.Project({"m": makefile, **FILES}) as project:
             outcome = project.record(["sh", "-c", "make -f - < m"], ["--missing"])
-        self.assertEqual(2, outcome.status, outcome.text())
-        self.assertIn("its makefile came from standard input", outcome.text())
+        self.assertEqual({("a", "h.h")}, violations(outcome.text()).get("", set()), outcome.text())
+
+    def test_setup(self) -> None:
+        """What runs before the build is no part of a later one."""
+        files = {"Makefile": "a: conf\n\tcat conf h.h > a\n", "setup.mk": "conf:\n\tcp list conf\n", **FILES}
+        with support.Project(files) as project:
+            outcome = project.record(options=["--missing", "--fresh", "--setup", "make -f setup.mk"])
+        self.assertEqual((1, {("a", "h.h")}), (outcome.status, violations(outcome.text()).get(project.folder.name, set())), outcome.text())
 
     def test_program_that_does_not_know_it(self) -> None:
         with support.Project({"Makefile": "all: ; touch all\n", "old": "#!/bin/sh\necho usage >&2\nexit 3\n"}) as project:
@@ -329,14 +310,3 @@ class Verdicts(unittest.TestCase):
         self.assertIn("NOTHING MISSING", outcome.text())
         said = (support.TOP / "examples" / "gnu-make" / "README.md").read_text().partition("    MISSING")[2].split("\n\n")[0]
         self.assertIn("MISSING" + said.replace("\n    ", "\n"), without.text())
-
-
-class Later(unittest.TestCase):
-    """What a later build finds in the folders of a pattern."""
-
-    def test_folder_that_a_later_recipe_makes(self) -> None:
-        text = "all: b\na: t ; cat */*.q > a\nb: a ; %s; echo b > b\n"
-        for line, wanted in (("mkdir y; touch y/k.q", True), ("ln -s d y", True), ("echo x > y", False)):
-            with support.Project({"Makefile": text % line, "t": "", "d/a.q": "q\n"}) as project:
-                outcome = project.record(options=["--missing"])
-            self.assertEqual(wanted, any(one in outcome.text() for one in ("finds y otherwise", "LATE  y")), outcome.text())
