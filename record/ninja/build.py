@@ -2,13 +2,13 @@
 
 import os
 from pathlib import Path
-from typing import Any, Dict, List, Set
+from typing import Any, Dict, List, Set, Tuple
 
 from record.build.assumptions import Assumptions
 from record.build.builder import Builder
 from record.build.tasks import Build, Node, Task, befores, drop_lonely, order_tasks, renumber
 from record.build.work import Work
-from record.build.folders import add_folders, apart
+from record.build.folders import add_folders
 from record.build.locks import pass_locks
 from record.ninja.fix import owner_of
 from record.ninja.manifest import Edge
@@ -87,41 +87,36 @@ class NinjaBuilder(Builder):
         first = self.first()  # guard: what-manifest-needs-comes-first
         for edge, before in zip(kept, after):
             before |= {place[number] for number in first} if edge.number in jobs.keys() - first else set()
-        keys = [(jobs[edge.number].life.died if edge.number in jobs else 0, edge.number) for edge in kept]
-        order, dropped = order_tasks([Task(e.label, Node(e.label, e.label, 0, 0), "group") for e in kept], after, keys)
-        if dropped:
-            self.holes.append("build statements of %s wait for each other in a cycle" % self.ninja.file)  # guard: cycle
-        number = {old: new for new, old in enumerate(order)}
-        for old in order:
-            edge = kept[old]
+        for edge in kept:
             job = jobs.get(edge.number)
-            task = Task(edge.label, Node(edge.label, edge.label, 0, 0), "recipe" if job else "group", {number[a] for a in after[old]})
+            task = Task(edge.label, Node(edge.label, edge.label, 0, 0), "recipe" if job else "group")
             if job is not None:
                 self.add_own(job, edge)
                 task.works = [job.work]
             self.of_node[edge.label] = len(self.build.tasks)
             self.build.tasks.append(task)
-            self.build.edges.append(edge)
-        self.divide_tasks()
-        self.build.bits = befores([t.after for t in self.build.tasks], list(range(len(self.build.tasks))))
+        self.put_in_order(kept, after, [(jobs[edge.number].life.died if edge.number in jobs else 0, edge.number) for edge in kept])
 
-    def divide_tasks(self) -> None:
-        """Puts the parts of commands that are divided in front of their ends."""
-        build, count = self.build, len(self.build.tasks)
-        owners = list(range(count))
-        for at in range(count):
+    def put_in_order(self, edges: List[Edge], after: List[Set[int]], keys: List[Tuple[int, int]]) -> None:
+        """Orders statements, and the parts of commands that are divided before their ends. `after`, `keys`: by the place of a statement."""
+        tasks, owners = self.build.tasks, list(range(len(edges)))
+        for at in range(len(edges)):
             parts = self.add_parts(at)
-            build.tasks += parts
+            tasks += parts
             owners += [at] * len(parts)
-        if len(owners) == count:
-            return
-        after = [{*task.after} for task in build.tasks]
-        for at in range(count):
+            after += [set() for _ in parts]
             self.order_parts(at, after)
-        order = sorted(range(len(owners)), key=lambda at: (owners[at], build.tasks[at].kind != "part", at))
-        build.edges = [build.edges[owners[old]] for old in order]
-        build.tasks, number = renumber(build.tasks, order, after)
+        order, dropped = order_tasks(tasks, after, [keys[at] for at in owners])
+        if dropped:
+            self.holes.append("build statements of %s wait for each other in a cycle" % self.ninja.file)  # guard: cycle
+        self.arrange(order, after, [edges[at] for at in owners])
+
+    def arrange(self, order: List[int], after: List[Set[int]], edges: List[Edge]) -> None:
+        """Puts the tasks in an order. `after`, `edges`: by the old number of a task what it waits for, and its statement."""
+        self.build.tasks, number = renumber(self.build.tasks, order, after)
+        self.build.edges = [edges[old] for old in order]
         self.of_node = {label: number[at] for label, at in self.of_node.items()}
+        self.build.bits = befores([task.after for task in self.build.tasks], list(range(len(order))))
 
     def first(self) -> Set[int]:
         """The statements that ran before all others: ninja first makes its manifest. They are those at the head of the run which it needs, and which
@@ -143,16 +138,11 @@ class NinjaBuilder(Builder):
         """Statements that ran, and those without a command that ran which lead from one of them to another."""
         manifest = self.stage.manifest
         below = manifest.below([job.edge for job in jobs.values() if job.edge is not None])
-        users: Dict[int, List[Edge]] = {}
-        for edge in manifest.edges:
-            if edge.number in below:
-                for one in manifest.makers_of(edge):
-                    users.setdefault(one.number, []).append(edge)
         above: Set[int] = set(jobs)
-        todo = [manifest.edges[n] for n in jobs]
+        todo = [manifest.edges[number] for number in jobs]
         while todo:
-            for user in users.get(todo.pop().number, []):
-                if user.number not in above:
+            for user in manifest.users_of(todo.pop()):
+                if user.number in below and user.number not in above:
                     above.add(user.number)
                     todo.append(user)
         return [edge for edge in manifest.edges if edge.number in above]  # guard: through-phony-ones
@@ -190,28 +180,10 @@ class NinjaBuilder(Builder):
         if found and edge.value("deps") == "gcc":  # guard: depfiles
             for kind in "RD":
                 work.add(kind, self.full(found), end)
-        for path in edge.makes():
-            self.add_loaded(work, path, end)  # guard: looks-for-inputs-that-dyndep-file-adds
         dyndep = edge.path("dyndep")
         if dyndep:
             for path in [dyndep] + edge.waits() + edge.makes():
                 work.add("S", self.full(path), begin)
-
-    def add_loaded(self, work: Work, file: str, place: int) -> None:
-        """As soon as a dyndep file is made, ninja looks for the inputs that it adds and no statement makes, and fails where one is not there."""
-        manifest = self.stage.manifest
-        for path in manifest.added.get(file, ()):
-            if path not in manifest.makers:
-                work.add("S", self.full(path), place)
-
-    def add_files_of_dyndep(self) -> None:
-        """Ninja knows the maker of an input that a dyndep file adds only if the file that adds that output has been read: else it fails."""
-        manifest = self.stage.manifest
-        makers = {path: at for at, edge in enumerate(self.build.edges) for path in edge.makes()}
-        for file, inputs in manifest.added.items():
-            others = {manifest.found_in[path] for path in inputs if path in manifest.found_in} - {file}
-            for other in sorted(other for other in others if file in makers and other in makers):
-                apart(self, self.full(file) + "/@dyndep", "which dyndep files ninja has read before it", makers[file], {makers[other]})
 
     def add_folder(self, work: Work, folder: str, place: int) -> None:
         """Ninja makes a folder, and those above it, if they are not there."""
@@ -234,7 +206,6 @@ class NinjaBuilder(Builder):
         for task in self.build.tasks:
             self.add_events(task)
         add_folders(self)
-        self.add_files_of_dyndep()  # guard: outputs-that-dyndep-file-adds
         pass_locks(self)  # guard: ninja
         drop_lonely(self.build.tasks, set())
         self.note_late()
@@ -248,8 +219,5 @@ class NinjaBuilder(Builder):
             found = {makers[path] for path in task.reads if path in makers}
             after[at] |= {maker for maker in found if self.build.unordered(maker, at)}
         order, dropped = order_tasks(tasks, after, [(at, 0) for at in range(len(tasks))])
-        if dropped:
-            return
-        self.build.tasks, _ = renumber(tasks, order, [task.after for task in tasks])
-        self.build.edges = [edges[old] for old in order]
-        self.build.bits = befores([task.after for task in self.build.tasks], list(range(len(order))))
+        if not dropped:
+            self.arrange(order, [task.after for task in tasks], edges)

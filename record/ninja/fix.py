@@ -19,12 +19,6 @@ def generator_of(manifest: Manifest) -> str:
     return "meson" if "REGENERATE_BUILD" in manifest.top.rules else ""
 
 
-def users_of(edge: Edge, manifest: Manifest) -> List[Edge]:
-    """The statements that wait for a statement."""
-    found = [user for path in edge.makes() for user in manifest.users().get(path, [])]
-    return [user for user in found if user is not edge]
-
-
 def cmake_target(edge: Edge, manifest: Manifest) -> str:
     """The target of CMakeLists.txt that a statement belongs to, or the one that was made for what it writes."""
     for path in edge.makes():
@@ -37,7 +31,7 @@ def cmake_target(edge: Edge, manifest: Manifest) -> str:
 
 def cmake_users(edge: Edge, manifest: Manifest, group: int) -> List[str]:
     """The targets that wait for a statement: those of `add_custom_target` (1), or those that have what it writes among their sources (2)."""
-    matches = (CMAKE_TARGET.search(path) for user in users_of(edge, manifest) for path in user.makes())
+    matches = (CMAKE_TARGET.search(path) for user in manifest.users_of(edge) for path in user.makes())
     return [match.group(group) for match in matches if match and match.group(group)]
 
 

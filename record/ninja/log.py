@@ -33,28 +33,14 @@ def text_of(path: str) -> str:
     return machine.read(path).decode("utf-8", "surrogateescape")
 
 
-def outputs_of(lines: List[str]) -> List[str]:
-    """The outputs that lines of a log name, in order."""
-    return [parts[3] for parts in (line.split("\t") for line in lines) if len(parts) == 5]
-
-
-def entries(text: str) -> List[str]:
-    """The lines of a log without its head."""
-    return [line for line in text.split("\n") if line and not line.startswith("#")]
-
-
 def new_outputs(before: str, after: str) -> List[str]:
     """The outputs that were logged between two states of a log, in order; ninja may have packed the log meanwhile."""
-    if after.startswith(before):
-        return outputs_of(entries(after[len(before):]))
-    old = Counter(entries(before))
-    found = []
-    for line in entries(after):
-        if old[line]:
-            old[line] -= 1
-        else:
-            found.append(line)
-    return outputs_of(found)
+    old, found = Counter(before.split("\n")), []
+    for line in after.split("\n"):
+        old[line] -= 1
+        parts = line.split("\t")
+        found += parts[3:4] if old[line] < 0 and len(parts) == 5 else []
+    return found
 
 
 @dataclass(frozen=True)

@@ -6,8 +6,8 @@ Values of rules are worked out when they are asked for, all others where they st
 import os
 import re
 from dataclasses import dataclass, field
+from functools import cached_property
 from typing import Callable, Dict, Iterator, List, Optional, Set, Tuple
-
 
 VARIABLE = re.compile(r"\$(?:\{([A-Za-z0-9_.-]+)\}|([A-Za-z0-9_-]+)|(.?))", re.S)
 TOKEN = re.compile(r" *(?:(\|\||\|@|\||:)|((?:\$(?:\{[A-Za-z0-9_.-]+\}|[A-Za-z0-9_-]+|[ $:|])|[^ :|$])+)|$)")
@@ -65,21 +65,11 @@ class Scope:
 
     def value(self, name: str) -> str:
         """What a variable holds; nothing where nobody sets it."""
-        scope: Optional[Scope] = self
-        while scope is not None:
-            if name in scope.values:
-                return scope.values[name]
-            scope = scope.parent
-        return ""
+        return self.values[name] if name in self.values else self.parent.value(name) if self.parent is not None else ""
 
     def rule(self, name: str) -> Optional[Dict[str, str]]:
         """The bindings of a rule, not yet worked out."""
-        scope: Optional[Scope] = self
-        while scope is not None:
-            if name in scope.rules:
-                return scope.rules[name]
-            scope = scope.parent
-        return None
+        return self.rules[name] if name in self.rules else self.parent.rule(name) if self.parent is not None else None
 
 
 @dataclass(eq=False)
@@ -191,23 +181,16 @@ class Manifest:
     defaults: List[str] = field(default_factory=list)
     files: List[str] = field(default_factory=list)
     makers: Dict[str, Edge] = field(default_factory=dict)  # output: statement
-    added: Dict[str, List[str]] = field(default_factory=dict)  # dyndep file: the inputs that it adds
-    found_in: Dict[str, str] = field(default_factory=dict)  # output that a dyndep file adds: that file
     top: Scope = field(default_factory=lambda: Scope(rules={"phony": {}}))
-    _users: Dict[str, List[Edge]] = field(default_factory=dict)
 
     def add_output(self, edge: Edge, path: str) -> bool:
         """Notes who makes a path; whether nobody did before."""
         return self.makers.setdefault(path, edge) is edge
 
-    def add_found(self, edge: Edge, file: str, found: Found) -> None:
+    def add_found(self, edge: Edge, found: Found) -> None:
         """What a dyndep file says of a statement."""
         edge.implicit += found.inputs
-        self.added.setdefault(file, []).extend(found.inputs)
-        for path in found.outputs:
-            if self.add_output(edge, path):
-                edge.implicit_outputs.append(path)
-                self.found_in[path] = file
+        edge.implicit_outputs += [path for path in found.outputs if self.add_output(edge, path)]
         edge.restat_by_file = edge.restat_by_file or found.restat
 
     def makers_of(self, edge: Edge) -> List[Edge]:
@@ -215,13 +198,18 @@ class Manifest:
         found = (self.makers.get(path) for path in edge.waits())
         return list(dict.fromkeys(one for one in found if one is not None and one is not edge))
 
+    @cached_property
     def users(self) -> Dict[str, List[Edge]]:
-        """For each path the statements that wait for it."""
-        if not self._users:
-            for edge in self.edges:
-                for path in edge.waits():
-                    self._users.setdefault(path, []).append(edge)
-        return self._users
+        """For each path the statements that wait for it. Asked when all is read."""
+        found: Dict[str, List[Edge]] = {}
+        for edge in self.edges:
+            for path in edge.waits():
+                found.setdefault(path, []).append(edge)
+        return found
+
+    def users_of(self, edge: Edge) -> List[Edge]:
+        """The statements that wait for a statement."""
+        return [user for path in edge.makes() for user in self.users.get(path, ()) if user is not edge]
 
     def goals(self, names: List[str]) -> Optional[List[Edge]]:
         """The statements that words of the command line name; without words the default; None where a word is not known."""

@@ -226,7 +226,7 @@ class Runs:
             try:
                 for one in read_dyndep(self.texts_at(reads.get(real, NEVER - 1))(path)):  # guard: dyndep-file-that-changed-since
                     if manifest.makers.get(one.output) is edge:  # guard: dyndep-file-adds-to-its-statement-alone
-                        manifest.add_found(edge, name, one)
+                        manifest.add_found(edge, one)
             except Unreadable as fault:
                 self.holes.append("%s: %s" % (path, fault))
 

@@ -13,9 +13,6 @@ from record.trace.calls import Calls
 from record.trace.lives import Act, Life
 from record.trace.names import Names
 from record.trace.strace import read_trace
-from test_small import COMMANDS, Small, makefiles
-
-NINJA = "rule t\n  command = touch $out\nrule l\n  command = cut -f4 .ninja_log > $out\nbuild a: t\nbuild b: l%s\n"
 
 MANIFEST = "rule r\n  command = $c\nbuild a: r\n  c = one\nbuild b: r\n  c = two\nbuild c: r\n  c = two\n"
 
@@ -134,13 +131,3 @@ class Changed(unittest.TestCase):
 
     def test_by_one_process_before_and_after(self) -> None:
         self.assertEqual([self.HOLE], self.holes("1 changes", *self.START, *self.TWO, "1 changes"))
-
-
-Makefiles = makefiles(__name__, {
-    # what ninja writes when a command has ended
-    "log_of_ninja_that_is_waited_for": Small("safe", "", {"build.ninja": NINJA % " | a"}),
-})
-
-
-COMMANDS["log_of_ninja"] = ["ninja"]
-COMMANDS["log_of_ninja_that_is_waited_for"] = ["ninja"]
