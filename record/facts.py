@@ -18,7 +18,7 @@ from record.ninja.log import Kept
 from record.trace.names import Names
 from record.watch.files import keep_files
 
-OWN = ("stop.mk", "sifted.part")  # what the recorder put there
+OWN = ("sifted.part",)  # what the recorder put there
 SAID = "said"  # the folder in it of what makes said
 
 

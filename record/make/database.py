@@ -2,7 +2,6 @@
 
 import re
 from dataclasses import dataclass, field
-from functools import cached_property
 from typing import Any, Dict, List, Set, Tuple
 
 NAME = r"[^\s:=#,(){}$]"  # a sign of a macro's name that is none of these
@@ -14,7 +13,6 @@ VALUE = re.compile(r"^(" + NAME + r"*)(.*?) (?:=|:=|::=|:::=|\+=|\?=) ?(.*)$", r
 LINES_TEXT = "$(lines)*"  # what stands for a macro of several lines
 LEVEL = re.compile(r"(?!\t)[ \t]*(?:(define)|endef)(?=[ \t]|$)")  # behind a tab it is a line of a recipe, and another word in front hides it
 LINES = re.compile(r"^define (?![:+]?=)(" + NAME + r"*)(.*)", re.A)  # guard: macro-that-is-called-define
-PATTERN = re.compile(r"^([^#\t:=]*%[^:=]*)(::?)(?!=) *(.*)$")
 NO_TARGET = "# Not a target:"
 BEHIND = "# variable set hash-table stats:"  # what follows the last macro
 PARTS = ("# Directories", "# Implicit Rules", "# Files", "# files hash-table stats:")  # lines that it has once, where no macro has them too
@@ -46,8 +44,6 @@ class Base:
     places: Dict[str, List[Tuple[str, int]]] = field(default_factory=dict)
     implicit: Set[str] = field(default_factory=set)
     failed: Set[str] = field(default_factory=set)  # what could not be made
-    patterns: List[Tuple[List[str], List[str]]] = field(default_factory=list)
-    terminal: Set[int] = field(default_factory=set)  # places of patterns with two colons
     values: Dict[str, str] = field(default_factory=dict)  # the text of macros; `$(lines)*` for one of several lines
     bodies: Dict[str, List[str]] = field(default_factory=dict)  # by macro: its lines, and its values for single targets and patterns
     own: Set[str] = field(default_factory=set)  # macros of single targets and patterns
@@ -61,11 +57,6 @@ class Base:
         every: Tuple[Dict[str, List[Any]], ...] = (self.recipes, self.places, self.double)
         for known in every:
             known.update({name: known[path]} if path in known else {})
-
-    @cached_property
-    def tails(self) -> List[Tuple[int, str, str]]:
-        """The targets of patterns, each with its place and with what stands behind its `%`. Asked when all is read."""
-        return [(at, target, target.partition("%")[2]) for at, (targets, _) in enumerate(self.patterns) for target in targets]
 
 
 def cut(text: str) -> List[str]:
@@ -216,14 +207,6 @@ class _Macros:
         self.base.bodies.setdefault(self.name, []).append(text)
 
 
-def pattern_rule(base: Base, text: str) -> None:
-    """A line of the part that lists implicit rules."""
-    pattern = PATTERN.match(text)
-    if pattern:
-        base.terminal.update([len(base.patterns)] if pattern.group(2) == "::" else [])
-        base.patterns.append((cut(pattern.group(1)), cut(pattern.group(3).replace("|", " "))))
-
-
 def read_base(lines: List[str]) -> Base:
     """What one data base says."""
     base = Base()
@@ -244,7 +227,6 @@ def read_base(lines: List[str]) -> Base:
         elif inside:
             files.line(text)
         else:
-            pattern_rule(base, text)
             macros.line(text, previous)
         previous = text
     base.is_open = macros.depth > 0

@@ -37,14 +37,6 @@ class Make(Tool):
     left: List[Part] = field(default_factory=list)  # processes that its own calls leave running, as `$(shell a &)`
 
     @cached_property
-    def kinds(self) -> Dict[str, Set[str]]:
-        """By path: the kinds of its own acts."""
-        found: Dict[str, Set[str]] = {}
-        for act in self.life.acts:
-            found.setdefault(act.path, set()).add(act.kind)
-        return found
-
-    @cached_property
     def reads(self) -> Dict[str, List[int]]:
         """By path: when it read that by itself."""
         found: Dict[str, List[int]] = {}
@@ -65,12 +57,6 @@ class Make(Tool):
             return "\n".join(map(text_of, self.words.copies_of(name) or [os.path.join(self.folder, name)]))  # guard: what-they-say
         except OSError:
             return None
-
-    def never_read(self, name: str) -> bool:
-        """Whether it looked for a makefile, as for `-include`, and found none: that one says nothing."""
-        path = os.path.normpath(os.path.join(self.folder, name))
-        kinds = self.kinds.get(path, set())
-        return ABSENT in kinds and READ not in kinds and not machine.lexists(path)
 
     def patterns_in(self, folder: str) -> List[str]:
         """The patterns of names for which it looked in a folder; any name where nobody has heard them."""

@@ -79,9 +79,6 @@ class Reads(unittest.TestCase):
         text = "# Files\n\n# Not a target:\nx.y:\n#  Implicit rule search has been done.\n"
         self.assertEqual({"x.y"}, self.base(text).implicit)
 
-    def test_patterns(self) -> None:
-        self.assertIn((["%.o"], ["%.c", "%.h", "folder"]), self.base().patterns)
-
     def test_serial(self) -> None:
         self.assertFalse(self.base().serial)
         self.assertTrue(self.base("# Files\n\n.NOTPARALLEL:\n").serial)

@@ -1,9 +1,5 @@
 """Tests of modules of record/make that have no file of their own."""
 
-import unittest
-
-from record.make import searches
-from record.make.database import read_base
 from test_small import COMMANDS, Small, makefiles
 
 SETUP = "sed -i '1i#!/bin/sh' t; chmod +x t bin2/tool"
@@ -46,19 +42,3 @@ Makefiles = makefiles(__name__, {
 
 
 COMMANDS["macros_that_set_others_in_a_script"] = ["sh", "build.sh"]
-
-
-class Searches(unittest.TestCase):
-    """What the data base says of searches."""
-
-    def test_names_that_are_kept(self) -> None:
-        rules = ("%.o: %.c flag", "%.c: %.y", "lib%.a: %.o", "%_test: %_test.o", "%_test.c: %.t", "obj/%.o: src/%.c", "%: %.o", "%:: RCS/%", "(%): %")
-        base = read_base(["# Implicit Rules", "", *rules, "", "# Files"])
-        kept = searches.Searches(base)
-        for name in ("x.o", "d/x.o", "y.o", "obj/x.o", "libx.a", "x_test", "y_test.o", "x", "d/x.tab.c", ".x", "l.a(x.o)", "a.b.c.o"):
-            for depth in (1, searches.DEPTH):
-                self.assertEqual(searches.names_asked(base, name, depth), kept.names(name, depth), name)
-
-    def test_rules_that_end_a_chain(self) -> None:
-        base = read_base(["# Implicit Rules", "", "%:: RCS/%", "", "%.o: %.c", "", "# Files"])
-        self.assertEqual(([(["%"], ["RCS/%"]), (["%.o"], ["%.c"])], {0}), (base.patterns, base.terminal))
