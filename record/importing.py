@@ -26,7 +26,6 @@ from record.make.build import MakeBuilder as Builder
 from record.make.owners import Make, Owners, beginning
 from record.make.spellings import twice
 from record.make.words import makefiles, read_logs
-from record.missing.inputs import write_missing
 from record.ninja.builds import versions as ninja_versions
 from record.ninja.builds import beside, find_ninjas, import_ninjas
 from record.ninja.runs import Ninja
@@ -241,5 +240,6 @@ def complete(record: Record, facts: Facts, out: Path, options: argparse.Namespac
         if build.tool == "make":
             write_footprints(out / "builds" / number, build, facts.names, str(out))
     if options.missing:
+        from record.missing.inputs import write_missing  # it builds in copies, and nothing else of an import does
         record.missing = write_missing(out, record, found.builds, found.makes, facts.names, found.lives)
     return found

@@ -23,7 +23,7 @@ class OldTree:
 
     def __init__(self, build: MakeBuild, names: Names, later: Later, knows: Knows, premises: Assumptions, out: str) -> None:
         self.build, self.names, self.later, self.knows, self.premises = build, names, later, knows, premises
-        self.first = build.graph.base
+        self.first, self.again = build.graph.base, later.busy.get(call_of(build.make.words))
         self.phony = self.first.phony | self.knows.base.phony
         self.foot = Footprints(build, names, out)
         self.tasks = [Task(t.label, t.node, t.kind, set(t.after), r, w) for t, r, w in zip(build.tasks, self.foot.reads, self.foot.writes)]
@@ -96,17 +96,20 @@ class OldTree:
         is newer, and does nothing, asks which are (`$?`)."""
         task, later, never = self.build.tasks[at], self.later, self.stand_in(NEVER, "/")[: -len("root")]
         is_forced = any(one in later.remade or one.startswith(never) for one in self.needs[at])
-        is_done = path in (later.remade if is_forced else later.renewed) or not os.path.lexists(path)
-        if is_forced and not is_done and task.node.name not in self.knows.ran:  # guard: what-is-newer
+        is_done = path in (later.remade if is_forced else later.renewed) or not os.path.lexists(path) or not (is_forced or self.runs(self.again, task.node))
+        if is_forced and not is_done and not self.runs(self.knows, task.node):  # guard: what-is-newer
             self.needs[at] = [one for one in self.needs[at] if not one.startswith(never)]
         if not is_done or any(work.makes or work.ninjas for work in task.works):  # guard: targets-that-are-left-alone
             self.kept.add(at)
 
+    def runs(self, knows: Optional[Knows], node: Node) -> bool:
+        """Whether a recipe ran in a later build, as far as its make was called there."""
+        return knows is None or not knows.ran.isdisjoint({node.name, *self.first.also.get(node.name, ())})
+
     def find_silent(self) -> List[str]:
         """Recipes that make does not run again though a source which they need has a new time."""
-        knows = self.later.busy.get(call_of(self.build.make.words))
-        touched = [self.tasks[at].node for at, needs in self.needs.items() if not self.later.sources.isdisjoint(needs)] if knows is not None else []
-        return [node.name for node in touched if node.jobs and knows is not None and knows.ran.isdisjoint({node.name, *self.first.also.get(node.name, ())})]
+        touched = [self.tasks[at].node for at, needs in self.needs.items() if not self.later.sources.isdisjoint(needs)]
+        return [node.name for node in touched if node.jobs and not self.runs(self.again, node)]
 
     def paths_needed(self, node: Node) -> Optional[List[str]]:
         """The files that make a target run, those of all targets of its recipe. None where a name is none of the data base: blanks in names cut them."""
@@ -211,13 +214,12 @@ class OldTree:
     # ---------------------------------------------------------------- what comes out
     def count(self) -> None:
         """What is taken for granted of all that was looked at."""
-        foot = self.foot
-        for kind, names in (("beyond", foot.outside), ("looks", foot.looks), ("unlisted", foot.absent)):
+        for kind, names in (("beyond", self.foot.outside), ("looks", self.foot.looks), ("unlisted", self.foot.absent)):
             if names:
                 example = min(names, key=lambda path: (os.path.isdir(path) and not os.path.islink(path), not os.path.lexists(path), path))
                 self.premises.add(kind, relative(self.build.folder, example), len(names))
         goals = {*self.makes.values(), *(one for needs in self.needs.values() for one in needs)}
-        for path in sorted(foot.set_back):
+        for path in sorted(self.foot.set_back):
             if not goals.isdisjoint({path, self.stand_in(KEPT, relative(self.build.folder, path))}):  # guard: times-of-goals
                 self.premises.add("times", relative(self.build.folder, path))
 

@@ -86,10 +86,9 @@ class Question:
         """Why there is no answer: a recipe that was not seen, or a graph that is not known, may have missing inputs."""
         own = list(self.record["missing"]["holes"])
         own += ["build %s: %s" % (one.number, explained(one.answer.refused)) for one in self.judged if one.answer.refused]
-        is_broken = bool(self.record["holes"])
         warm = self.record["warm"]["count"] and not any(one["kind"] == "up-to-date" for one in self.record["assumptions"])
         own += [] if any(True for _ in self.all()) else self.record["missing"]["otherwise"]  # guard: what-later-builds-leave
-        own += ["the record has holes"] if is_broken else ["what was up to date did not run (WARM)"] if warm else []
+        own += ["the record has holes"] if self.record["holes"] else ["what was up to date did not run (WARM)"] if warm else []
         return own
 
     def all(self) -> Iterator[Tuple[Judged, Found]]:

@@ -96,7 +96,7 @@ PREMISES: Dict[str, Tuple[str, str, Case]] = {
                                             files=(("one.mk", "g: list\n\tcat list > g\n"), ("two.mk", "a: g\n\tcp g a\ng: list h.h\n\tcat list h.h > g\n")))),
     "in place": ("own", "list", Case("a: h.h\n\tsort -o list list\n\tcat h.h list > a\n", "")),
     "a name with a blank": ("unjudged", "a", Case("all: a\na: my\\ file\n\tcat h.h 'my file' > a\nmy\\ file:\n\techo x > 'my file'\n", "")),
-    "a time that passes": ("unstable", "a", Case("a: list\n\tdate +%s > a\n\tcat list >> a\n", "")),
+    "a time that passes": ("unstable", "a", Case("a: list\n\tdate +%N > a\n\tcat list >> a\n", "")),
     "a time": ("times", "a", Case("a: list\n\tcp list a\n\ttouch -d 2001-01-01 a\n", "")),
     "a link": ("looks", "cur", Case("all: a\no.h: h.h\n\tcp h.h o.h\ncur: list o.h\n\tln -sfn o.h cur\na: cur o.h\n\tcat cur > a\n", "")),
     "a size": ("looks", "h.h", Case("all: a b\na: list\n\tstat -c %s h.h > a\nb: h.h\n\tcp h.h b\n", "")),

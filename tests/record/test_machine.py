@@ -20,8 +20,8 @@ ASKS = {"os.path.%s" % name for name in ("isfile", "isdir", "islink", "exists", 
     "os.%s" % name for name in ("stat", "lstat", "readlink", "listdir", "scandir", "walk", "environ", "getenv", "geteuid", "getcwd", "umask")} | {
     "open", "tokenize.open", "glob.glob", "subprocess.run", "time.time"}
 OF_PATHS = {"read_text", "read_bytes", "is_file", "is_dir", "is_symlink", "exists", "iterdir", "rglob", "resolve", "samefile"}  # methods of paths that ask too
-# Modules that run builds, read what was kept of one, or write a record or judge it; and, where builds are asked once more, those of --missing.
-OTHERS = ("machine.py", "first_tree.py", "fresh.py", "facts.py", "folder.py", "entry.py", "pages.py", "judge.py", "importing.py", "import_again.py", "footprints.py", "missing", "make/words.py", "missing/called.py",
+# Modules that run builds, read what was kept of one, or write a record or judge it.
+OTHERS = ("machine.py", "first_tree.py", "fresh.py", "facts.py", "folder.py", "entry.py", "pages.py", "judge.py", "importing.py", "import_again.py", "footprints.py", "make/words.py",
           "trace/sifting.py", "watch/files.py")
 
 
