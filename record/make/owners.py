@@ -7,7 +7,6 @@ from dataclasses import dataclass, field
 from functools import cached_property
 from typing import Container, Dict, Iterable, Iterator, List, Optional, Sequence, Set, Tuple
 
-from record import machine
 from record.build.parts import divide
 from record.build.work import Part, Tool, Work, written_by
 from record.commands.system import OF_SYSTEM
@@ -15,7 +14,7 @@ from record.commands.texts import text_of
 from record.make.asked import asked_in
 from record.make.one_job import has_one_job
 from record.make.words import Job, Words, makefiles
-from record.trace.events import ABSENT, ENTERED, INSIDE, LISTED, READ
+from record.trace.events import ENTERED, INSIDE, LISTED, READ
 from record.trace.lives import Life
 
 SHELL = re.compile(r"\$[({]shell\s|!=")  # what calls a program while make reads or expands a text
@@ -74,16 +73,6 @@ def beginning(make: Make, number: int) -> int:
     """When the first recipe of a round of a make begins."""
     works = [make.work[id(job)] for job in make.words.rounds[number].jobs if id(job) in make.work]
     return min((life.born for work in works for life in work.lives), default=make.life.born)
-
-
-def called_by(make: Make) -> Iterator[Life]:
-    """The processes that make itself calls, as with `$(shell ..)`, and all below them."""
-    own = {id(life) for work in make.work.values() for life in work.lives}
-    todo = [life for life in make.life.children if id(life) not in own]
-    while todo:
-        life = todo.pop()
-        yield life
-        todo.extend(life.children)
 
 
 def makes_of(work: Work) -> List[Make]:

@@ -68,6 +68,8 @@ HOLES: Dict[str, Case] = {
                                                   "a later build leaves a otherwise"),
     "a new folder that is searched": Case("all: a b\na: list\n\tfind . -name '*.def' > a; cat list >> a\nb: a h.h\n\tmkdir -p d\n\tcp h.h d/o.def\n\tcp h.h b\n",
                                           "a later build leaves a otherwise"),
+    "a name in a recipe": Case("all: a b\na: X = $(wildcard o.h)\na: list\n\tcat list $(X) > a\nb: a h.h\n\tcp h.h o.h\n\tcp h.h b\n", "a later build leaves a otherwise"),
+    "a process in a recipe": Case("all: a b\na: list\n\techo $(shell cat list o.h 2>/dev/null) > a\nb: a h.h\n\tcp h.h o.h\n\tcp h.h b\n", "a later build leaves a otherwise"),
     "a log": Case("a: list\n\tcp list a\n\techo more >> log\n", "a later build leaves log otherwise"),
     "a build that fails": Case("a: list\n\ttest ! -f a\n\tcp list a\n", "a later build fails, where all sources have a new time"),
     "a recipe that runs later alone": Case(".PHONY: all\nall: a $(if $(wildcard a),b)\na: list\n\tcp list a\nb:\n\techo b\n", "the recipe of b runs too"),
@@ -88,6 +90,8 @@ HOLES: Dict[str, Case] = {
 }
 PREMISES: Dict[str, Tuple[str, str, Case]] = {
     "a file that make reads": ("called", "list", Case("V := $(file <list)\na: h.h\n\techo $(V) > a\n", "")),
+    "a macro of the shell": ("called", "h.h", Case("all: a\na: list\n\techo $(shell cat h.h) > a\n", "")),
+    "a macro of the shell in two places": ("called", "h.h", Case("V = $(shell cat h.h)\nN := $(V)\n-include none.mk\nall: a\na: list\n\techo $(V) > a\n", "")),
     "a makefile of dependencies alone": ("called", "m.mk", Case("all: a\ninclude m.mk\nm.mk: list\n\techo 'a: h.h' > m.mk\na:\n\tcat $^ > a\n", "")),
     "a caller": ("called", "list", Case(".PHONY: all\nall:\n\t$(MAKE) -C in V=`cat list`\n", "")),
     "a script": ("called", "list", Case("a: h.h\n\techo $(V) > a\n", "", ("sh", "-c", "make a V=`cat list`"))),

@@ -64,9 +64,6 @@ PROJECTS: Dict[str, Tuple[str, Pairs]] = {
     "blanks": ("all: a\na: my\\ file\n\tcat h.h 'my file' > a\nmy\\ file:\n\techo x > 'my file'\n", set()),
     "modules of Python": ("all: a b\na: list\n\tpython3 gen.py list > a\nb: list gen.py mod.py | a\n\tpython3 gen.py list > b\n", {("a", "gen.py"), ("a", "mod.py")}),
     "a phony target that is a file": ("all: a\n.PHONY: list\na: list\n\tcat list h.h > a\n", set()),
-    "a macro of the shell": ("all: a\na: list\n\techo $(shell cat h.h) > a\n", {("a", "h.h")}),
-    "a macro of the shell in two places": (
-        "V = $(shell cat h.h)\nN := $(V)\n-include none.mk\nall: a\na: list\n\techo $(V) > a\n", {("a", "h.h")}),
     "a make inside that always runs": ("all: b\nin/x: FORCE\n\t$(MAKE) -C in\nFORCE:\nb: in/x\n\tcat in/x h.h > b\n", {("b", "h.h")}),
     "a make inside that waits for another file": (
         "all: b\nin/x: list\n\t$(MAKE) -C in\nb: in/x\n\tcat in/x list > b\n", {("in/x", "in/Makefile"), ("in/x", "in/y"), ("b", "list")}),
@@ -87,10 +84,6 @@ PROJECTS: Dict[str, Tuple[str, Pairs]] = {
         "all: a b\na: list\n\tcat list o.h > a 2>/dev/null || true\nb: a h.h\n\tcp h.h o.h\n\tcp h.h b\n", {("a", "o.h")}),
     "a file that a later recipe removes": (
         "all: s a z\ns: list\n\ttouch flag; cp list s\na: s list\n\tif test -f flag; then cp list a; else echo > a; fi\nz: a h.h\n\trm flag; cp h.h z\n", {("a", "flag")}),
-    "a name that a recipe is expanded by": (
-        "all: a b\na: X = $(wildcard o.h)\na: list\n\tcat list $(X) > a\nb: a h.h\n\tcp h.h o.h\n\tcp h.h b\n", {("a", "o.h")}),
-    "a process that a recipe is expanded by": (
-        "all: a b\na: list\n\techo $(shell cat list o.h 2>/dev/null) > a\nb: a h.h\n\tcp h.h o.h\n\tcp h.h b\n", {("a", "o.h")}),
     "a recipe of functions that call a process": (
         "all: a\nv.h: FORCE\n\t$(if $(filter 1,$(shell cat v.h 2>/dev/null)),,echo 1 > v.h)\nFORCE:\na: v.h list\n\tcat v.h list h.h > a\n", {("a", "h.h")}),
     "a recipe of functions that look for a file": (
