@@ -132,18 +132,6 @@ def found(folder: str, pattern: str) -> List[str]:
 
 
 @asked
-def variable(name: str) -> Optional[str]:
-    """A variable of the environment."""
-    return os.environ.get(name)
-
-
-@asked
-def variables() -> List[str]:
-    """The names of those that are there."""
-    return sorted(os.environ)
-
-
-@asked
 def mtime(path: str) -> float:
     """When a file was written last."""
     return os.path.getmtime(path)

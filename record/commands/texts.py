@@ -7,7 +7,6 @@ import os
 from record import machine
 
 OF_PROCESS = ("/dev/fd/", "/dev/std", "/proc/")  # how names begin that lead each process elsewhere
-BINARY = "\x7fELF"  # how programs and libraries begin
 
 
 def is_plain(path: str) -> bool:
@@ -20,8 +19,3 @@ def text_of(path: str, limit: int = -1) -> str:
     if not is_plain(path):
         raise OSError(errno.EINVAL, "is no plain file", path)
     return machine.opened(path, "replace", size=max(-1, 4 * limit)).read(limit)  # a sign has four bytes at most
-
-
-def script_text(path: str, limit: int = -1) -> str:
-    """The same of a script or a makefile; nothing of a program or a library: each shell and each make opens those that it needs."""
-    return "" if text_of(path, len(BINARY)) == BINARY else text_of(path, limit)

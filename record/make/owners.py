@@ -4,8 +4,7 @@ tried out in other orders."""
 import os
 import re
 from dataclasses import dataclass, field
-from functools import cached_property
-from typing import Container, Dict, Iterable, Iterator, List, Optional, Sequence, Set, Tuple
+from typing import Container, Dict, Iterable, Iterator, List, Optional, Sequence, Set
 
 from record.build.parts import divide
 from record.build.work import Part, Tool, Work, written_by
@@ -31,24 +30,8 @@ class Make(Tool):
     by_links: bool = False  # it went by links: folders have other paths than its makefiles say
     is_called: bool = False  # a make above calls it by `$(shell ..)`: it has the environment with which that was started
     lists: Set[str] = field(default_factory=set)  # folders that it listed by itself
-    stale: Set[str] = field(default_factory=set)  # makefiles that say something else by now
     callers: Sequence[str] = ()  # the lines of the recipe that called it, as they stand in the makefile
     left: List[Part] = field(default_factory=list)  # processes that its own calls leave running, as `$(shell a &)`
-
-    @cached_property
-    def reads(self) -> Dict[str, List[int]]:
-        """By path: when it read that by itself."""
-        found: Dict[str, List[int]] = {}
-        for act in self.life.acts:
-            if act.kind == READ:
-                found.setdefault(act.path, []).append(act.place)
-        return found
-
-    def is_stale(self, name: str, written: Dict[str, Tuple[int, int]]) -> bool:
-        """Whether the build has written a makefile before it read that, and after it. `written`: when each file was first and last written."""
-        path = os.path.normpath(os.path.join(self.folder, name))
-        first, last = written.get(path, (0, 0))
-        return any(first < place < last for place in self.reads.get(path, ()))
 
     def known_text(self, name: str) -> Optional[str]:
         """What a makefile said when make read it; None where it is gone."""
@@ -131,7 +114,6 @@ class Owners:
     def add_make(self, life: Life, words: Words) -> None:
         """One more make, with what it said; that it did not end, or failed, is a hole."""
         make = Make(words, life, self.folder_of(life, words))
-        make.stale = {name for name in makefiles(words) if not words.copies_of(name) and make.is_stale(name, self.written)}
         make.by_links = any(act.kind == READ and act.path in self.links and not OF_SYSTEM.match(act.path) for act in life.acts)
         self.makes.append(make)
         self.of_life[id(life)] = make

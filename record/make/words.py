@@ -35,7 +35,6 @@ class Job:
     target: str
     number: int
     pids: List[int] = field(default_factory=list)
-    is_ended: bool = False  # make has said so; it does not where the last line names a program that is not there, and may fail
 
 
 @dataclass
@@ -171,7 +170,6 @@ class _Reader:
                 owner.pids.append(pid)
                 self.words.jobs.setdefault(pid, []).append(owner)
                 self.words.processes.append((pid, owner))
-            owner.is_ended = what == "Removing child"
 
     def considered(self, depth: int, name: str) -> None:
         """Make considers a target: it is a prerequisite of the last one that is less deep, or a goal."""

@@ -222,10 +222,6 @@ class Names:
         if child.kind == "l":
             self.links.add(join(folder.path(), name))  # guard: links-for-while
 
-    def is_link(self, path: str) -> bool:
-        """Whether a name is a link, or was one at some time."""
-        return path in self.links or machine.islink(path)
-
     def take(self, folder: Inode, name: str) -> Optional[Inode]:
         """Takes a name away."""
         child = folder.entries.pop(name, None)

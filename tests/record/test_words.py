@@ -126,7 +126,6 @@ class Several(unittest.TestCase):
                  "Removing child 0x5 PID 8 from chain."]
         words = read_words(7, 0, lines)
         self.assertEqual([["a"], []], [[job.target for job in one.jobs] for one in words.rounds])
-        self.assertTrue(words.rounds[0].jobs[0].is_ended)
 
     def test_letters_of_the_environment(self) -> None:
         for flags, wanted in (("j", True), ("kj", True), ("kj4", True), ("k", False), ("w -- J=j", False), ("J=kj", False), ("Ij", False)):
