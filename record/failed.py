@@ -1,13 +1,13 @@
-"""Which recipe failed first where a build fails, in one way for make and ninja: the innermost one, for those around it only say so again.
+"""What is said of a build that failed: which recipe failed first, in one way for make and ninja, the innermost one, for those around it only say so again.
 
 And, where make builds, what that recipe lacked: a file that another recipe makes, which had not run yet.
 """
 
 import os
-from dataclasses import dataclass
-from typing import Dict, Iterator, List, Optional, Sequence, Set, Tuple
+from typing import Dict, List, Optional, Sequence, Set, Tuple
 
 from record.build.work import Work
+from record.folder import Record
 from record.make.database import Base
 from record.make.owners import Make
 from record.make.words import Job, Round
@@ -19,20 +19,13 @@ from record.trace.names import Names
 
 HINTS = 5
 WIDTH = 100  # signs of the words of a make
+Rule = Tuple[Make, str, str]  # a make, a target of its, and the place of the rule
 
 
-@dataclass
-class Failure:
-    """A make or ninja that failed: its words, what failed in it, and where that stands; nothing where nobody knows."""
-
-    words: str
-    what: str
-    place: str
-    ended: int  # the place in the trace
-
-    def __str__(self) -> str:
-        words = self.words if len(self.words) <= WIDTH else self.words[:WIDTH] + ".."  # guard: long-words-of-make
-        return "%s (%s)" % (self.what, ", ".join(filter(None, (self.place, words)))) if self.what else "%s failed first" % words
+def said(words: str, what: str, place: str = "") -> str:
+    """What failed in a make or a ninja, by its words; nothing where nobody knows what."""
+    words = words if len(words) <= WIDTH else words[:WIDTH] + ".."  # guard: long-words-of-make
+    return "%s (%s)" % (what, ", ".join(filter(None, (place, words)))) if what else "%s failed first" % words
 
 
 def failed_job(make: Make) -> Optional[Tuple[Round, Job]]:
@@ -40,15 +33,12 @@ def failed_job(make: Make) -> Optional[Tuple[Round, Job]]:
     return next(((one, job) for one in make.words.rounds for job in one.jobs if one.base and job.target in one.base.failed), None)  # guard: which-recipe
 
 
-def of_makes(makes: Sequence[Make], failed: Set[int], folder: str) -> Iterator[Failure]:
-    """Of each make that failed by itself: the first recipe that did."""
-    for make in (one for one in makes if id(one) in failed):
-        words, found = ("make " + make.words.args).strip(), failed_job(make)
-        if found is None:
-            yield Failure(words, no_rule(make), "", make.life.died)
-        else:
-            file, line = (found[0].base or Base()).places.get(found[1].target, [("", 0)])[0]
-            yield Failure(words, "the recipe of %s failed first" % found[1].target, place(make.folder, file, line, folder), make.life.died)
+def of_make(make: Make, folder: str) -> str:
+    """What failed in a make: the first recipe that did, or what it could not go on without."""
+    words, found = ("make " + make.words.args).strip(), failed_job(make)
+    if found is None:
+        return said(words, no_rule(make))
+    return said(words, "the recipe of %s failed first" % found[1].target, place_of(make, found[0].base or Base(), found[1].target, folder))
 
 
 def no_rule(make: Make) -> str:
@@ -61,12 +51,10 @@ def no_rule(make: Make) -> str:
     return ""
 
 
-def of_ninjas(ninjas: Sequence[Ninja], folder: str) -> Iterator[Failure]:
-    """Of each ninja the first command that failed. What failed inside that ended before it."""
-    for ninja in ninjas:
-        for job, edge in lost_jobs(ninja)[:1]:
-            words = " ".join([os.path.basename(ninja.life.argv[0]), *ninja.life.argv[1:]])
-            yield Failure(words, "the command of %s failed first" % edge.label, place(ninja.folder, edge.file, edge.line, folder), job.life.died)
+def of_ninja(ninja: Ninja, edge: Edge, folder: str) -> str:
+    """A command that failed in a ninja. What failed inside that ended before it."""
+    words = " ".join([os.path.basename(ninja.life.argv[0]), *ninja.life.argv[1:]])
+    return said(words, "the command of %s failed first" % edge.label, place(ninja.folder, edge.file, edge.line, folder))
 
 
 def lost_jobs(ninja: Ninja) -> List[Tuple[NinjaJob, Edge]]:
@@ -77,24 +65,19 @@ def lost_jobs(ninja: Ninja) -> List[Tuple[NinjaJob, Edge]]:
     return sorted((one for one in jobs if not set(one[1].makes()) & set(ninja.logged)), key=lambda one: one[0].life.died)  # guard: what-log-of-ninja-lacks
 
 
-def inner(work: Work) -> Set[int]:
-    """The makes and ninjas inside a recipe, by their ids."""
-    return {id(one) for one in (*work.makes, *work.ninjas)}
-
-
 def tried(makes: Sequence[Make]) -> List[Make]:
     """The makes that failed for CMake, which only tried what a compiler does, and goes on then."""
     return [make for make in makes if make.words.has_failed and TRIED.search(make.folder)]
 
 
-def ignored(makes: Sequence[Make]) -> Set[int]:
-    """What ran inside of other recipes than the one by which a make failed, and what CMake only tries: whether it failed did not matter."""
-    found = {id(make) for make in tried(makes)}  # guard: what-cmake-tries
+def failed(makes: Sequence[Make]) -> List[Make]:
+    """The makes that failed by themselves: not what CMake only tries, nor what ran inside of other recipes than the one by which a make failed."""
+    ignored = {id(make) for make in tried(makes)}  # guard: what-cmake-tries
     for make in makes:
         failing = failed_job(make) if make.words.has_failed else None
         if failing is not None:
-            found.update(*(inner(work) for job, work in make.work.items() if job != id(failing[1])))
-    return found
+            ignored.update(id(one) for job, work in make.work.items() if job != id(failing[1]) for one in work.makes)
+    return [make for make in makes if make.words.has_failed and id(make) not in ignored]  # guard: not-what-was-ignored
 
 
 def place(own: str, file: str, line: int, folder: str) -> str:
@@ -103,48 +86,46 @@ def place(own: str, file: str, line: int, folder: str) -> str:
     return "%s:%d" % (os.path.relpath(path, folder) if path.startswith(folder.rstrip("/") + "/") else path, line) if file and line else ""
 
 
-def unmade(makes: Sequence[Make], names: Names, folder: str) -> Dict[str, str]:
-    """The files that have a rule with a recipe which no make ran, by their paths, with the place of the rule."""
-    found: Dict[str, str] = {}
+def place_of(make: Make, base: Base, target: str, folder: str) -> str:
+    """The same of the recipe of a target."""
+    return place(make.folder, *base.places.get(target, [("", 0)])[0], folder)
+
+
+def unmade(makes: Sequence[Make], names: Names, folder: str) -> Dict[str, List[Rule]]:
+    """The files that have a rule with a recipe which no make ran, by their paths, with those rules."""
+    found: Dict[str, List[Rule]] = {}
     ran = {names.find(make.folder, job.target, True).path for make in makes for one in make.words.rounds for job in one.jobs}
-    for make in makes:
-        for base in (one.base for one in make.words.rounds if one.base):
-            for target in base.recipes.keys() - base.phony:
-                file, line = base.places.get(target, [("", 0)])[0]
-                found[names.find(make.folder, target, True).path] = place(make.folder, file, line, folder) or "another rule"
-    return {path: where for path, where in found.items() if path not in ran}  # guard: it-lacks-no-file-whose-recipe-ran
+    for make, base in ((make, one.base) for make in makes for one in make.words.rounds if one.base):
+        for target in (one for one in base.recipes if one not in base.phony):
+            path = names.find(make.folder, target, True).path
+            found.setdefault(path, []).append((make, target, place_of(make, base, target, folder) or "another rule"))
+    return {path: rules for path, rules in found.items() if path not in ran}  # guard: it-lacks-no-file-whose-recipe-ran
 
 
 def lacked(makes: Sequence[Make], names: Names, folder: str) -> List[str]:
     """What the recipe that failed first looked for and did not find, where another rule makes it: had it waited for that, the file
     would have been there. The recipes around it look for what makes inside of them look for; there this file alone counts."""
-    failed = {id(make) for make in makes if make.words.has_failed} - ignored(makes)
-    jobs = [(make, found[1]) for make in makes if id(make) in failed for found in [failed_job(make)] if found is not None]
-    missed = [(make, job, {path for kind, path in make.work.get(id(job), Work()).events if kind == "N"}) for make, job in jobs]  # guard: it-lacks-no-file
-    own = [(make.life.died, paths) for make, job, paths in missed if not failed.intersection(inner(make.work.get(id(job), Work())))]
-    first = min(own, key=lambda one: one[0])[1] if own else set()
+    own = failed(makes)
+    jobs = [(make, found[1].target, make.work.get(id(found[1]), Work())) for make in sorted(own, key=lambda one: one.life.died) for found in [failed_job(make)] if found is not None]
+    missed = [(make, target, work, {path for kind, path in work.events if kind == "N"}) for make, target, work in jobs]  # guard: it-lacks-no-file
+    first: Set[str] = next((paths for _, _, work, paths in missed if not any(one in work.makes for one in own)), set())
     made = unmade(makes, names, folder) if first else {}
     lines: Dict[str, None] = {}
     settled: Set[str] = set()  # for these a line is known, so the recipes around do not matter
-    for make, job, paths in sorted(missed, key=lambda one: one[0].life.died):
+    for make, target, _, paths in missed:
         for path in sorted(paths & first & made.keys() - settled):  # guard: what-makes-inside-of-recipe-look
-            name = name_in_rules(make, names, path)
+            name = next((rule for one, rule, _ in made[path] if one is make), "")  # by which this make has the recipe; else no line of its makefile can name it
             settled.update({path} if name else ())  # guard: rule-of-innermost-make
-            lines["%s looks for %s, which %s makes, and does not wait for it" % (job.target, os.path.relpath(path, make.folder), made[path])
-                  + (". Write the rule %s: %s" % (job.target, name) if name else "")] = None
+            lines["%s looks for %s, which %s makes, and does not wait for it" % (target, os.path.relpath(path, make.folder), made[path][-1][2])
+                  + (". Write the rule %s: %s" % (target, name) if name else "")] = None
     return list(lines)[:HINTS]
 
 
-def name_in_rules(make: Make, names: Names, path: str) -> str:
-    """The target by which a make itself has a recipe for a path, or nothing: then no line of its makefile can name it."""
-    targets = (target for one in make.words.rounds if one.base for target in one.base.recipes)
-    return next((target for target in targets if names.find(make.folder, target, True).path == path), "")
-
-
-def failures(makes: Sequence[Make], ninjas: Sequence[Ninja], folder: str) -> List[Failure]:
+def failures(makes: Sequence[Make], ninjas: Sequence[Ninja], folder: str) -> List[str]:
     """All that failed by itself, the first one first."""
-    failed = ({id(make) for make in makes if make.words.has_failed} | {id(ninja) for ninja in ninjas if lost_jobs(ninja)}) - ignored(makes)  # guard: not-what-was-ignored
-    return sorted([*of_makes(makes, failed, folder), *of_ninjas(ninjas, folder)], key=lambda one: one.ended)  # guard: first-one-first
+    lost = [(ninja, *one) for ninja in ninjas for one in lost_jobs(ninja)[:1]]
+    found = [*((make.life.died, of_make(make, folder)) for make in failed(makes)), *((job.life.died, of_ninja(ninja, edge, folder)) for ninja, job, edge in lost)]
+    return [text for _, text in sorted(found, key=lambda one: one[0])]  # guard: first-one-first
 
 
 def passed_over(make: Make) -> str:
@@ -162,15 +143,21 @@ def answers(makes: Sequence[Make], folder: str) -> List[str]:
     """What is not known where makes failed and the build did not: that a make fails may be what it is asked for (`if $(MAKE) compare; then ..`), and then
     it matters what else it might have run."""
     found = [(make, passed_over(make)) for make in makes if make.words.has_failed and make not in tried(makes)]
-    return ["a make failed, and had not come to %s: %s" % (name, one) for make, name in found if name for one in of_makes([make], {id(make)}, folder)]  # guard: what-make-had-not-come
+    return ["a make failed, and had not come to %s: %s" % (name, of_make(make, folder)) for make, name in found if name]  # guard: what-make-had-not-come
 
 
-def no_build(lives: Sequence[Life], status: int, setup: str) -> List[str]:
-    """What to say where what comes before the build failed: the shell that runs it becomes the build where it succeeds."""
-    return ["%s ended with status %d, before the build" % (setup, status)] if setup and len(lives[0].ran) < 2 else []  # guard: before-the-build
-
-
-def explained(holes: List[str], makes: Sequence[Make], ninjas: Sequence[Ninja], folder: str) -> List[str]:
-    """The holes of a build that failed, of which the first says so, with what failed first."""
-    found = failures(makes, ninjas, folder)
-    return ["%s; %s" % (holes[0], found[0]), *holes[1:]] if found else holes
+def note_failure(record: Record, lives: Sequence[Life], makes: Sequence[Make], ninjas: Sequence[Ninja], names: Names) -> None:
+    """Says in a record why its build failed, and what to try; of one that did not, what is not known since a make failed. The first hole of a build that
+    failed says that it did. The shell that runs what comes before the build becomes the build where that succeeds."""
+    setup, first = record.first.setup if record.first else "", int(record.status != 0)
+    if setup and len(lives[0].ran) < 2:  # guard: before-the-build
+        record.holes[:first] = ["%s ended with status %d, before the build" % (setup, record.status)]
+        record.hints = ["the build did not begin: repair what stands behind --setup first"]
+        return
+    if record.status == 0:
+        record.holes += answers(makes, record.folder)  # guard: make-that-failed
+    else:
+        record.holes[0] = "; ".join([record.holes[0], *failures(makes, ninjas, record.folder)[:1]])
+        record.hints = lacked(makes, names, record.folder)  # guard: what-recipe-lacked
+    if not makes and not ninjas:
+        record.holes.append("no make and no ninja ran")  # guard: no-make-at-all

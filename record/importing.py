@@ -18,7 +18,7 @@ from record.cleaned import Cleaned
 from record.clock import named_by_time
 from record.configured import STATUS, find_configured, last_changes
 from record.facts import Facts
-from record.failed import answers, explained, lacked, no_build
+from record.failed import note_failure
 from record.first_tree import Release, left_behind
 from record.folder import Record, write_record
 from record.footprints import write_footprints
@@ -155,16 +155,7 @@ def import_record(facts: Facts, record: Record) -> Imported:
     add_granted_by_ninjas(ninjas, ties, owners, assumed)
     of_ninja, more = import_ninjas(ninjas, replay.all, names, assumed, Past(names.before, replay.changes))
     record.holes += holes + more
-    ahead = no_build(replay.all, record.status, record.first.setup if record.first else "")
-    if ahead:
-        record.holes, record.hints = [*ahead, *record.holes[int(record.status != 0):]], ["the build did not begin: repair what stands behind --setup first"]
-    elif record.status != 0:
-        record.holes = explained(record.holes, owners.makes, ninjas, folder)
-        record.hints = lacked(owners.makes, names, folder)  # guard: what-recipe-lacked
-    else:
-        record.holes += answers(owners.makes, folder)  # guard: make-that-failed
-    if not owners.makes and not ninjas and not ahead:
-        record.holes.append("no make and no ninja ran")  # guard: no-make-at-all
+    note_failure(record, replay.all, owners.makes, ninjas, names)
     for name in unasked(owners.makes, ninjas):
         assumed.add("unasked", name)  # guard: recipes-that-nothing-asked
     add_seen(replay, assumed)

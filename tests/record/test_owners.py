@@ -63,7 +63,7 @@ class Holes(unittest.TestCase):
 
     def test_make_that_failed(self) -> None:
         makes = Owners(make_of(), [words_of(status="EXIT 2")]).makes
-        self.assertEqual(["make all failed first"], [str(one) for one in failures(makes, [], "/w")])
+        self.assertEqual(["make all failed first"], failures(makes, [], "/w"))
 
     def test_recipe_without_a_process(self) -> None:
         self.assertIn("a recipe that ran has no process: b", self.holes(make_of((8, 5)), [words_of(self.JOB, self.AGAIN)]))
