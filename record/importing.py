@@ -29,7 +29,7 @@ from record.make.words import makefiles, read_logs
 from record.ninja.builds import versions as ninja_versions
 from record.ninja.builds import beside, find_ninjas, import_ninjas
 from record.ninja.runs import Ninja
-from record.premises import add_granted, add_granted_by_ninjas, idle_targets
+from record.premises import add_granted, add_granted_by_ninjas, add_seen
 from record.progress import watched
 from record.tools.caches import settle_caches
 from record.tools.exists import credit_makes, settle_exists
@@ -80,12 +80,11 @@ class Imported:
     """What a trace and the words of makes come to."""
 
     builds: List[Build]
-    makes: List[Make]
     assumed: Assumptions
     lives: List[Life]
+    makes: List[Make]
     ninjas: List[Ninja]
     cleaned: Cleaned
-    idle: List[str]  # targets of makes that had nothing to do
     configured: Set[str]  # what configuring made
     texts: Dict[str, str]  # what makefiles said when make read them
 
@@ -117,18 +116,6 @@ def note_holes(said: Path, replay: Calls, owners: Owners, names: Names, record: 
     record.holes += ["--fresh copied %s, which has a name outside of the folder too, and the build writes it" % path for path in replay.hard_links if path in names.shared]  # guard: name-outside
     record.holes += ["nobody knows who started a process: " + one for one in replay.strays()]
     record.holes += ["a make ran past the recorder: " + words for words in replay.past]
-
-
-def add_seen(replay: Calls, assumed: Assumptions) -> None:
-    """What is taken for granted of what the trace shows, whoever did it."""
-    for kind, found in (("sockets", replay.sockets), ("processes", replay.watchers), ("locks", replay.locks),  # guard: sockets
-                        ("hard-links", replay.hard_links)):  # guard: hard-links
-        for example in found:
-            assumed.add(kind, example)
-    for name in replay.outside:
-        assumed.add("outside", name)
-    for path in sorted(set(replay.progress)):
-        assumed.add("progress", path)  # guard: what-cmake-counts
 
 
 def builds_of_makes(owners: Owners, past: Past, names: Names, assumed: Assumptions, record: Record) -> List[Build]:
@@ -173,19 +160,19 @@ def import_record(facts: Facts, record: Record) -> Imported:
         record.holes.append(IDLE)  # guard: nothing
     tools = [*(make.life for make in owners.makes), *(ninja.life for ninja in ninjas)]
     cleaned = Cleaned(names, replay.changes, tools, replay.all)
-    return Imported(builds, owners.makes, assumed, replay.all, ninjas, cleaned, idle_targets(owners, names, cleaned), find_configured(owners.makes, replay.all, names), texts_of(owners, names))
+    return Imported(builds, assumed, replay.all, owners.makes, ninjas, cleaned, find_configured(owners.makes, replay.all, names), texts_of(owners, names))
 
 
 def texts_of(owners: Owners, names: Names) -> Dict[str, str]:
     """By path: what each makefile said when make read it; nothing for one that a make begins with which no recipe runs, as without it there is no such build."""
     found = {names.find(make.folder, name, True).path: make.known_text(name) for make in owners.makes for name in makefiles(make.words)}
-    first = {names.find(make.folder, name, True).path for make in owners.makes if not is_inside(make) for name in [one for start in make.words.read[:1] for one in start[:1]]}
+    first = {names.find(make.folder, name, True).path for make in owners.makes if not is_inside(make.life) for name in [one for start in make.words.read[:1] for one in start[:1]]}
     return {path: "" if path in first else text for path, text in found.items() if text is not None}
 
 
 def finish(record: Record, found: Imported, names: Names, out: str, warm: bool) -> None:
     """What is known when all builds are: whether they were cold, and what ninja itself finds."""
-    there = {*warm_names(found.builds, found.ninjas, names, found.cleaned), *found.idle}  # guard: targets-of-make-that-has-nothing
+    there = {*warm_names(found.makes, found.builds, found.ninjas, names, found.cleaned)}
     record.configured = sorted(there & found.configured)
     there -= found.configured
     if record.first is not None:

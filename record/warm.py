@@ -2,18 +2,21 @@
 
 import os
 import re
+from dataclasses import dataclass
 from typing import Dict, Iterator, List, Set
 
 from record import machine
-from record.build.tasks import Build, Node, Task
+from record.build.tasks import Build, Node
 from record.cleaned import Cleaned
 from record.commands.shelltext import SHELLS
 from record.commands.system import OF_SYSTEM
+from record.make.database import Base
 from record.make.graph import Graph, MakeBuild
 from record.make.owners import Make
 from record.make.words import DEFAULTS
 from record.missing.footprints import is_below
 from record.ninja.runs import Ninja
+from record.trace.lives import Life
 from record.trace.names import Names
 
 CHANGES = "WCDMTX"  # kinds of events of a file or a folder
@@ -22,57 +25,70 @@ RUNS_NOTHING = re.compile(r"[\s@+-]*(?:true|:)?\s*")  # a line of a recipe
 MAKES_FOLDER = re.compile(r"\s*[@+-]*\s*mkdir\s+(?:(?:-p|--parents)\s+)?(?:\$@|\$\(@\)|([^\s;&|<>`$*?\[]+?))/?\s*")
 
 
-def warm_names(builds: List[Build], ninjas: List[Ninja], names: Names, cleaned: Cleaned) -> List[str]:
+@dataclass(frozen=True)
+class Target:
+    """A target with a recipe that a make considered in a round. `spelled`: its file, as the makefile says."""
+
+    make: Make
+    stage: str
+    base: Base
+    name: str
+    spelled: str
+    path: str
+    is_idle: bool  # its recipe did not run, and need not
+
+    def does_nothing(self) -> bool:
+        """Whether its recipe is the word `true` alone, or less, as for a file that the project has."""
+        shell = self.base.values.get("SHELL", "") if "SHELL" not in self.base.own else ""  # guard: recipes-that-do-nothing-in-shell
+        return OF_SYSTEM.match(shell) is not None and os.path.basename(shell) in SHELLS and all(RUNS_NOTHING.fullmatch(line) for line in self.base.recipes[self.name])  # guard: recipes-that-do-something
+
+    def is_beginning(self) -> bool:
+        """Whether it is the makefile that make finds by itself when it begins, and no recipe runs that make, which might have made it: without it there is
+        no such build, and where it is older than what it is made of, it is made again before all goals."""
+        first = [name for start in self.make.words.read[:1] for name in start[:1]]
+        return self.name in first and self.name in DEFAULTS and not is_inside(self.make.life)  # guard: makefile-that-words-name
+
+    def was_there(self, names: Names) -> bool:
+        """Whether its file was there before the build; what a link leads to that the build has made is no target."""
+        is_there = names.before.get(self.path) in ("f", "l") or self.is_idle and is_beyond(self.path, names)  # guard: targets-outside-of-project
+        return is_there and not is_made_link(names.find(self.make.folder, self.spelled, False).path, names)  # guard: links-that-are-made
+
+
+def targets_of(makes: List[Make], names: Names) -> Iterator[Target]:
+    """All targets with a recipe that makes considered. The file of a member of an archive is that archive."""
+    for make, one in ((make, one) for make in makes for one in make.words.rounds):
+        ran, base = [job.target for job in one.jobs], one.base or Base()
+        due = {*one.must, *ran}
+        for name in dict.fromkeys((*one.nodes, *ran)):
+            if name in base.recipes:
+                spelled = one.vpath.get(name, name)
+                file = spelled.rpartition("(")[0] if spelled.endswith(")") else spelled
+                yield Target(make, one.stage, base, name, spelled, names.find(make.folder, file or spelled, True).path, name not in due)
+
+
+def warm_names(makes: List[Make], builds: List[Build], ninjas: List[Ninja], names: Names, cleaned: Cleaned) -> List[str]:
     """The targets that were there before: made again, or up to date.
 
     What a tool makes to read it itself (makefiles, manifests) is no part of the question: configuring made it. Nor is what was removed first.
     """
-    found: Set[str] = set()
-    left = {path for build in builds for path in left_folders(build, builds, names) if not cleaned.is_gone(path, build.make.life)}
-    beyond: Set[str] = set()
-    for build in builds:
-        if isinstance(build, MakeBuild) and build.stage == "goals":
-            nodes = [node for node in build.graph.nodes.values() if is_made(build, node, builds) and not cleaned.is_gone(node.path, build.make.life)]
-            found.update(node.path for node in nodes if not is_new_link(build, node, names))  # guard: links-that-are-made
-            beyond.update(node.path for node in nodes if not (node.jobs or node.must) and is_beyond(node.path, names))  # guard: targets-outside-of-project
-    for build in builds:
-        if isinstance(build, MakeBuild) and build.stage == "makefiles":
-            found.difference_update(node.path for node in build.graph.nodes.values())
+    found = {path for build in builds for path in left_folders(build, builds, names) if not cleaned.is_gone(path, build.make.life)}  # guard: folders-that-are-left
     made = {path for ninja in ninjas for path in made_by(ninja, names)}
-    for ninja in ninjas:
-        own = {path for path in targets_of(ninja, names) if not cleaned.is_gone(path, ninja.life)}  # guard: what-is-removed-first
-        found.update(own)
-        left.update(path for path in own - made if path in names.before)  # a folder too: its statement did not run  # guard: folder-that-is-up-to-date
-        beyond.update(path for path in own - made if is_beyond(path, names))  # guard: outputs-outside-of-project
-    return sorted({*left, *(path for path in found if names.before.get(path) in ("f", "l")), *beyond & found})  # guard: folders-that-are-left
+    for path in (path for ninja in ninjas for path in outputs_of(ninja, names) if not cleaned.is_gone(path, ninja.life)):  # guard: what-is-removed-first
+        kinds = ("f", "l") if path in made else ("f", "l", "d")  # a folder too: its statement did not run  # guard: folder-that-is-up-to-date
+        if names.before.get(path) in kinds or path not in made and is_beyond(path, names):  # guard: outputs-outside-of-project
+            found.add(path)
+    read = {node.path for build in builds if isinstance(build, MakeBuild) and build.stage == "makefiles" for node in build.graph.nodes.values()}
+    written = set().union(*(build.writers for build in builds))
+    for target in targets_of(makes, names):
+        is_kept = target.is_idle and target.path not in written and (target.does_nothing() or target.is_beginning())  # guard: recipes-that-do-nothing
+        if target.stage == "goals" and target.name not in target.base.phony and target.path not in read and not is_kept and target.was_there(names):
+            found.update([] if cleaned.is_gone(target.path, target.make.life) else [target.path])  # guard: what-make-finds-removed
+    return sorted(found)
 
 
-def is_made(build: MakeBuild, node: Node, builds: List[Build]) -> bool:
-    """Whether a rule makes a target, so that somebody may build without it. Not where no recipe touched it, and its own does nothing, or it is the makefile
-    that make begins with."""
-    if not node.has_recipe or node.phony:
-        return False
-    is_kept = not (node.jobs or node.must or any(node.path in other.writers for other in builds))
-    return not (is_kept and (does_nothing(build, node) or is_beginning(build, node)))  # guard: recipes-that-do-nothing
-
-
-def does_nothing(build: MakeBuild, node: Node) -> bool:
-    """Whether the recipe of a target is the word `true` alone, or less, as for a file that the project has."""
-    base = build.graph.base
-    shell = base.values.get("SHELL", "") if "SHELL" not in base.own else ""  # guard: recipes-that-do-nothing-in-shell
-    return OF_SYSTEM.match(shell) is not None and os.path.basename(shell) in SHELLS and all(RUNS_NOTHING.fullmatch(line) for line in base.recipes.get(node.name, []))  # guard: recipes-that-do-something
-
-
-def is_inside(make: Make) -> bool:
-    """Whether a recipe of another make or ninja runs a make."""
-    return any(up.is_make or up.is_ninja for up in make.life.up() if up is not make.life)
-
-
-def is_beginning(build: MakeBuild, node: Node) -> bool:
-    """Whether a target is the makefile that make finds by itself when it begins, and no recipe runs that make, which might have made it: without it there is
-    no such build, and where it is older than what it is made of, it is made again before all goals."""
-    first = [name for start in build.make.words.read[:1] for name in start[:1]]
-    return node.name in first and node.name in DEFAULTS and not is_inside(build.make)  # guard: makefile-that-words-name
+def is_inside(life: Life) -> bool:
+    """Whether a recipe of another make or ninja runs a process."""
+    return any(up.is_make or up.is_ninja for up in life.up() if up is not life)
 
 
 def did_nothing(builds: List[Build], makes: List[Make]) -> bool:
@@ -86,14 +102,9 @@ def did_nothing(builds: List[Build], makes: List[Make]) -> bool:
 def made_unseen(makes: List[Make], ninjas: List[Ninja], names: Names, now: Dict[str, str]) -> List[str]:
     """Targets that are there, and that nobody made in this build, though they were absent before: something else builds in the same
     folder, and their recipes did not run. `now` are the names that are there as the trace has it."""
-    found: Set[str] = set()
-    for make in makes:
-        for one in make.words.rounds:
-            ran = {job.target for job in one.jobs}
-            recipes = one.base.recipes if one.base is not None else {}
-            found.update(names.find(make.folder, one.vpath.get(n, n), True).path for n in one.nodes if recipes.get(n) and n not in one.must and n not in ran)
+    found = {target.path for target in targets_of(makes, names) if target.is_idle}
     for ninja in ninjas:
-        found.update(targets_of(ninja, names) - made_by(ninja, names))
+        found |= outputs_of(ninja, names) - made_by(ninja, names)
     return sorted(path for path in found if path not in now and machine.isfile(path) and any(is_below(path, top) for top in names.tops))  # guard: target-that-something-else-makes
 
 
@@ -111,29 +122,25 @@ def left_folders(build: Build, builds: List[Build], names: Names) -> Iterator[st
         if node.has_recipe and not node.phony and names.before.get(node.path) == "d" and not any(kind != "d" and is_below(path, node.path) for path, kind in names.before.items()):  # guard: folders-with-sources
             lines = [MAKES_FOLDER.fullmatch(line) for line in build.graph.base.recipes.get(node.name, [])]
             is_plain = bool(lines) and all(line and line.group(1) in (None, node.name.rstrip("/")) for line in lines)
-            if not is_plain or any(True for _ in early_users(build, builds, node)):  # guard: folders-that-all-wait
+            if not is_plain or is_used_early(build, builds, node):  # guard: folders-that-all-wait
                 yield node.path
 
 
-def early_users(build: MakeBuild, builds: List[Build], node: Node) -> Iterator[Task]:
-    """The tasks that use a folder, and do not wait for the rule that makes it."""
+def is_used_early(build: MakeBuild, builds: List[Build], node: Node) -> bool:
+    """Whether a task uses a folder, and does not wait for the rule that makes it."""
     inside = {id(make) for task in build.tasks for work in task.works for make in work.makes}
     for other in builds:
         own = [at for at, task in enumerate(other.tasks) if any(make is build.make for work in task.works for make in work.makes)]
         for at, task in enumerate(other.tasks) if other is build or id(other.make) not in inside else ():  # guard: folders-of-other-makes
             waits = node.label in build.graph.reached_from([task.node.label]) if other is build else any(one == at or other.is_before(one, at) for one in own)
             if not waits and any(is_below(path, node.path) for work in task.works for _, path in work.events):
-                yield task
-
-
-def is_new_link(build: MakeBuild, node: Node, names: Names) -> bool:
-    """Whether a target is a link that the build has made: what it leads to may have been there before, and is no target."""
-    return is_made_link(names.find(build.folder, build.graph.round.vpath.get(node.name, node.name), False).path, names)
+                return True
+    return False
 
 
 def is_made_link(path: str, names: Names) -> bool:
     """Whether there is a link at this path that was not there before."""
-    return machine.islink(path) and path not in names.before
+    return path not in names.before and machine.islink(path)
 
 
 def output_path(ninja: Ninja, path: str, names: Names) -> str:
@@ -142,7 +149,7 @@ def output_path(ninja: Ninja, path: str, names: Names) -> str:
     return own if is_made_link(own, names) else names.find(ninja.folder, path, True).path  # guard: link-that-build-makes
 
 
-def targets_of(ninja: Ninja, names: Names) -> Set[str]:
+def outputs_of(ninja: Ninja, names: Names) -> Set[str]:
     """Outputs of the statements with commands below a ninja's goals, of all where a goal is not known; except those that generate for the
     manifest, which ninja itself reads: it, and what it needs."""
     edges = [edge for edge in ninja.wanted() if not edge.is_phony]
@@ -165,27 +172,13 @@ def stand_alone(warm: List[str], builds: List[Build], ninjas: List[Ninja]) -> bo
         return False
     graph, left = goals[0].graph, set(warm)
     nodes = [node for node in graph.nodes.values() if node.path in left and node.has_recipe]
-    users = users_of(graph) if nodes else {}
-    return left == {node.path for node in nodes} and all(is_alone(graph, users, node) for node in nodes)
+    return left == {node.path for node in nodes} and all(is_alone(graph, node) for node in nodes)
 
 
-def users_of(graph: Graph) -> Dict[str, List[str]]:
-    """For each target those that need it."""
-    users: Dict[str, List[str]] = {}
-    for node in graph.nodes.values():
-        for one in node.prerequisites:
-            users.setdefault(one, []).append(node.label)
-    return users
-
-
-def is_alone(graph: Graph, users: Dict[str, List[str]], node: Node) -> bool:
+def is_alone(graph: Graph, node: Node) -> bool:
     """Whether a target was up to date, and its recipe is in order with all others and runs no make of its own."""
     if node.jobs or node.must or node.phony or node.name in graph.base.double or BUILDS.search("\n".join(graph.base.recipes.get(node.name, []))):  # guard: made-again
         return False
-    ordered, todo = graph.reached_from([node.label]), users.get(node.label, [])[:]
-    while todo:
-        label = todo.pop()
-        if label not in ordered:
-            ordered.add(label)
-            todo.extend(users.get(label, []))
-    return all(label in ordered for label, other in graph.nodes.items() if other.has_recipe or other.jobs)  # guard: recipes-that-do-not-wait
+    below = graph.reached_from([node.label])
+    others = [label for label, other in graph.nodes.items() if other.has_recipe or other.jobs]
+    return all(label in below or node.label in graph.reached_from([label]) for label in others)  # guard: recipes-that-do-not-wait

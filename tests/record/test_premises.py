@@ -48,6 +48,7 @@ class Loaded(unittest.TestCase):
         self.assertEqual(0, outcome.status, outcome.text())
         self.assertEqual(["makefiles", "goals"], [build["round"] for build in outcome.builds])
 
-    def test_text_in_another_language(self) -> None:
-        with support.Project({"Makefile": "X = $(guile (system \"touch x\"))\nall: ; touch all\n"}) as project:
+    def test_another_language(self) -> None:
+        """A make that has it inside says so in its macro `.FEATURES`."""
+        with support.Project({"Makefile": "X = $(guile (system \"touch x\"))\n.FEATURES += guile\nall: ; touch all\n"}) as project:
             self.assertIn("$(guile ..)", project.record().text())
