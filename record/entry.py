@@ -10,8 +10,9 @@ import subprocess
 import sys
 import time
 import traceback
-from contextlib import contextmanager
+from contextlib import contextmanager, suppress
 from importlib import import_module
+from pathlib import Path
 from typing import Callable, ContextManager, Dict, Iterable, Iterator, List, Set
 
 from record.messages import reason
@@ -65,65 +66,50 @@ def in_one_step() -> Iterator[Callable[[], ContextManager[object]]]:
         yield lambda: masked(signal.SIG_SETMASK, old)
 
 
-def read_of(pid: str, name: str) -> bytes:
-    """What the kernel shows of a process; nothing where it has ended, or is of another user."""
-    try:
-        with open("/proc/%s/%s" % (pid, name), "rb") as file:
-            return file.read()
-    except OSError:
-        return b""
-
-
 def traced(tracer: int) -> Iterator[int]:
     """The processes that a tracer follows: those whose parents have ended, too."""
-    return (int(pid) for pid in filter(str.isdigit, os.listdir("/proc")) if b"\nTracerPid:\t%d\n" % tracer in read_of(pid, "status"))
+    for pid in filter(str.isdigit, os.listdir("/proc")):
+        with suppress(OSError):  # it has ended, or is of another user
+            if b"\nTracerPid:\t%d\n" % tracer in Path("/proc", pid, "status").read_bytes():
+                yield int(pid)
 
 
-def to_end(strace: "subprocess.Popen[bytes]", left: Left) -> List[int]:
-    """The processes of a build. strace may have just begun, and then follows none yet; a signal to all may have ended it, and not them."""
-    until = time.monotonic() + PATIENCE
-    while True:
-        is_over = strace.poll() is not None
-        found = list(left() if is_over else traced(strace.pid))  # guard: what-strace-followed-and-has-left
-        if found or is_over or time.monotonic() > until:
-            return found
-        time.sleep(0.02)
+def tell(pids: Iterable[int], number: int) -> None:
+    """Sends processes a signal."""
+    for pid in pids:
+        with suppress(OSError):  # it has ended, or is of another user
+            os.kill(pid, number)
 
 
-def have_ended(strace: "subprocess.Popen[bytes]", left: Left) -> bool:
-    """Whether strace, and all processes of the build that it does not follow any more, end in time. Two looks have to show none: one that
-    becomes another program has no environment for a moment."""
+def have_ended(strace: "subprocess.Popen[bytes]", left: Left, number: int) -> bool:
+    """Sends a signal to all processes of a build; whether they end in time. strace may have just begun, and then follows none yet; a signal to all may have
+    ended it, and not them. Two looks have to show none: one that becomes another program has no environment for a moment."""
     until, looks = time.monotonic() + PATIENCE, 0
+    told: Set[int] = set()
     while looks < 2 and time.monotonic() < until:  # guard: what-becomes-another-program
-        looks = looks + 1 if strace.poll() is not None and not any(left()) else 0  # guard: what-strace-has-left-and-lives
+        is_over = strace.poll() is not None
+        found = {*(left() if is_over else traced(strace.pid))}  # guard: what-strace-followed-and-has-left
+        tell(found - told, number)
+        told |= found
+        looks = looks + 1 if is_over and not found else 0  # guard: what-strace-has-left-and-lives
         time.sleep(0.02)
     return looks == 2
 
 
 def end_traced(strace: "subprocess.Popen[bytes]", left: Left) -> None:
     """Ends all processes of a build, and so strace, which hears no signal itself. `left`: those whose tracer has ended before them."""
-    for number in (signal.SIGTERM, signal.SIGKILL):
-        for pid in to_end(strace, left):
-            try:
-                os.kill(pid, number)
-            except OSError:  # it has ended, or is of another user
-                pass
-        if have_ended(strace, left):
-            return
-    strace.kill()
-    strace.wait()
+    if not any(have_ended(strace, left, number) for number in (signal.SIGTERM, signal.SIGKILL)):
+        strace.kill()
+        strace.wait()
 
 
 def forget_coerced(environment: Dict[str, str]) -> None:
     """Takes out what Python itself puts there as it begins where the locale is C: programs would count the signs of a text in another way."""
     if environment.get("LC_CTYPE") in COERCED:
-        try:
-            with open("/proc/self/environ", "rb") as file:
-                given = [one.partition(b"=")[2] for one in file.read().split(b"\0") if one.startswith(b"LC_CTYPE=")]
-        except OSError:  # there is no /proc, or it is of other processes
-            return
-        del environment["LC_CTYPE"]
-        environment.update({"LC_CTYPE": os.fsdecode(value) for value in given[:1]})  # guard: what-locale
+        with suppress(OSError):  # there is no /proc, or it is of other processes
+            given = [one.partition(b"=")[2] for one in Path("/proc/self/environ").read_bytes().split(b"\0") if one.startswith(b"LC_CTYPE=")]
+            del environment["LC_CTYPE"]
+            environment.update({"LC_CTYPE": os.fsdecode(value) for value in given[:1]})  # guard: what-locale
 
 
 def speak_utf8() -> None:
@@ -136,11 +122,6 @@ def speak_utf8() -> None:
     for stream in (sys.stdout, sys.stderr):
         if isinstance(stream, io.TextIOWrapper):
             stream.reconfigure(encoding="utf-8", errors="backslashreplace")
-
-
-def close_output() -> None:
-    """What is left in the buffer may not be writable, and Python would try to write it at its end."""
-    os.dup2(os.open(os.devnull, os.O_WRONLY), 1)
 
 
 def ended(name: str, module: str, without: str) -> int:
@@ -168,5 +149,5 @@ def ended(name: str, module: str, without: str) -> int:
         traceback.print_exc()
         said = "%s: an error of its own stopped it; %s. %s" % (name, without, OF_ITS_OWN)
     print(said, file=sys.stderr)
-    close_output()
+    os.dup2(os.open(os.devnull, os.O_WRONLY), 1)  # what is left in the buffer may not be writable, and Python would try to write it at its end
     return FAILED

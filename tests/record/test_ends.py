@@ -103,10 +103,10 @@ class Signals(unittest.TestCase):
     def test_what_becomes_another_program(self) -> None:
         """It has no environment for a moment, by which it would be found."""
         for shown, looks in (((False, True, False, False), 4), ((False, False), 2)):
-            left = mock.Mock(side_effect=[iter((1,) if is_there else ()) for is_there in shown])
+            left = mock.Mock(side_effect=[iter((1 << 30,) if is_there else ()) for is_there in shown])
             with subprocess.Popen(["true"]) as strace:
                 strace.wait()
-                self.assertEqual((True, looks), (have_ended(strace, left), left.call_count))
+                self.assertEqual((True, looks), (have_ended(strace, left, signal.SIGTERM), left.call_count))
 
     def test_builds_beside_it(self) -> None:
         """They end with it, and nothing is left of them."""
