@@ -55,12 +55,17 @@ class FirstTree:
     said: str = ""  # how --fresh got it
     setup: str = ""  # what ran between the tree and the build
 
+    @property
+    def place(self) -> str:
+        """The folder that has all of it."""
+        return self.top or self.folder
+
     def text(self) -> str:
         """What it is, behind `for`."""
         changes = [plural(count, kind) for count, kind in ((self.changed, "changed file"), (len(self.new), "new file")) if count]
         names = " (%s)" % first_names(self.new) if self.new else ""
         tree = self.said or ("a checkout of %s" % self.commit + (" with %s%s" % (" and ".join(changes), names) if changes else "") if self.commit else "this folder as it stood")
-        left = "%s that an earlier build left (%s)" % (plural(len(self.left), "file"), first_names([os.path.relpath(path, self.top or self.folder) for path in self.left]))
+        left = "%s that an earlier build left (%s)" % (plural(len(self.left), "file"), first_names([os.path.relpath(path, self.place) for path in self.left]))
         return tree + (", without " + left if self.left else "") + (", after %s" % self.setup if self.setup else "")
 
     def has(self, path: str) -> bool:
@@ -83,7 +88,7 @@ class FirstTree:
 
     def may_go(self, path: str) -> bool:
         """Whether --fresh may take a file out again: it is below the folder, and git does not track it, nor has an archive it."""
-        return path.startswith((self.top or self.folder) + "/") and not self.has(path)
+        return path.startswith(self.place + "/") and not self.has(path)
 
 
 def first_names(names: Sequence[str]) -> str:

@@ -6,51 +6,41 @@ them. Where the system gives this process mounts of its own, the tree lies over 
 the build alone. Elsewhere the project is moved aside, and comes back.
 """
 
-import ctypes
 import os
 import re
 import shutil
 import signal
 import subprocess
-from contextlib import contextmanager
-from dataclasses import dataclass, replace
+from contextlib import contextmanager, suppress
+from dataclasses import replace
 from pathlib import Path
-from typing import Callable, ContextManager, Iterator, List, Optional, Set, Tuple
+from typing import Callable, Iterator, List, Optional, Set, Tuple
 
 from record.entry import in_one_step
 from record.first_tree import FirstTree, git, tree_of, with_folders
 from record.messages import reason
 from record.ninja.cold_copy import SAVED, CannotClean, Copier, left_over, moved_aside
+from record.orders.builds import WITH_PARENT, is_child_able
+from record.watch.lay import BELOW, BIND, LIBC, OWN_MOUNTS, mount
 
-OWN_MOUNTS, BIND, ALL_BELOW, PRIVATE = 0x20000, 0x1000, 0x4000, 0x40000  # for unshare and mount
-WITH_PARENT = 1  # for prctl: which signal comes when the parent ends
+PRIVATE = 1 << 18  # for mount: neither mounts that come from outside, nor own ones outside
 FOLDERS = re.compile(r"--directory=|--file=|--makefile=|-C.|-f.")  # words of make that say where it works, in one
 
 
-@dataclass
-class Fresh:
-    """A tree, where it lies, and the folder over which it is laid."""
-
-    tree: FirstTree
-    copy: str
-    top: str
-
-
-def fresh_tree(archive: Optional[str], setup: str, room: str, kept: str, left: Tuple[str, ...] = ()) -> Fresh:
-    """Makes the tree in a room. `kept`: the folder of the record, which is no part of it; `left`: what an earlier build left, neither."""
-    out = {kept, *left}
-    folder, copy = os.path.realpath("."), os.path.join(room, "tree")
+def fresh_tree(archive: Optional[str], setup: str, copy: str, kept: str, left: Tuple[str, ...] = ()) -> FirstTree:
+    """Makes a copy that holds the tree. `kept`: the folder of the record, which is no part of it; `left`: what an earlier build left, neither."""
+    out, folder = {kept, *left}, os.path.realpath(".")
     if archive:
-        return Fresh(of_archive(archive, folder, copy, room, setup), copy, folder)
+        return of_archive(archive, folder, copy, setup)
     tree = tree_of(folder)
     if tree.top:
         files = copy_work_tree(tree.top, copy, out)
         new = tuple(os.path.relpath(path, tree.top) for path in files if not tree.has(path))
-        return Fresh(replace(tree, new=new, left=left, setup=setup), copy, tree.top)
+        return replace(tree, new=new, left=left, setup=setup)
     if not shutil.which("git") and any((up / ".git").exists() for up in Path(folder, ".git").parents):  # guard: git-that-is-missing
         raise CannotClean("git is missing (Debian: apt-get install git): --fresh builds what it tracks here")
     shutil.copytree(folder, copy, symlinks=True, copy_function=Copier().copy, ignore=without(out))
-    return Fresh(FirstTree(folder, left=left, setup=setup), copy, folder)
+    return replace(tree, left=left, setup=setup)
 
 
 def without(out: Set[str]) -> Callable[[str, List[str]], List[str]]:
@@ -58,9 +48,9 @@ def without(out: Set[str]) -> Callable[[str, List[str]], List[str]]:
     return lambda place, names: [name for name in names if os.path.join(place, name) in out]
 
 
-def of_archive(archive: str, folder: str, copy: str, room: str, setup: str) -> FirstTree:
+def of_archive(archive: str, folder: str, copy: str, setup: str) -> FirstTree:
     """Unpacks an archive; where it holds one folder alone, that is the tree."""
-    place = Path(room, "archive")
+    place = Path(copy + ".archive")
     place.mkdir()
     words = ["unzip", "-q", archive, "-d", str(place)] if archive.endswith(".zip") else ["tar", "-xf", archive, "-C", str(place)]
     try:
@@ -105,55 +95,55 @@ def copy_work_tree(top: str, copy: str, out: Set[str]) -> List[str]:
 def copy_object(source: str, target: str) -> str:
     """Copies a file of git's; an object, which git never changes, gets one more name where that is possible."""
     if "/.git/objects/" in source:
-        try:
+        with suppress(OSError):
             os.link(source, target)
             return target
-        except OSError:
-            pass
     return str(shutil.copy2(source, target))
 
 
 def lay(copy: str, top: str) -> bool:
     """Lays a tree over a folder for this process and all that it starts; whether the system let it."""
-    system = ctypes.CDLL(None)
-    return bool(system.unshare(OWN_MOUNTS) == 0 and system.mount(b"none", b"/", None, ctypes.c_ulong(ALL_BELOW | PRIVATE), None) == 0
-            and system.mount(os.fsencode(copy), os.fsencode(top), None, ctypes.c_ulong(BIND), None) == 0)
+    return LIBC.unshare(OWN_MOUNTS) == 0 and mount("none", "/", BELOW | PRIVATE) and mount(copy, top, BIND)
 
 
 @contextmanager
-def moved(fresh: Fresh) -> Iterator[None]:
+def moved(copy: str, top: str) -> Iterator[None]:
     """The tree in the place of the project, which has another name meanwhile."""
-    here, saved = os.path.realpath("."), fresh.top + SAVED
+    here, saved = os.path.realpath("."), top + SAVED
     if os.path.lexists(saved):
-        raise CannotClean(left_over(fresh.top, saved))
-    with moved_aside(fresh.top, saved, "run it as root, or record a clean checkout without --fresh"):
-        shutil.move(fresh.copy, fresh.top)
+        raise CannotClean(left_over(top, saved))
+    with moved_aside(top, saved, "run it as root, or record a clean checkout without --fresh"):
+        shutil.move(copy, top)
         os.chdir(here)
         yield
 
 
-def clean(fresh: Fresh, words: List[str]) -> Fresh:
+def clean(tree: FirstTree, words: List[str]) -> FirstTree:
     """Takes away what an earlier build made, where the tree is a copy of the folder and the project has a rule for that; in the place of the project."""
-    if fresh.tree.top or fresh.tree.said or os.path.basename(words[0]) not in ("make", "gmake"):
-        return fresh
+    if tree.top or tree.said or os.path.basename(words[0]) not in ("make", "gmake"):
+        return tree
     place = [word for at, word in enumerate(words[1:], 1) if FOLDERS.match(word) or word in ("-C", "-f") or words[at - 1] in ("-C", "-f")]
-    for goal in ["distclean", "clean"] if fresh.tree.setup else ["clean"]:
+    for goal in ["distclean", "clean"] if tree.setup else ["clean"]:
         ran = subprocess.run([words[0], *place, goal], stdin=subprocess.DEVNULL, stdout=subprocess.DEVNULL, stderr=subprocess.DEVNULL, check=False)
         if ran.returncode == 0:
-            return replace(fresh, tree=replace(fresh.tree, said="this folder as make %s leaves it" % goal))
-    return fresh
+            return replace(tree, said="this folder as make %s leaves it" % goal)
+    return tree
 
 
-def beside(work: Callable[[], None], fresh: Fresh, faults: Path) -> None:
+def beside(work: Callable[[], None], copy: str, top: str, faults: Path) -> None:
     """Does some work in a process over whose project the tree is laid. Where it fails, it says why in a file, and so does this."""
     with in_one_step() as heard:
         child = os.fork()
         if child == 0:
-            status = 3
             try:
-                status = status_of(work, fresh, faults, heard)
+                with heard():
+                    LIBC.prctl(WITH_PARENT, signal.SIGTERM)
+                    in_this_process(work, copy, top)
+                os._exit(0)
+            except BaseException as fault:
+                faults.write_text(reason(fault) if isinstance(fault, OSError) else str(fault) or type(fault).__name__)
             finally:
-                os._exit(status)
+                os._exit(3)
         try:
             with heard():
                 ended = os.waitpid(child, 0)[1]
@@ -165,35 +155,18 @@ def beside(work: Callable[[], None], fresh: Fresh, faults: Path) -> None:
         raise CannotClean(faults.read_text() if faults.exists() else "the recording ended with status %d, without a record" % ended)
 
 
-def status_of(work: Callable[[], None], fresh: Fresh, faults: Path, heard: Callable[[], ContextManager[object]]) -> int:
-    """Does it in this process; the status with which that ends."""
-    try:
-        with heard():
-            ctypes.CDLL(None).prctl(WITH_PARENT, signal.SIGTERM)
-            here = os.path.realpath(".")
-            if not lay(fresh.copy, fresh.top):
-                raise CannotClean("the tree cannot be laid over " + fresh.top)
-            os.chdir(here)
-            work()
-        return 0
-    except OSError as fault:
-        faults.write_text(reason(fault))
-    except BaseException as fault:
-        faults.write_text(str(fault) or type(fault).__name__)
-    return 3
+def in_this_process(work: Callable[[], None], copy: str, top: str) -> None:
+    """The same, for good."""
+    here = os.path.realpath(".")
+    if not lay(copy, top):
+        raise CannotClean("the tree cannot be laid over " + top)
+    os.chdir(here)
+    work()
 
 
-def can_lay(folder: str) -> bool:
-    """Whether the system lets this process lay a tree over a folder."""
-    child = os.fork()
-    if child == 0:
-        os._exit(0 if lay(folder, folder) else 1)
-    return os.waitpid(child, 0)[1] == 0
-
-
-def in_place(fresh: Fresh, faults: Path, work: Callable[[], None]) -> None:
-    """Does some work where the tree is in the place of the project."""
-    if can_lay(fresh.top):
-        return beside(work, fresh, faults)
-    with moved(fresh):
+def in_place(top: str, copy: str, faults: Path, work: Callable[[], None]) -> None:
+    """Does some work where a tree is in the place of the project."""
+    if is_child_able(lambda: lay(top, top)):
+        return beside(work, copy, top, faults)
+    with moved(copy, top):
         return work()

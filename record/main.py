@@ -378,13 +378,14 @@ def record_tree(options: argparse.Namespace, tools: Dict[str, str], fresh: Path,
     for number in range(1 + TRIES):
         with tempfile.TemporaryDirectory(dir=fresh.parent) as room:
             said, again = Path(room) / "said", Path(room) / "record"
-            tree = fresh_tree(options.archive, options.setup, room, kept, tuple(sorted(left)))
+            copy = os.path.join(room, "tree")
+            tree = fresh_tree(options.archive, options.setup, copy, kept, tuple(sorted(left)))
 
             def work() -> None:
-                options.tree = clean(tree, options.words).tree
+                options.tree = clean(tree, options.words)
                 said.write_bytes(pickle.dumps(record_all(options, tools, again, race)))
 
-            in_place(tree, Path(room) / "fault", work)
+            in_place(tree.place, copy, Path(room) / "fault", work)
             record = cast(Record, pickle.loads(said.read_bytes()))
             if records and record.status != 0:
                 print("race-record: the build fails without that: what was recorded before stands", file=sys.stderr, flush=True)

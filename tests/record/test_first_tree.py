@@ -230,7 +230,7 @@ class Fresh(unittest.TestCase):
         self.assertIn(b"git is missing", outcome.stderr)
 
     def test_without_mounts(self) -> None:
-        with mock.patch.object(fresh, "can_lay", return_value=False):
+        with mock.patch.object(fresh, "is_child_able", return_value=False):
             self.test_checkout()
             self.test_archive()
             self.test_setup()
