@@ -18,6 +18,11 @@ class Kind:
     title: str
     fix: str
 
+    @property
+    def advice(self) -> str:
+        """What to do, as plain text."""
+        return self.fix.replace("`", "")
+
 
 FORGOTTEN = Kind("forgotten-prerequisite", "a prerequisite that was forgotten", "name it: `lex.o: words.h`")
 TWO = Kind("two-outputs", "one rule with two outputs, which make takes for two rules", "write it as `a b &: c` (GNU make 4.3), or as `a: c` with its recipe, and `b: a ;`")
@@ -54,42 +59,40 @@ def target(about: Dict[str, Any], label: str) -> str:
     return found or label
 
 
-def targets(about: Dict[str, Any], race: Race) -> tuple[str, str]:
-    """The targets of the two, whole."""
-    return whole(about, target(about, race.first)), whole(about, target(about, race.second))
+class Meeting:
+    """A race, with what its build says of the two tasks."""
 
+    def __init__(self, about: Dict[str, Any], race: Race) -> None:
+        self.about, self.race = about, race
+        self.first, self.second = (about["labels"].get(it, {}) for it in (race.first, race.second))
+        self.early, self.late = target(about, race.first), target(about, race.second)
+        self.tool: str = about.get("tool", "make")
+        self.path, self.targets = whole(about, race.path), (whole(about, self.early), whole(about, self.late))
 
-def is_one_rule(about: Dict[str, Any], race: Race) -> bool:
-    """Whether the two have one recipe, which makes the target of both."""
-    first, second = (about["labels"].get(it, {}) for it in (race.first, race.second))
-    place = first.get("file") and all(first.get(it) == second.get(it) for it in ("file", "line"))
-    one, other = targets(about, race)
-    made = {other} if race.first_does == "writes" else set()
-    made |= {one} if race.second_does == "writes" else set()
-    return bool(place) and about.get("tool", "make") == "make" and one != other and whole(about, race.path) in made
+    @property
+    def is_of_one_recipe(self) -> bool:
+        """Whether two parts of one recipe race."""
+        return "command" in self.first and "command" in self.second and self.first.get("target") == self.second.get("target")
 
+    @property
+    def is_of_one_rule(self) -> bool:
+        """Whether the two have one recipe, which makes the target of both."""
+        place = self.first.get("file") and all(self.first.get(it) == self.second.get(it) for it in ("file", "line"))
+        made = {other for does, other in zip((self.race.second_does, self.race.first_does), self.targets) if does == "writes"}
+        return bool(place) and self.tool == "make" and self.targets[0] != self.targets[1] and self.path in made
 
-def of_one_recipe(about: Dict[str, Any], race: Race) -> bool:
-    """Whether two parts of one recipe race."""
-    first, second = (about["labels"].get(it, {}) for it in (race.first, race.second))
-    return "command" in first and "command" in second and first.get("target") == second.get("target")
-
-
-def kind_of(about: Dict[str, Any], race: Race) -> Kind:
-    """The kind of a race."""
-    if of_one_recipe(about, race):
-        return AT_ONCE
-    if any(about["labels"].get(it, {}).get("left") for it in (race.first, race.second)):
-        return LEFT
-    is_writing = race.first_does == race.second_does == "writes"
-    if is_of_folder(race.path):
-        return FOLDER
-    if race.path.endswith(".a") and is_writing:
-        return ARCHIVE
-    if is_one_rule(about, race):
-        return TWO
-    if whole(about, race.path) in targets(about, race):
-        return FORGOTTEN
-    if is_writing:
-        return LOG if race.path.endswith(".log") else TEMPORARY
-    return OUTPUT
+    @property
+    def kind(self) -> Kind:
+        """What it is: the first of these."""
+        is_writing = self.race.first_does == self.race.second_does == "writes"
+        rows = (
+            (self.is_of_one_recipe, AT_ONCE),
+            ("left" in self.first or "left" in self.second, LEFT),
+            (is_of_folder(self.race.path), FOLDER),
+            (is_writing and self.race.path.endswith(".a"), ARCHIVE),
+            (self.is_of_one_rule, TWO),
+            (self.path in self.targets, FORGOTTEN),
+            (is_writing and self.race.path.endswith(".log"), LOG),
+            (is_writing, TEMPORARY),
+        )
+        return next((kind for holds, kind in rows if holds), OUTPUT)

@@ -10,7 +10,7 @@ from typing import Any, Dict, List, Sequence, Tuple
 
 from record.fixes import Remedy, is_needed, merged, remedy
 from record.judge import Race, Verdict, explained
-from record.kinds import kind_of, of_one_recipe, target, whole
+from record.kinds import Meeting, target, whole
 from record.ninja.fix import pool_text
 from record.orders import result
 from record.pages import after_no_verdict
@@ -88,7 +88,7 @@ def who(about: Dict[str, Any], race: Race, label: str) -> str:
     """A recipe of a race, by its target; by its command, where that is a process of it that races with another one, or that it leaves running."""
     found, name = about["labels"].get(label, {}), target(about, label)
     command: str = found.get("command", "")
-    return command if of_one_recipe(about, race) else "%s (%s)" % (name, command) if found.get("left") else name
+    return command if Meeting(about, race).is_of_one_recipe else "%s (%s)" % (name, command) if found.get("left") else name
 
 
 def rows(about: Dict[str, Any], race: Race) -> List[str]:
@@ -126,7 +126,7 @@ def race_text(one: Judged, races: List[Race]) -> List[str]:
     remedies = [it for race, it in found if is_needed(verdict, race) or not it.is_edge]
     ended = ["  the lines of other races end this one too"] if not remedies else []
     more = [more_text(about, races)] if len(races) > 1 else []
-    inside = "  in %s: %s, %s" % (target(about, races[0].first), *(who(about, races[0], it) for it in (races[0].first, races[0].second))) if of_one_recipe(about, races[0]) else ""
+    inside = "  in %s: %s, %s" % (target(about, races[0].first), *(who(about, races[0], it) for it in (races[0].first, races[0].second))) if Meeting(about, races[0]).is_of_one_recipe else ""
     return ["RACE  " + heading(about, races[0].path) + inside, *rows(about, races[0]), *result.seen(one.orders, races[0].first, races[0].second), *more, *ended, *remedy_text(about, remedies, verdict.is_fixed)]
 
 
@@ -147,7 +147,7 @@ def in_order(count: int, word: str) -> str:
 
 def group_of(about: Dict[str, Any], race: Race) -> Tuple[str, str]:
     """What stands together: races of one kind by one writer."""
-    return kind_of(about, race).name, race.first if race.first_does == "writes" else race.second
+    return Meeting(about, race).kind.name, race.first if race.first_does == "writes" else race.second
 
 
 def more_text(about: Dict[str, Any], races: List[Race]) -> str:
@@ -208,9 +208,8 @@ def checked(remedies: Sequence[Remedy], is_whole: bool) -> str:
 def assumptions_text(record: Dict[str, Any], is_safe: bool) -> List[str]:
     """What was taken for granted."""
     texts, keys = granted(record), [one["kind"] for one in record["assumptions"] if one["kind"] != "orders" or not record.get("orders")]
-    lines = ["safe, if:" if is_safe else "Assumed:", *(line for text in texts for line in wrapped(text))]
-    said = "race-explain says what to do about a line, by its key: " + ", ".join(keys)
-    lines += textwrap.wrap(said, 78, initial_indent="  ", subsequent_indent="  ", break_on_hyphens=False) if keys else []
+    lines = ["safe, if:" if is_safe else "Assumed:", *(line for text in texts for line in wrapped(text, "  - ", "    "))]
+    lines += wrapped("race-explain says what to do about a line, by its key: " + ", ".join(keys)) if keys else []
     return lines if texts else []
 
 
@@ -225,19 +224,15 @@ def granted(record: Dict[str, Any]) -> List[str]:
 
 
 def example_text(one: Dict[str, Any], folder: str) -> str:
-    """How often something was met, and the first case."""
-    return "" if one["count"] == 1 and not one["example"] else " (%d, such as %s)" % (one["count"], shortened(one["example"], folder))
+    """How often something was met, and the first case: with names from the project's folder on; of a long one the beginning, and a mark that it goes on."""
+    text = one["example"].replace(folder + "/", "")
+    text = text if len(text) <= SHOWN_SIGNS else text[:SHOWN_SIGNS] + ".."
+    return "" if one["count"] == 1 and not text else " (%d, such as %s)" % (one["count"], text)
 
 
-def wrapped(text: str) -> List[str]:
-    """A line of what is taken for granted, in as many as it takes."""
-    return textwrap.wrap(text, 78, initial_indent="  - ", subsequent_indent="    ", break_long_words=False, break_on_hyphens=False)
-
-
-def shortened(example: str, folder: str) -> str:
-    """An example with names from the project's folder on; of a long one the beginning, and a mark that it goes on."""
-    text = example.replace(folder + "/", "")
-    return text if len(text) <= SHOWN_SIGNS else text[:SHOWN_SIGNS] + ".."
+def wrapped(text: str, first: str = "  ", others: str = "  ") -> List[str]:
+    """A text in as many lines as it takes, and what each begins with."""
+    return textwrap.wrap(text, 78, initial_indent=first, subsequent_indent=others, break_long_words=False, break_on_hyphens=False)
 
 
 def listed(holes: List[str], out: Path) -> List[str]:
@@ -285,7 +280,7 @@ def warm_text(record: Dict[str, Any], colour: Colours) -> List[str]:
     names = [os.path.relpath(shown(name), shown(record["folder"])) for name in warm.get("names", [warm["example"]])]
     more = ["%d more" % (warm["count"] - len(names))] if warm["count"] > len(names) else []
     first = "%sWARM%s  %s that this build makes %s there before: this is about builds from such a tree" % (colour.bad, colour.end, plural(warm["count"], "file"), was)
-    return [first] + textwrap.wrap(", ".join(names + more), 78, initial_indent="  ", subsequent_indent="  ", break_long_words=False, break_on_hyphens=False)
+    return [first, *wrapped(", ".join(names + more))]
 
 
 def read_json(path: Path) -> Dict[str, Any]:

@@ -19,6 +19,23 @@ class Lines:
     last: int
     text: str
 
+    def edited(self, colons: str = "", more: str = "") -> str:
+        """A rule with other colons, or with one more prerequisite."""
+        targets, own, rest, recipe = read(self)
+        return " ".join(filter(None, (targets, colons, rest, more, recipe) if colons else (targets + own, rest, more, recipe)))
+
+    def parts(self) -> Tuple[List[str], str, str]:
+        """The targets of a rule as they are spelled, its prerequisites, and its recipe where that stands in the same line."""
+        targets, _, rest, recipe = read(self)
+        return targets.split(), rest, recipe
+
+
+def read(rule: Lines) -> List[str]:
+    """The targets of a rule, its colons, its prerequisites and its recipe."""
+    found = HEAD.match(rule.text)
+    assert found
+    return [(part or "").strip() for part in found.groups()]
+
 
 @lru_cache(maxsize=64)
 def lines_of(path: str) -> Tuple[str, ...]:
@@ -51,19 +68,3 @@ def rule_above(path: str, number: int) -> Optional[Lines]:
         at -= 1
     found = logical(path, at, "\\")
     return found if found and HEAD.match(found.text) else None
-
-
-def edited(rule: Lines, colons: str = "", more: str = "") -> str:
-    """A rule with other colons, or with one more prerequisite."""
-    found = HEAD.match(rule.text)
-    assert found
-    rest, recipe = found["rest"].strip(), found["recipe"] or ""
-    words = [found["targets"], colons or found["colons"]] if colons else [found["targets"] + found["colons"]]
-    return " ".join([*words, *filter(None, (rest, more, recipe.strip()))])
-
-
-def parts(rule: Lines) -> Tuple[List[str], str, str]:
-    """The targets of a rule as they are spelled, its prerequisites, and its recipe where that stands in the same line."""
-    found = HEAD.match(rule.text)
-    assert found
-    return found["targets"].split(), found["rest"].strip(), (found["recipe"] or "").strip()

@@ -17,7 +17,7 @@ from record.fixes import Remedy, is_needed, remedy
 from record.folder import name_from
 from record.judge import Race as Found
 from record.judge import Verdict
-from record.kinds import Kind, kind_of
+from record.kinds import Kind, Meeting
 from record.missing.report import Question
 from record.report import group_of, name_of, near, rows, spot, verb
 
@@ -287,7 +287,7 @@ class Build:
         sign = self.name(NUMBERS.sub("", found.path) if meaning else found.path)
         shown = name_of(self.about, found.path)
         return Race(self.number, found.path, sign, shown, self.name(shown), meaning, early, late,
-                    kind_of(self.about, found), remedy(self.about, found), tuple(rows(self.about, found)), self.about.get("project", self.folder),
+                    Meeting(self.about, found).kind, remedy(self.about, found), tuple(rows(self.about, found)), self.about.get("project", self.folder),
                     (self.number, *group_of(self.about, found)),
                     is_needed(verdict, found), verdict.is_fixed)
 
