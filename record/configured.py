@@ -8,13 +8,11 @@ as `./configure && make` does, all of it is there and up to date when make begin
 import os
 import re
 from dataclasses import dataclass, field
-from typing import Dict, Iterator, List, Optional, Set
+from typing import Dict, Iterator, List, Optional, Set, Tuple
 
 from record import machine
-from record.make.owners import Make
+from record.make.owners import Owners
 from record.make.words import makefiles
-from record.missing.footprints import CHANGES
-from record.trace.lives import Life
 from record.trace.names import Names
 
 STATUS = "config.status"
@@ -32,61 +30,28 @@ class Status:
     made: Set[str] = field(default_factory=set)  # what it makes, their stamps, and what all of these and it itself are made of
     stamps: Set[str] = field(default_factory=set)
 
-    def drop_stamps(self, names: Names, lives: List[Life], began: int) -> None:
-        """Takes out the stamps that were absent when make began: those are of a recipe of make alone."""
-        first = first_changes(lives, self.stamps - names.before.keys())
-        self.made -= {path for path, place in first.items() if place > began}  # guard: stamps-of-command
 
-
-def find_configured(makes: List[Make], lives: List[Life], names: Names) -> Set[str]:
-    """What configuring made, as a recorded build shows it."""
-    changed = last_changes(lives)
+def find_configured(owners: Owners, names: Names) -> Set[str]:
+    """What configuring made, as a recorded build shows it. Stamps that were absent when make began are of a recipe of make alone. A target whose recipe ran
+    counts where the first make of it began before configure ran: one that makes a template is judged as any other."""
+    written, makes = owners.written, sorted(owners.makes, key=lambda make: -make.life.born)
     read = [(make.life.born, {names.find(make.folder, name, True).path for name in makefiles(make.words)}) for make in makes]
-    there = {path for path, kind in names.before.items() if kind == "f"} | changed.keys()
-    found = [status_of(path) for path in sorted(there) if os.path.basename(path) == STATUS]
-    statuses = []
-    for status in filter(None, found):
+    there = {path for path, kind in names.before.items() if kind == "f"} | written.keys()
+    made: Set[str] = set()
+    for status in filter(None, (status_of(path) for path in sorted(there) if os.path.basename(path) == STATUS)):
         readers = [born for born, paths in read if not paths.isdisjoint(status.made)]  # guard: makefile-that-is-read
-        status.drop_stamps(names, lives, min(readers, default=0))  # guard: stamps-that-recipes-make
-        statuses += [status] if is_configured(status, changed, readers) else []
-    ran = made_by_makes(makes, names)
-    return {path for status in statuses for path in status.made if path not in changed or ran.get(path, changed[path]) >= changed[path]}  # guard: what-it-made
+        fresh = {path for path in (status.stamps & written.keys()) - names.before.keys() if written[path][0] > min(readers, default=0)}  # guard: stamps-of-command
+        status.made -= fresh  # guard: stamps-that-recipes-make
+        made |= status.made if is_configured(status, written, readers) else set()
+    ran = {names.find(make.folder, job.target, True).path: make.life.born for make in makes for one in make.words.rounds for job in one.jobs}
+    return {path for path in made if path not in written or ran.get(path, written[path][1]) >= written[path][1]}  # guard: what-it-made
 
 
-def made_by_makes(makes: List[Make], names: Names) -> Dict[str, int]:
-    """The targets whose recipes ran, and where the first make of them began: one that makes a template before configure runs is judged as any other."""
-    found: Dict[str, int] = {}
-    for make in makes:
-        for path in {names.find(make.folder, job.target, True).path for one in make.words.rounds for job in one.jobs}:
-            found[path] = min(found.get(path, make.life.born), make.life.born)
-    return found
-
-
-def last_changes(lives: List[Life]) -> Dict[str, int]:
-    """Where each name was changed last."""
-    found: Dict[str, int] = {}
-    for life in lives:
-        for (kind, path), place in life.events.items():
-            if kind in CHANGES:
-                found[path] = max(found.get(path, 0), place, life.changed.get(path, 0))  # guard: later-changes-of-one-file
-    return found
-
-
-def first_changes(lives: List[Life], paths: Set[str]) -> Dict[str, int]:
-    """Where some names were changed first."""
-    found: Dict[str, int] = {}
-    for life in lives:
-        for kind, path in life.events if paths else ():
-            if kind in CHANGES and path in paths:
-                found[path] = min(found.get(path, 1 << 60), life.events[kind, path])
-    return found
-
-
-def is_configured(status: Status, changed: Dict[str, int], readers: List[int]) -> bool:
+def is_configured(status: Status, written: Dict[str, Tuple[int, int]], readers: List[int]) -> bool:
     """Whether what a `config.status` says is there when the first make begins that reads a makefile of it: nobody changes any of it, or the command makes
     the `config.status` itself, and nobody changes any of it later."""
-    places = [changed[path] for path in status.made if path in changed]
-    return bool(readers) and (not places or status.path in changed and max(places) < min(readers))  # guard: what-build-changes
+    places = [written[path][1] for path in status.made if path in written]
+    return bool(readers) and (not places or status.path in written and max(places) < min(readers))  # guard: what-build-changes
 
 
 def status_of(path: str) -> Optional[Status]:

@@ -15,7 +15,6 @@ used such a name:
 """
 
 import os
-import re
 import shlex
 import subprocess
 import sys
@@ -23,7 +22,7 @@ import tempfile
 from dataclasses import dataclass, field
 from fnmatch import fnmatchcase
 from functools import cached_property
-from typing import TYPE_CHECKING, Dict, FrozenSet, Iterable, Iterator, List, Sequence, Set, Tuple
+from typing import TYPE_CHECKING, Container, Dict, FrozenSet, Iterable, Iterator, List, Sequence, Set, Tuple
 
 from record import machine
 from record.make.owners import Make
@@ -38,7 +37,6 @@ GIT = ["git", "--no-optional-locks", "-c", "safe.directory=*"]
 CONFIGURED_BY = ("CMakeCache.txt", "meson-info")  # what stands at the top of a folder that CMake or Meson configured
 FOLDER_USED = SEEN + ENTERED + LISTED + CREATED
 NAMED = 3  # so many new files are named
-NO_RULES = re.compile(r"(?:[ \t]*(?:#.*)?\n)*[ \t]*(?:#.*)?")  # a makefile of comments alone
 
 
 @dataclass(frozen=True)
@@ -148,7 +146,7 @@ def configured_tops(paths: Iterable[str]) -> List[str]:
 
 def has_rules(text: str) -> bool:
     """Whether a makefile says more than comments."""
-    return not NO_RULES.fullmatch(text)
+    return any(line.strip(" \t")[:1] not in ("", "#") for line in text.split("\n"))
 
 
 def left_behind(tree: FirstTree, before: Dict[str, str], lives: "List[Life]", builds: "Sequence[Build]", kept: str, texts: Dict[str, str],
@@ -257,19 +255,8 @@ def listed(before: Dict[str, str], builds: "Iterable[Build]") -> Iterator[str]:
             yield path  # guard: what-lists-show
 
 
-@dataclass
-class Release:
-    """What came with the tree, though the build has a recipe for it: a manual, a parser, a stamp of translations."""
-
-    tree: FirstTree
-    written: Set[str]  # what recipes of this build wrote
-    since: float  # when the project was configured
-
-    @classmethod
-    def of(cls, tree: FirstTree, statuses: Iterable[str], written: Set[str]) -> "Release":
-        """By each `config.status` that was there, and that this build did not change; where `--setup` configures, all that was there is older."""
-        return cls(tree, written, float("inf") if tree.setup else max((machine.mtime(path) for path in statuses if machine.exists(path)), default=float("-inf")))
-
-    def has(self, path: str) -> bool:
-        """Whether git tracks it, or, elsewhere, it is older than the configuration and no recipe of this build wrote it."""
-        return self.tree.has(path) or not self.tree.top and path not in self.written and machine.exists(path) and machine.mtime(path) <= self.since  # guard: what-came-with-release
+def came_with(tree: FirstTree, paths: Iterable[str], statuses: Iterable[str], written: Container[str]) -> Set[str]:
+    """Of what the build has recipes for what came with the tree: a manual, a parser, a stamp of translations. That is what git tracks; elsewhere what no
+    recipe of this build wrote, and is older than a `config.status` that was there, or than what `--setup` runs."""
+    since = float("inf") if tree.setup else max((machine.mtime(path) for path in statuses if machine.exists(path)), default=float("-inf"))
+    return {path for path in paths if tree.has(path) or not tree.top and path not in written and machine.exists(path) and machine.mtime(path) <= since}  # guard: what-came-with-release
