@@ -26,6 +26,7 @@ from typing import TYPE_CHECKING, Container, Dict, FrozenSet, Iterable, Iterator
 
 from record import machine
 from record.make.owners import Make
+from record.messages import plural
 from record.trace.events import BY_LIST, CHANGES, CREATED, ENTERED, HELD, LISTED, MADE_BEFORE, MAKES, OUTPUT, READ, REFUSED, SEEN
 from record.trace.names import Names
 
@@ -92,11 +93,6 @@ class FirstTree:
 def first_names(names: Sequence[str]) -> str:
     """The first of some names."""
     return ", ".join(names[:NAMED]) + (", .." if len(names) > NAMED else "")
-
-
-def plural(count: int, word: str) -> str:
-    """`1 new file`, `2 new files`."""
-    return "%d %s%s" % (count, word, "" if count == 1 else "s")
 
 
 def git(folder: str, *words: str) -> str:

@@ -9,7 +9,7 @@ import tempfile
 from contextlib import contextmanager
 from dataclasses import dataclass, field
 from pathlib import Path
-from typing import TYPE_CHECKING, Any, Container, Dict, Iterator, List, Optional, Set, Tuple
+from typing import TYPE_CHECKING, Any, Container, Dict, Iterable, Iterator, List, Optional, Set, Tuple
 
 from record import VERSION, machine
 from record.entry import in_one_step
@@ -139,28 +139,31 @@ def callers(builds: "List[Build]") -> Dict[int, Dict[str, str]]:
     return found
 
 
+def label_about(build: "Build", at: int, places: Places, leaves: Set[str]) -> Dict[str, Any]:
+    """What the label of a task stands for. Who waits for a recipe that leaves no file under its target's name does so behind `|`: make would run it
+    again each time."""
+    task, root, own = build.tasks[at], build.folder, build.about(at)
+    edited, part = places.of(task.node.name, own), task.part
+
+    def names(paths: Iterable[str]) -> List[str]:
+        return sorted(relative(root, path) for path in paths)
+
+    place = {key: shown(value) if isinstance(value, str) else value for key, value in own.items()}
+    more: Dict[str, Any] = {
+        "command": shown(part.words) if part else None, "left": part is not None and part.is_left,
+        "asks": names(task.asks & task.reads), "lists": names(task.lists), "leaves": names(leaves),
+        "folders": {how: names(paths) for how, paths in task.folders.items()},
+        "order_only": task.kind == "recipe" and not machine.isfile(os.path.join(root, task.node.name)),  # guard: who-waits-for-what-leaves-no-file
+        "place": [shown(edited[0]), edited[1]] if edited else [],
+    }
+    return {"target": shown(task.node.name), "kind": task.kind, **place, **{key: value for key, value in more.items() if value not in (None, False, [], {})}}
+
+
 def write_build(folder: Path, build: "Build", within: Optional[Dict[str, str]], record: Record) -> None:
-    """One round: its tasks, what its labels and names stand for, and the task `within` which it ran. Who waits for a recipe that leaves no file
-    under its target's name does so behind `|`: make would run it again each time."""
+    """One round: its tasks, what its labels and names stand for, and the task `within` which it ran."""
     folder.mkdir(parents=True)
-    labels = labels_of(build.tasks)
-    root = build.folder
-    about: Dict[str, Any] = {}
-    places, leaves = Places(root, build.makefiles()), leaves_of(build)
-    for at, (label, task) in enumerate(zip(labels, build.tasks)):
-        own = build.about(at)
-        edited = places.of(task.node.name, own)
-        place: Dict[str, Any] = {key: shown(value) if isinstance(value, str) else value for key, value in own.items()}
-        own_names = {key: sorted(relative(root, path) for path in paths) for key, paths in (("asks", task.asks & task.reads), ("lists", task.lists)) if paths}
-        part = task.part
-        if part is not None:
-            place["command"] = shown(part.words)
-            place.update({"left": True} if part.is_left else {})
-        is_loose = task.kind == "recipe" and not machine.isfile(os.path.join(root, task.node.name))  # guard: who-waits-for-what-leaves-no-file
-        about[label] = {"target": shown(task.node.name), "kind": task.kind, **place, **own_names,
-                        **({"leaves": sorted(relative(root, path) for path in leaves[id(task.node)])} if leaves[id(task.node)] else {}),
-                        **({"folders": {how: sorted(relative(root, path) for path in paths) for how, paths in task.folders.items()}} if task.folders else {}),
-                        **({"order_only": True} if is_loose else {}), **({"place": [shown(edited[0]), edited[1]]} if edited else {})}
+    root, labels, places, leaves = build.folder, labels_of(build.tasks), Places(build.folder, build.makefiles()), leaves_of(build)
+    about = {label: label_about(build, at, places, leaves[id(build.tasks[at].node)]) for at, label in enumerate(labels)}
     edges = 0
     with open(folder / "tasks", "w", encoding="utf-8", errors="backslashreplace") as file:
         for label, line in lines_of(build.tasks, root, labels):
@@ -316,15 +319,12 @@ def former(folder: Path) -> Tuple[float, int]:
         return 0.0, 0
 
 
-def is_record(folder: Path) -> bool:
-    """Whether a folder may be replaced: it is absent, empty, or a record."""
-    return not folder.exists() or (folder / "record.json").is_file() or (folder.is_dir() and not any(folder.iterdir()))
-
-
 def what_stands(folder: Path) -> str:
-    """What stands where a record is wanted."""
+    """What stands where a record is wanted; nothing where it may be replaced: it is absent, empty, or a record."""
+    if not folder.exists() or (folder / "record.json").is_file():
+        return ""
     if not folder.is_dir():
         return "a file"
     names = sorted(path.name for path in folder.iterdir())
     more = " and %d more" % (len(names) - FOUND) if len(names) > FOUND else ""
-    return "a folder without record.json, with %s%s" % (", ".join(names[:FOUND]), more)
+    return "a folder without record.json, with %s%s" % (", ".join(names[:FOUND]), more) if names else ""

@@ -25,7 +25,7 @@ from record.entry import STOPPING, UNHEARD, Stopped, end_traced, forget_coerced
 from record.messages import printable
 from record.facts import Facts, begun, first_tree
 from record.first_tree import FirstTree, first_names, tree_of
-from record.folder import NO_ROOM, Idle, NotWhole, Record, Taken, accept_warm, alone, aside, former, is_record, reading, rewrite, room_of_programs, rooms_of_programs, what_stands
+from record.folder import NO_ROOM, Idle, NotWhole, Record, Taken, accept_warm, alone, aside, former, reading, rewrite, room_of_programs, rooms_of_programs, what_stands
 from record.build.assumptions import UNTRIED
 from record.fresh import clean, fresh_tree, in_place
 from record.judge import find_race, judge, no_race
@@ -413,7 +413,7 @@ def run(options: argparse.Namespace) -> int:
     except Missing as missing:
         return stop(str(missing))
     out = Path(options.output).absolute()
-    if not is_record(out):
+    if what_stands(out):
         return stop("%s is there and is no record: it is %s. Nothing there was changed; name another folder by -o" % (out, what_stands(out)))
     if not options.words:
         return judge_warm(out, race) if out.exists() else stop("there is no record in %s: which command builds the project? (race-record --warm -- make)" % out)

@@ -20,3 +20,8 @@ def reason(error: OSError) -> str:
     what = error.strerror or str(many[0][-1] if isinstance(many, list) and many else error) or type(error).__name__
     what += HELPS.get(error.errno or 0, "")
     return "%s: %s" % (os.fsdecode(error.filename), what) if isinstance(error.filename, (str, bytes)) else what
+
+
+def plural(count: int, word: str) -> str:
+    """`1 race`, `2 races`."""
+    return "%d %s%s" % (count, word, "" if count == 1 else "s")

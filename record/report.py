@@ -11,6 +11,7 @@ from typing import Any, Dict, List, Sequence, Tuple
 from record.fixes import Remedy, is_needed, merged, remedy
 from record.judge import Race, Verdict, explained
 from record.kinds import Meeting, target, whole
+from record.messages import plural
 from record.ninja.fix import pool_text
 from record.orders import result
 from record.pages import after_no_verdict
@@ -133,11 +134,6 @@ def race_text(one: Judged, races: List[Race]) -> List[str]:
 def short(words: str) -> str:
     """The first words of a call: a make may hand on a hundred macros. record.json has them all."""
     return words if len(words) <= WORDS else words[:WORDS].rpartition(" ")[0] + " .."  # guard: calls-with-many-words
-
-
-def plural(count: int, word: str) -> str:
-    """`1 race`, `2 races`."""
-    return "%d %s%s" % (count, word, "" if count == 1 else "s")
 
 
 def in_order(count: int, word: str) -> str:

@@ -10,9 +10,10 @@ from typing import Any, Dict, Iterator, List, Tuple
 from record.folder import name_from
 from record.judge import explained
 from record.kinds import target
+from record.messages import plural
 from record.missing.inputs import Answer, Found, judge_missing
 from record.pages import after_no_verdict
-from record.report import Colours, listed, near, place, plural, read_json, spot
+from record.report import Colours, listed, near, place, read_json, spot
 from record.build.text import shown
 
 SHOWN_FILES, SHOWN_TARGETS = 40, 5

@@ -97,7 +97,7 @@ GUARDS: List[Guard] = [
     *guards("folder.py",
         ("waits-that-are-not-all-known", "left = [example for example, waits in self.lucky.items() if not waits & known]", "waits.Names.what_is_left"),
         ("what-orders-try-out", "pass", "orders.Orders.premises"),
-        ("who-waits-for-what-leaves-no-file", "is_loose = False and not machine.isfile(os.path.join(root, task.node.name))", "small.Makefiles.fix_by_what_leaves_no_file", UNSAID),
+        ("who-waits-for-what-leaves-no-file", '"order_only": False,', "small.Makefiles.fix_by_what_leaves_no_file", UNSAID),
         ("where-nothing-can-be-removed", "pass", "ends.Moves.to_another_device"),
         ("older-record", "except ValueError as fault:", "ends.Moves.a_record_that_cannot_come_back"),
         ("one-at-time", r'bytes(b"\0race-record " + hashlib.sha256(place).digest())', "ends.Moves.one_at_a_time"),
