@@ -32,7 +32,7 @@ FOUND = 3  # so many names of a folder that is no record
 
 
 class Taken(Exception):
-    """The place of the record is in use."""
+    """The place of the record is in use, or there is none for what comes before it."""
 
 
 class Idle(Exception):
@@ -283,10 +283,13 @@ def rooms_of_programs() -> List[str]:
     return [path for path in named if os.path.isabs(path) and os.path.isdir(path)]
 
 
-def room_of_programs(tops: List[str]) -> Optional[str]:
+def room_of_programs(tops: List[str]) -> str:
     """The first one in which programs run, and which is no part of the project."""
     inside = [os.path.realpath(top).rstrip("/") + "/" for top in tops]
-    return next((path for path in rooms_of_programs() if runs_programs(path) and (path == ROOMS or not (os.path.realpath(path) + "/").startswith(tuple(inside)))), None)  # guard: temporary-folders
+    for path in filter(runs_programs, rooms_of_programs()):  # guard: rooms-that-run-programs
+        if path == ROOMS or not (os.path.realpath(path) + "/").startswith(tuple(inside)):  # guard: temporary-folders
+            return path
+    raise Taken(NO_ROOM % ", ".join(rooms_of_programs()))
 
 
 @contextmanager

@@ -25,7 +25,7 @@ from record.entry import STOPPING, UNHEARD, Stopped, end_traced, forget_coerced
 from record.messages import printable
 from record.facts import Facts, begun, first_tree
 from record.first_tree import FirstTree, first_names, tree_of
-from record.folder import NO_ROOM, Idle, NotWhole, Record, Taken, accept_warm, alone, aside, former, reading, rewrite, room_of_programs, rooms_of_programs, what_stands
+from record.folder import Idle, NotWhole, Record, Taken, accept_warm, alone, aside, former, reading, rewrite, room_of_programs, what_stands
 from record.build.assumptions import UNTRIED
 from record.fresh import clean, fresh_tree, in_place
 from record.judge import find_race, judge, no_race
@@ -72,7 +72,7 @@ WARM_FRESH = ("WARM: the build used what was there before, and --fresh leaves it
 
 
 class Missing(Exception):
-    """A tool is not there, too old, or may not do its work."""
+    """A tool or a file is not there, too old, or may not do its work."""
 
 
 @lru_cache(maxsize=None)
@@ -102,14 +102,13 @@ def versions() -> Dict[str, str]:
     return found
 
 
-def silent_make(word: str) -> str:
-    """What to say where the make of a command, or the first one on PATH, cannot say what it does; nothing where it can."""
+def refuse_silent(word: str) -> None:
+    """Refuses a make of a command, or the first one on PATH, that cannot say what it does."""
     for name in ([word] if os.path.basename(word) in MAKES else []) + ["make"]:
         path = os.path.realpath(shutil.which(name) or "/")
         why = why_silent(path) if os.path.isfile(path) else ""
-        if why:
-            return SILENT % (path, why)
-    return ""
+        if why:  # guard: make-that-shows-no-names
+            raise Missing(SILENT % (path, why))
 
 
 def has_calls(trace: Path) -> bool:
@@ -233,12 +232,6 @@ def parse(args: List[str]) -> argparse.Namespace:
     return found
 
 
-def stop(text: str) -> int:
-    """A usage fault or a missing tool."""
-    print("race-record: " + text, file=sys.stderr)
-    return 3
-
-
 def no_command(word: str) -> str:
     """What to say of a command that cannot be run."""
     if word in PACKAGES:
@@ -273,8 +266,6 @@ def attempt(options: argparse.Namespace, words: List[str], tools: Dict[str, str]
     with machine.answering(before):
         names, kept = first_tree(tops_of(words, options.top), options.linked)
     rooms = room_of_programs(names.tops)
-    if rooms is None:
-        raise Missing(NO_ROOM % ", ".join(rooms_of_programs()))
     room = Path(tempfile.mkdtemp(prefix="race-record-", dir=rooms))
     spool, watch = Path(os.path.realpath(room)), Watch(os.path.dirname(options.gate) or rooms, options.gate)
     try:
@@ -318,7 +309,7 @@ def record_all(options: argparse.Namespace, tools: Dict[str, str], out: Path, ra
         room, running, why = None, None, ""
         rooms = room_of_programs(tops)
         try:
-            if options.orders and rooms:
+            if options.orders:
                 room = stack.enter_context(new_room(tops, prepared(options), options.words, os.path.realpath(out), rooms, partial(record_in_order, options, tools, first)))
                 running = stack.enter_context(beside(room, options.expected, options.made))
         except (CannotCopy, CannotTry) as fault:
@@ -405,31 +396,19 @@ def run(options: argparse.Namespace) -> int:
     """Records, writes, asks, reports."""
     race = find_race(options.race)
     if race is None:
-        return stop(no_race(options.race))
+        raise Missing(no_race(options.race))
     if options.missing and not import_module("record.missing.inputs").knows_missing(race):
-        return stop("%s does not answer `race missing --tasks`: it is an older version of race, or another program. Name race by --race, or leave --missing out" % race)
-    try:
-        tools = versions()
-    except Missing as missing:
-        return stop(str(missing))
-    out = Path(options.output).absolute()
+        raise Missing("%s does not answer `race missing --tasks`: it is an older version of race, or another program. Name race by --race, or leave --missing out" % race)
+    tools, out = versions(), Path(options.output).absolute()
     if what_stands(out):
-        return stop("%s is there and is no record: it is %s. Nothing there was changed; name another folder by -o" % (out, what_stands(out)))
+        raise Missing("%s is there and is no record: it is %s. Nothing there was changed; name another folder by -o" % (out, what_stands(out)))
     if not options.words:
-        return judge_warm(out, race) if out.exists() else stop("there is no record in %s: which command builds the project? (race-record --warm -- make)" % out)
+        return judge_warm(out, race)
     if shutil.which(options.words[0]) is None:
-        return stop(no_command(options.words[0]))
-    why = silent_make(options.words[0])
-    if why:  # guard: make-that-shows-no-names
-        return stop(why)
-    try:
-        with alone(out):
-            return record_and_judge(options, tools, out, race)
-    except Idle as idle:
-        print("\n".join(["NO VERDICT", *("  - %s" % why for why in idle.args), "  the record that was in %s stays: race-report shows it" % out]))
-        return 2
-    except (CannotClean, Missing, NotBuilt, Taken) as fault:
-        return stop(str(fault))
+        raise Missing(no_command(options.words[0]))
+    refuse_silent(options.words[0])
+    with alone(out):
+        return record_and_judge(options, tools, out, race)
 
 
 def record_and_judge(options: argparse.Namespace, tools: Dict[str, str], out: Path, race: str) -> int:
@@ -452,10 +431,12 @@ def record_and_judge(options: argparse.Namespace, tools: Dict[str, str], out: Pa
 
 def judge_warm(out: Path, race: str) -> int:
     """The verdict on a record that is there, about builds that start from its tree."""
+    if not out.exists():
+        raise Missing("there is no record in %s: which command builds the project? (race-record --warm -- make)" % out)
     with reading(out):
         record = read_json(out / "record.json")
         if record.get("version") != VERSION:
-            return stop("%s is of another version of race-record: record again" % out)
+            raise Missing("%s is of another version of race-record: record again" % out)
         for number in record["builds"]:
             read_json(out / "builds" / number / "build.json")
         accept_warm(out, record)  # from here on it is changed
@@ -482,5 +463,9 @@ def main(args: Optional[List[str]] = None) -> int:
         return 3 if ended.code else 0
     try:
         return run(options)
-    except NotWhole as fault:
-        return stop(str(fault))
+    except Idle as idle:
+        print("\n".join(["NO VERDICT", *("  - %s" % why for why in idle.args), "  the record that was in %s stays: race-report shows it" % Path(options.output).absolute()]))
+        return 2
+    except (CannotClean, Missing, NotBuilt, NotWhole, Taken) as fault:
+        print("race-record: %s" % fault, file=sys.stderr)
+        return 3
