@@ -37,7 +37,7 @@ GUARDS: List[Guard] = [
         ("signals-while-folders-move", "with masked(signal.SIG_UNBLOCK, {*STOPPING}) as old:", "cold_copy.Places.signal_at_each_step"),
         ("end-of-child", "if False:", "callers.Places.end_of_a_child_that_the_caller_ignores"),
         ("end-of-child-as-caller", "pass", "callers.Places.end_of_a_child_that_the_caller_ignores"),
-        ("what-strace-followed-and-has-left", "found = {*traced(strace.pid)}", "ends.Signals.strace_that_ended_before_the_build"),
+        ("what-strace-followed-and-has-left", "found = [*traced(strace.pid)]", "ends.Signals.strace_that_ended_before_the_build"),
         ("what-becomes-another-program", "while looks < 1 and time.monotonic() < until:", "ends.Signals.what_becomes_another_program"),
         ("what-strace-has-left-and-lives", "looks = looks + 1 if is_over else 0", "ends.Signals.what_does_not_hear_the_first_signal"),
         ("what-locale", 'dict({"LC_CTYPE": os.fsdecode(value) for value in given[:1]})', "callers.Places.signs_where_no_locale_is_set"),
