@@ -8,13 +8,9 @@ from record import machine
 from record.build.tasks import Build, Task
 from record.build.text import relative, shown
 from record.make.graph import MakeBuild
+from record.missing.footprints import is_below
 from record.trace.events import CREATED, REMOVED, WRITTEN
 from record.trace.names import Names
-
-
-def is_below(path: str, folder: str) -> bool:
-    """Whether a path is a folder or below it."""
-    return path == folder or path.startswith(folder.rstrip("/") + "/")
 
 
 def listing(build: Build, names: Names, out: str) -> List[str]:

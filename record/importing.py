@@ -12,8 +12,6 @@ from typing import Dict
 
 from record import machine
 from record.build.assumptions import Assumptions
-from record.cleaned import Cleaned
-from record.clock import named_by_time
 from record.configured import STATUS, find_configured
 from record.facts import Facts
 from record.failed import note_failure
@@ -26,7 +24,7 @@ from record.make.spellings import twice
 from record.make.words import makefiles, read_logs
 from record.ninja.builds import versions as ninja_versions
 from record.ninja.builds import beside, find_ninjas, import_ninjas
-from record.premises import add_granted, add_granted_by_ninjas, add_seen
+from record.premises import add_granted, add_granted_by_ninjas, add_seen, named_by_time, unasked
 from record.progress import watched
 from record.tools.caches import settle_caches
 from record.tools.exists import credit_makes, settle_exists
@@ -37,9 +35,8 @@ from record.trace.names import mounts_below
 from record.trace.sifting import SYSTEM, unseen_changes
 from record.trace.snapshots import Past
 from record.trace.strace import read_trace
-from record.unasked import unasked
 from record.watch.files import OWN_WORDS, PRINTS, files_in, open_file, read_start
-from record.warm import did_nothing, is_inside, made_unseen, stand_alone, warm_names
+from record.warm import Cleaned, did_nothing, is_inside, made_unseen, stand_alone, warm_names
 
 
 IDLE = "nothing was to be done, so nothing was seen: record a clean tree (--fresh)"

@@ -2,12 +2,12 @@
 
 import os
 import re
+import sys
 from dataclasses import dataclass
-from typing import Dict, Iterator, List, Set
+from typing import Dict, Iterable, Iterator, List, Set
 
 from record import machine
 from record.build.tasks import Build, Node
-from record.cleaned import Cleaned
 from record.commands.shelltext import SHELLS
 from record.commands.system import OF_SYSTEM
 from record.make.database import Base
@@ -18,11 +18,37 @@ from record.missing.footprints import is_below
 from record.ninja.runs import Ninja
 from record.trace.lives import Life
 from record.trace.names import Names
+from record.trace.snapshots import Change, Past
 
 CHANGES = "WCDMTX"  # kinds of events of a file or a folder
 BUILDS = re.compile(r"make|ninja", re.I)  # a recipe that may run several others  # guard: recipes-that-build
 RUNS_NOTHING = re.compile(r"[\s@+-]*(?:true|:)?\s*")  # a line of a recipe
 MAKES_FOLDER = re.compile(r"\s*[@+-]*\s*mkdir\s+(?:(?:-p|--parents)\s+)?(?:\$@|\$\(@\)|([^\s;&|<>`$*?\[]+?))/?\s*")
+
+
+class Cleaned:
+    """Targets of an earlier build that were removed before a make or a ninja began, as by `cmake --build DIR --clean-first` or a script with `make clean`. By
+    name: when the first make or ninja began that found it absent."""
+
+    def __init__(self, names: Names, changes: List[Change], tools: Iterable[Life], lives: Iterable[Life]) -> None:
+        past, left = Past(names.before, changes), {path.rstrip("/") for _, kind, path in changes if kind in "DX"} & names.before.keys()
+        self.since: Dict[str, int] = {}
+        for start in sorted({start_of(life) for life in tools}):
+            found = left - past.until(start).keys()
+            self.since.update(dict.fromkeys(found, start))
+            left -= found
+        own = (life for life in lives if not any(up.is_make or up.is_ninja for up in life.up()))  # guard: what-makes-have-made-since
+        for path in {path for life in own for kind, path in life.events if kind == "C"}:
+            self.since.pop(path, None)  # what a script makes again may be of the earlier build  # guard: what-is-put-back
+
+    def is_gone(self, path: str, life: Life) -> bool:
+        """Whether a make or a ninja found it absent, or as recipes have made it since."""
+        return self.since.get(path, sys.maxsize) <= start_of(life)  # guard: what-is-removed-first
+
+
+def start_of(life: Life) -> int:
+    """When a make or a ninja began. A make begins anew where it has remade a makefile; a script may become a ninja."""
+    return life.starts[0 if life.is_make else -1][0]
 
 
 @dataclass(frozen=True)
@@ -73,7 +99,7 @@ def warm_names(makes: List[Make], builds: List[Build], ninjas: List[Ninja], name
     """
     found = {path for build in builds for path in left_folders(build, builds, names) if not cleaned.is_gone(path, build.make.life)}  # guard: folders-that-are-left
     made = {path for ninja in ninjas for path in made_by(ninja, names)}
-    for path in (path for ninja in ninjas for path in outputs_of(ninja, names) if not cleaned.is_gone(path, ninja.life)):  # guard: what-is-removed-first
+    for path in (path for ninja in ninjas for path in outputs_of(ninja, names) if not cleaned.is_gone(path, ninja.life)):  # guard: what-ninja-finds-removed
         kinds = ("f", "l") if path in made else ("f", "l", "d")  # a folder too: its statement did not run  # guard: folder-that-is-up-to-date
         if names.before.get(path) in kinds or path not in made and is_beyond(path, names):  # guard: outputs-outside-of-project
             found.add(path)

@@ -5,7 +5,7 @@ import unittest
 from typing import List
 
 import support
-from record.clock import clock
+from record.premises import clock
 from record.commands import shelltext
 from record.commands.system import OF_SYSTEM
 from test_output import Output
