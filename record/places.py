@@ -34,11 +34,7 @@ class Places:
         generator = self.generator() if target or owner.get("by") == "cmake" else None
         if generator:
             return generator.place(target, name)
-        return None if about.get("file") else next(rules_of(name, self.makefiles, self.folder), None) or self.first()
-
-    def first(self) -> Optional[Place]:
-        """The file that make read first."""
-        return (self.makefiles[0], 1) if self.makefiles else None
+        return None if about.get("file") else next(rules_of(name, self.makefiles, self.folder), None) or next(((file, 1) for file in self.makefiles), None)
 
     def generator(self) -> Optional["CMake"]:
         """What CMake left of the folder that this build is in."""
@@ -71,7 +67,8 @@ class CMake:
         found = SOURCE.search("\n".join(lines_of(str(top / "CMakeCache.txt"))))
         self.top, self.source = top, Path(found.group(1)) if found else top
         self.known = dict(self.replied())
-        self.files = [path for path in [self.source / "CMakeLists.txt", *map(Path, machine.found(str(self.source), "**/CMakeLists.txt"))][:FILES] if not within(path, top)]
+        files = [self.source / "CMakeLists.txt", *map(Path, machine.found(str(self.source), "**/CMakeLists.txt"))][:FILES]
+        self.files = [path for path in files if top not in path.parents or machine.isfile(str(top / "CMakeLists.txt"))]  # not what is in the folder of a build alone
 
     def replied(self) -> Iterator[Tuple[str, Place]]:
         """The targets of its file API, where somebody asked for that before it configured."""
@@ -93,11 +90,6 @@ class CMake:
     def search(self, pattern: "re.Pattern[str]") -> Optional[Place]:
         """The first line in which a pattern is found."""
         return next(((str(path), number) for path in self.files for number, line in enumerate(lines_of(str(path)), 1) if pattern.search(line)), None)
-
-
-def within(path: Path, folder: Path) -> bool:
-    """Whether a path is below a folder which is not the folder of the sources."""
-    return folder in path.parents and not machine.isfile(str(folder / "CMakeLists.txt"))
 
 
 def meson_place(folder: str, name: str) -> Optional[Place]:

@@ -3,7 +3,7 @@
 import sys
 import time
 from contextlib import suppress
-from dataclasses import dataclass, field
+from dataclasses import dataclass
 from typing import IO, AnyStr, Callable, Iterable, Iterator, Optional
 
 FIRST, STEP = 1.0, 0.5  # seconds
@@ -21,21 +21,19 @@ class Elapsed:
     out: Optional[IO[str]] = None  # else standard error
     clock: Callable[[], float] = time.monotonic
     ended: int = 0
-    began: float = field(init=False)
-    due: float = field(init=False)
 
     def __post_init__(self) -> None:
         self.out = self.out or sys.stderr
         self.is_terminal = self.out is not None and self.out.isatty()
-        self.began = self.clock()
-        self.due = self.began + (EVERY if self.is_terminal else MINUTE)
+        self.every, self.began = EVERY if self.is_terminal else MINUTE, self.clock()
+        self.due = self.began + self.every
 
     def see(self, lines: bytes) -> None:
         """Takes what strace has written since the last call, which may be nothing."""
         self.ended += lines.count(EXITED)
         now = self.clock()
         if now >= self.due:
-            self.due = now + (EVERY if self.is_terminal else MINUTE)
+            self.due = now + self.every
             self.show(self.text(now - self.began) + ("\x1b[K\r" if self.is_terminal else "\n"))
 
     def text(self, seconds: float) -> str:
@@ -51,7 +49,7 @@ class Elapsed:
 
     def end(self) -> None:
         """Takes the line away."""
-        if self.is_terminal and self.due > self.began + EVERY:
+        if self.is_terminal and self.due > self.began + self.every:
             self.show(WIPE)
 
 
@@ -60,13 +58,11 @@ def clock_text(seconds: float) -> str:
     return "%d:%02d" % divmod(int(seconds), 60)
 
 
-def watched(lines: Iterable[AnyStr], size: int, out: IO[str] = sys.stderr, clock: Callable[[], float] = time.monotonic) -> Iterable[AnyStr]:
-    """The lines of a trace of so many bytes, or pieces of it; where `out` is a terminal it shows the share that was read."""
-    return counted(lines, size, out, clock) if out.isatty() else lines
-
-
-def counted(lines: Iterable[AnyStr], size: int, out: IO[str], clock: Callable[[], float]) -> Iterator[AnyStr]:
-    """The same lines, with the share every half a second."""
+def watched(lines: Iterable[AnyStr], size: int, out: IO[str] = sys.stderr, clock: Callable[[], float] = time.monotonic) -> Iterator[AnyStr]:
+    """The lines of a trace of so many bytes, or pieces of it; where `out` is a terminal it shows the share that was read, every half a second."""
+    if not out.isatty():
+        yield from lines
+        return
     due, done, has_shown, looked = clock() + FIRST, 0, False, 0
     for line in lines:
         done += len(line)

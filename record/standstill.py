@@ -15,7 +15,6 @@ WIDTH = 100  # signs of a command
 # A file that was opened to change it, and is no device, or a name that came or went. A recipe that waits starts processes, and looks at files.
 CHANGE = re.compile(rb"O_(?:WRONLY|RDWR|CREAT|TRUNC)[^\n]*\) = \d+</(?!dev/|proc/)"  # guard: devices
                     rb"|\b(?:rename|unlink|rmdir|mkdir|mknod|link|symlink|truncate)\w*\([^\n]*\) = 0\n")  # guard: names-that-cannot-be-made
-STATUS = re.compile(r"Name:\t(.*)\n(?:.*\n)*?PPid:\t(\d+)\n")
 BUILDERS = ("make", "gmake", "ninja")
 LINE = ("race-record: no file was made or changed for %d minutes%s. With one job a recipe that waits for another one never ends: "
         "stop it with Ctrl-C (then there is no verdict), and let it need the other one. A long test or download may go on")
@@ -43,19 +42,13 @@ class Standstill:
                 print(printable(LINE % (PATIENCE // 60, "; this runs: " + command if command else "")), file=self.out or sys.stderr, flush=True)
 
 
-def began(pid: int) -> int:
-    """When a process began, in ticks of the clock."""
-    with open("/proc/%d/stat" % pid, errors="replace") as about:
-        return int(about.read().rpartition(")")[2].split()[19])
-
-
 def running(tracer: int) -> str:
     """The command of the recipe that runs, the innermost one: what a make or a ninja has started and is neither."""
-    found: Dict[int, Tuple[str, int, str, int]] = {}
+    found: Dict[int, Tuple[int, str, int, str]] = {}  # when it began, in ticks of the clock, its name, its parent, its words
     for pid in traced(tracer):
-        with suppress(OSError), open("/proc/%d/status" % pid, errors="replace") as status, open("/proc/%d/cmdline" % pid, errors="replace") as words:
-            name = STATUS.match(status.read())
-            found[pid] = (name[1], int(name[2]), words.read(), began(pid)) if name else ("", 0, "", 0)
-    in_order = [found[pid] for pid in sorted(found, key=lambda pid: (found[pid][3], pid))]  # (numbers begin again)  # guard: numbers-that-begin-again
-    commands = [words for name, parent, words, _ in in_order if name not in BUILDERS and found.get(parent, ("",))[0] in BUILDERS]  # guard: recipe
+        with suppress(OSError), open("/proc/%d/stat" % pid, errors="replace") as stat, open("/proc/%d/cmdline" % pid, errors="replace") as words:
+            name, _, about = stat.read().partition("(")[2].rpartition(")")
+            found[pid] = (int(about.split()[19]), name, int(about.split()[1]), words.read())
+    in_order = [found[pid] for pid in sorted(found, key=lambda pid: (found[pid][0], pid))]  # (numbers begin again)  # guard: numbers-that-begin-again
+    commands = [words for _, name, parent, words in in_order if name not in BUILDERS and parent in found and found[parent][1] in BUILDERS]  # guard: recipe
     return " ".join(commands[-1].replace("\0", " ").split())[:WIDTH] if commands else ""

@@ -178,7 +178,7 @@ GUARDS: List[Guard] = [
         ("once", "pass", "standstill.Lines.nothing_changes"),
         ("where-it-cannot-be-written", "with suppress():", "standstill.Lines.nobody_reads_it"),
         ("numbers-that-begin-again", "in_order = [found[pid] for pid in sorted(found, key=lambda pid: pid)]", "standstill.Recorded.numbers_of_processes_begin_again", "'cc x' != 'sh x'"),
-        ("recipe", "commands = [words for name, parent, words, _ in in_order if name not in BUILDERS and True]", "standstill.Recorded.a_recipe_that_waits"),
+        ("recipe", "commands = [words for _, name, parent, words in in_order if name not in BUILDERS and True]", "standstill.Recorded.a_recipe_that_waits"),
     ),
     *guards("warm.py",
         ("what-makes-have-made-since", "own = lives", "warm.Warm.what_is_removed_and_made_by_several_makes", WITHHELD),

@@ -83,9 +83,8 @@ class Recorded(unittest.TestCase):
     def test_numbers_of_processes_begin_again(self) -> None:
         files = {}
         for pid, name, parent, began in ((30000, "make", 1, 5), (31000, "sh", 30000, 6), (200, "make", 31000, 7), (201, "cc", 200, 8)):
-            files["/proc/%d/status" % pid] = "Name:\t%s\nUmask:\t0022\nState:\tS (sleeping)\nTgid:\t%d\nNgid:\t0\nPid:\t%d\nPPid:\t%d\n" % (name, pid, pid, parent)
             files["/proc/%d/cmdline" % pid] = name + "\0x\0"
-            files["/proc/%d/stat" % pid] = "%d (%s) S %s%d 0\n" % (pid, name, "0 " * 18, began)
+            files["/proc/%d/stat" % pid] = "%d (%s) S %d %s%d 0\n" % (pid, name, parent, "0 " * 17, began)
         with mock.patch.object(standstill, "traced", lambda _: [200, 201, 30000, 31000]), mock.patch.object(standstill, "open", lambda path, **_: io.StringIO(files[path]), create=True):
             self.assertEqual("cc x", standstill.running(1))
 
