@@ -7,7 +7,7 @@ The folder holds what strace and each make said; `before` and `after`, what the 
 import argparse
 import json
 import shutil
-from dataclasses import dataclass
+from dataclasses import asdict, dataclass
 from pathlib import Path
 from typing import Dict, List, Optional, Sequence
 
@@ -20,6 +20,7 @@ from record.watch.files import keep_files
 
 OWN = ("sifted.part",)  # what the recorder put there
 SAID = "said"  # the folder in it of what makes said
+OF_BUILD = ("words", "folder", "status", "seconds", "tools")  # what is known of a record when its build has ended
 
 
 @dataclass
@@ -41,9 +42,9 @@ class Facts:
         keep_files(self.said, folder / SAID)
         before.write(folder / "before")
         after.write(folder / "after")
-        about = {"words": record.words, "folder": record.folder, "status": record.status, "seconds": record.seconds, "tools": record.tools,
-                 "place": self.place, "said": self.said_place, "covered": list(self.covered), "real": self.real, "tops": self.names.tops, "linked": options.linked, "warm": options.warm,
-                 "first": {**vars(record.first), "tracked": sorted(record.first.tracked)} if record.first else None}
+        about = {**{name: getattr(record, name) for name in OF_BUILD}, "place": self.place, "said": self.said_place, "covered": list(self.covered), "real": self.real,
+                 "tops": self.names.tops, "linked": options.linked, "warm": options.warm,
+                 "first": {**asdict(record.first), "tracked": sorted(record.first.tracked)} if record.first else None}
         (folder / "facts.json").write_text(json.dumps(about, indent=1) + "\n", encoding="utf-8")
 
 

@@ -135,11 +135,6 @@ def with_folders(files: Iterable[str], top: str) -> Iterator[str]:
             path = os.path.dirname(path)
 
 
-def configured_tops(paths: Iterable[str]) -> List[str]:
-    """The folders that CMake or Meson configured, of names that were there."""
-    return sorted({os.path.dirname(path) + "/" for path in paths if os.path.basename(path) in CONFIGURED_BY})
-
-
 def has_rules(text: str) -> bool:
     """Whether a makefile says more than comments."""
     return any(line.strip(" \t")[:1] not in ("", "#") for line in text.split("\n"))
@@ -150,7 +145,7 @@ def left_behind(tree: FirstTree, before: Dict[str, str], lives: "List[Life]", bu
     """What an earlier build left, and this one used. `before`: the kinds of the names that were there; `kept`: the folder of the record; `texts`: what
     makefiles said when make read them. What a recipe looked at counts where any recipe changes it, what make or ninja looked at where others use it, too:
     a manifest that is made again is no leftover."""
-    tops = tuple(configured_tops(before))
+    tops = tuple(os.path.dirname(path) + "/" for path in before if os.path.basename(path) in CONFIGURED_BY)
     recipes = [task for build in builds for task in build.tasks if task.kind == "recipe"]
     shared = {path for task in recipes for path in task.writes}
     changed = {path for task in recipes for work in task.works for kind, path in work.events if kind in CHANGES + REFUSED} - locks(lives)  # guard: names-that-could-not-be-made

@@ -68,9 +68,10 @@ class Answers(unittest.TestCase):
 class Again(unittest.TestCase):
     """A record that is made again without the project."""
 
-    def same(self, files: Dict[str, str], words: "list[str]", status: int) -> None:
+    def same(self, files: Dict[str, str], words: "list[str]", status: int, setup: str = ":") -> None:
         """Records, removes the project, makes the record again, and compares."""
         with support.Project(files) as project, tempfile.TemporaryDirectory() as room:
+            project.sh(setup)
             ran = project.run(["--race", support.race_program(), "--keep-trace", "-o", room + "/record", "--", *words], dict(os.environ))
             self.assertEqual(status, ran.status, ran.stdout + ran.stderr)
             facts = shutil.move(room + "/record/trace", room + "/facts")
@@ -86,6 +87,9 @@ class Again(unittest.TestCase):
 
     def test_makes_inside(self) -> None:
         self.same({"Makefile": "all: ; @$(MAKE) -C sub\n", "sub/Makefile": "all: ; @sh s > t\n", "sub/s": "ls *\n"}, ["make"], 0)
+
+    def test_work_tree_of_git(self) -> None:
+        self.same({"Makefile": "all: a\na: x ; @cat x > a\n", "x": ""}, ["make"], 0, "git init -q . && git add -A && git -c user.name=x -c user.email=x@y commit -qm x")
 
     @unittest.skipUnless(shutil.which("ninja"), "ninja is missing")
     def test_ninja(self) -> None:
