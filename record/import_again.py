@@ -20,7 +20,8 @@ def import_again(folder: Path, out: Optional[Path] = None) -> Tuple[Record, Impo
         names, kept = first_tree(about["tops"], about["linked"])
     first: Dict[str, Any] = about.get("first") or {}
     first.update(new=tuple(first.get("new", ())), left=tuple(first.get("left", ())), tracked=frozenset(first.get("tracked", ())))
-    record = begun(*(about[name] for name in OF_BUILD), first=FirstTree(**first) if about.get("first") else None)
+    record = begun(*(about[name] for name in OF_BUILD))
+    record.first = FirstTree(**first) if about.get("first") else None
     facts = Facts(folder, about["place"], about["real"], names, kept, folder / SAID, about["said"], about["covered"])
     options = argparse.Namespace(warm=about["warm"], footprints=False, missing=False, held=())
     with machine.answering(machine.Answers.written(folder / "after")):
