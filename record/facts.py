@@ -9,10 +9,9 @@ import json
 import shutil
 from dataclasses import asdict, dataclass
 from pathlib import Path
-from typing import Dict, List, Optional, Sequence
+from typing import Sequence
 
 from record import machine
-from record.first_tree import FirstTree
 from record.folder import Record
 from record.ninja.log import Kept
 from record.trace.names import Names
@@ -56,11 +55,3 @@ def first_tree(tops: Sequence[str], linked: Sequence[str]) -> "tuple[Names, Kept
     for path in linked:
         names.share(path)
     return names, Kept.of(names)
-
-
-def begun(words: List[str], folder: str, status: int, seconds: float, tools: Dict[str, str], first: Optional[FirstTree] = None) -> Record:
-    """The record of a build that has ended, before anything is known of it."""
-    record = Record(words, folder, status, seconds, tools, first=first)
-    if status != 0:
-        record.holes.append("the build ended with status %d" % status + (": signal %d stopped it" % -status if status < 0 else ""))  # guard: build-that-failed
-    return record

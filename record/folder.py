@@ -64,7 +64,7 @@ def reading(folder: Path) -> Iterator[None]:
 
 @dataclass
 class Record:
-    """A recorded build."""
+    """A build that has ended; its first hole says if it failed."""
 
     words: List[str]
     folder: str
@@ -89,6 +89,10 @@ class Record:
     missingdeps: int = 0  # what `ninja -t missingdeps` finds
     orders: Optional[Dict[str, Any]] = None  # what builds in other orders came to
     missing: Optional[Dict[str, Any]] = None  # with --missing: what its answer takes for granted, and why there may be none
+
+    def __post_init__(self) -> None:
+        if self.status != 0:
+            self.holes.append("the build ended with status %d" % self.status + (": signal %d stopped it" % -self.status if self.status < 0 else ""))  # guard: build-that-failed
 
     def bar(self, kinds: Container[str]) -> None:
         """What is taken for granted of these kinds bars a yes."""

@@ -7,7 +7,6 @@ the build alone. Elsewhere the project is moved aside, and comes back.
 """
 
 import os
-import re
 import shutil
 import signal
 import subprocess
@@ -24,7 +23,7 @@ from record.orders.builds import WITH_PARENT, is_child_able
 from record.watch.lay import BELOW, BIND, LIBC, OWN_MOUNTS, mount
 
 PRIVATE = 1 << 18  # for mount: neither mounts that come from outside, nor own ones outside
-FOLDERS = re.compile(r"--directory=|--file=|--makefile=|-C.|-f.")  # words of make that say where it works, in one
+FOLDERS = ("-C", "-f", "--directory=", "--file=", "--makefile=")  # how words of make begin that say where it works
 
 
 def fresh_tree(archive: Optional[str], setup: str, copy: str, kept: str, left: Tuple[str, ...] = ()) -> FirstTree:
@@ -122,7 +121,7 @@ def clean(tree: FirstTree, words: List[str]) -> FirstTree:
     """Takes away what an earlier build made, where the tree is a copy of the folder and the project has a rule for that; in the place of the project."""
     if tree.top or tree.said or os.path.basename(words[0]) not in ("make", "gmake"):
         return tree
-    place = [word for at, word in enumerate(words[1:], 1) if FOLDERS.match(word) or word in ("-C", "-f") or words[at - 1] in ("-C", "-f")]
+    place = [word for before, word in zip(words, words[1:]) if word.startswith(FOLDERS) or before in ("-C", "-f")]
     for goal in ["distclean", "clean"] if tree.setup else ["clean"]:
         ran = subprocess.run([words[0], *place, goal], stdin=subprocess.DEVNULL, stdout=subprocess.DEVNULL, stderr=subprocess.DEVNULL, check=False)
         if ran.returncode == 0:

@@ -6,7 +6,7 @@ from pathlib import Path
 from typing import Any, Dict, Optional, Tuple
 
 from record import machine
-from record.facts import OF_BUILD, SAID, Facts, begun, first_tree
+from record.facts import OF_BUILD, SAID, Facts, first_tree
 from record.first_tree import FirstTree
 from record.folder import Record
 from record.importing import Imported, complete, imported
@@ -20,7 +20,7 @@ def import_again(folder: Path, out: Optional[Path] = None) -> Tuple[Record, Impo
         names, kept = first_tree(about["tops"], about["linked"])
     first: Dict[str, Any] = about.get("first") or {}
     first.update(new=tuple(first.get("new", ())), left=tuple(first.get("left", ())), tracked=frozenset(first.get("tracked", ())))
-    record = begun(*(about[name] for name in OF_BUILD))
+    record = Record(*(about[name] for name in OF_BUILD))
     record.first = FirstTree(**first) if about.get("first") else None
     facts = Facts(folder, about["place"], about["real"], names, kept, folder / SAID, about["said"], about["covered"])
     options = argparse.Namespace(warm=about["warm"], footprints=False, missing=False, held=())

@@ -23,7 +23,7 @@ from typing import Dict, List, Optional, Set, Tuple, cast
 from record import RELEASE, VERSION, machine
 from record.entry import STOPPING, UNHEARD, Stopped, end_traced, forget_coerced
 from record.messages import printable
-from record.facts import Facts, begun, first_tree
+from record.facts import Facts, first_tree
 from record.first_tree import FirstTree, first_names, tree_of
 from record.folder import Idle, NotWhole, Record, Taken, accept_warm, alone, aside, former, reading, rewrite, room_of_programs, what_stands
 from record.build.assumptions import UNTRIED
@@ -272,7 +272,7 @@ def attempt(options: argparse.Namespace, words: List[str], tools: Dict[str, str]
         watch.prepare(makes_of(os.environ.get("PATH", os.defpath)))
         tree = options.tree or tree_of(folder)
         status, seconds = run_build(prepared(options) + words, spool, names.tops, watch, options.expected)
-        record, facts = begun(options.words, folder, status, round(seconds, 2), dict(tools), tree), Facts(spool, str(spool), real, names, kept, watch.said, str(watch.said), list(watch.covered))
+        record, facts = Record(options.words, folder, status, round(seconds, 2), dict(tools), first=tree), Facts(spool, str(spool), real, names, kept, watch.said, str(watch.said), list(watch.covered))
         from record.importing import complete  # it was loaded while the build ran
         with machine.answering(after):
             found = complete(record, facts, out, options)
