@@ -157,7 +157,8 @@ def note_failure(record: Record, lives: Sequence[Life], makes: Sequence[Make], n
     if record.status == 0:
         record.holes += answers(makes, record.folder)  # guard: make-that-failed
     else:
-        record.holes[0] = "; ".join([record.holes[0], *failures(makes, ninjas, record.folder)[:1]])
+        for text in failures(makes, ninjas, record.folder)[:1]:
+            record.holes[0] += "; " + text
         record.hints = lacked(makes, names, record.folder)  # guard: what-recipe-lacked
     if not makes and not ninjas:
         record.holes.append("no make and no ninja ran")  # guard: no-make-at-all
