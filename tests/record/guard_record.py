@@ -32,7 +32,7 @@ GUARDS: List[Guard] = [
         ("closed-output", "if False:", "entry.Closed.closed_output"),
     ),
     *guards("failed.py",
-        ("long-words-of-make", "words = self.words", "failed.Failed.long_words_that_differ_at_their_end", "xxx.."),
+        ("long-words-of-make", "pass", "failed.Failed.long_words_that_differ_at_their_end", "xxx.."),
         ("before-the-build", "if False:", "failed.Failed.what_comes_before_the_build"),
         ("which-recipe", "return next(((one, job) for one in make.words.rounds for job in one.jobs if one.base), None)", "failed.Failed.recipe"),
         ("make-that-was-killed", "if target not in (one.base or Base()).recipes:", "failed.Failed.make_that_was_killed"),
