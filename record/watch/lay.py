@@ -10,7 +10,7 @@ import shutil
 import tempfile
 from dataclasses import dataclass, field
 from pathlib import Path
-from typing import Dict, Iterator, List, Sequence
+from typing import IO, Dict, Iterator, List, Optional, Sequence
 
 from record.watch.elf import NotElf, Program
 from record.watch.files import OWN_OUTPUTS, output_line
@@ -66,6 +66,7 @@ class Watch:
     covered: Dict[str, Path] = field(default_factory=dict)  # by make: its copy
     ninjas: Dict[str, Path] = field(default_factory=dict)  # the same of ninjas whose commands wait
     mounts: str = ""  # the list of mounts that the processes of the build have
+    held: Optional[IO[bytes]] = None  # the same, open
 
     def __post_init__(self) -> None:
         self.room = Path(os.path.realpath(tempfile.mkdtemp(prefix="race-watch-", dir=self.rooms)))
@@ -125,8 +126,10 @@ class Watch:
         return given if self.covered else {**given, PRELOAD: str(self.library) + (":" + above if above else "")}
 
     def note(self, pid: int) -> None:
-        """Keeps which mounts the first process of the build has, where they are not those of this process."""
+        """Keeps which mounts the first process of the build has, where they are not those of this process. As long as they are open here, the system gives
+        their number to no other process."""
         try:
+            self.held = open("/proc/%d/ns/mnt" % pid, "rb")  # guard: number-that-comes-again
             found = os.readlink("/proc/%d/ns/mnt" % pid)
             self.mounts = found if found != os.readlink("/proc/self/ns/mnt") else ""
         except OSError:
@@ -144,4 +147,6 @@ class Watch:
 
     def remove(self) -> None:
         """Takes the folder away, when the build has ended."""
+        if self.held is not None:
+            self.held.close()
         shutil.rmtree(self.room, ignore_errors=True)

@@ -100,6 +100,24 @@ class Signals(unittest.TestCase):
                 left.kill()
         self.assertEqual(-signal.SIGKILL, status)
 
+    @unittest.skipUnless(os.geteuid() == 0, "needs root")
+    def test_number_that_comes_again(self) -> None:
+        """What begins when the build has ended may get mounts of the same number, and is none of its processes."""
+        words = ["unshare", "--mount", "sh", "-c", "echo; exec sleep 100"]
+        with tempfile.TemporaryDirectory() as room:
+            watch = Watch(room)
+            found = []
+            for at in range(2):
+                with subprocess.Popen(words, stdout=subprocess.PIPE) as process:
+                    assert process.stdout is not None
+                    process.stdout.readline()
+                    if at == 0:
+                        watch.note(process.pid)
+                    found.append(process.pid in watch.left())
+                    process.kill()
+            watch.remove()
+        self.assertEqual([True, False], found)
+
     def test_what_becomes_another_program(self) -> None:
         """It has no environment for a moment, by which it would be found."""
         for shown, looks in (((False, True, False, False), 4), ((False, False), 2)):
