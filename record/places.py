@@ -4,7 +4,8 @@ rule that names it. Where nothing is found, the file that make read first, or wh
 import json
 import os
 import re
-from dataclasses import dataclass, field
+from dataclasses import dataclass
+from functools import cached_property
 from pathlib import Path
 from typing import Any, Dict, Iterator, List, Optional, Tuple
 
@@ -23,7 +24,6 @@ class Places:
 
     folder: str
     makefiles: List[str]
-    cmake: Dict[str, "CMake"] = field(default_factory=dict)
 
     def of(self, name: str, about: Dict[str, Any]) -> Optional[Place]:
         """The place of a target of which a build says this; nothing where it is the one that the build says."""
@@ -31,17 +31,16 @@ class Places:
         if owner.get("by") == "meson":
             return meson_place(self.folder, owner.get("target") or name)
         target = owner.get("target") or cmake_target(name, about.get("file", ""))
-        generator = self.generator() if target or owner.get("by") == "cmake" else None
+        generator = self.generator if target or owner.get("by") == "cmake" else None
         if generator:
             return generator.place(target, name)
         return None if about.get("file") else next(rules_of(name, self.makefiles, self.folder), None) or next(((file, 1) for file in self.makefiles), None)
 
+    @cached_property
     def generator(self) -> Optional["CMake"]:
         """What CMake left of the folder that this build is in."""
-        for top in (Path(self.folder), *Path(self.folder).parents):
-            if machine.isfile(str(top / "CMakeCache.txt")):
-                return self.cmake.setdefault(str(top), CMake(top))
-        return None
+        tops = (Path(self.folder), *Path(self.folder).parents)
+        return next((CMake(top) for top in tops if machine.isfile(str(top / "CMakeCache.txt"))), None)
 
 
 def cmake_target(name: str, file: str) -> str:
