@@ -194,9 +194,8 @@ class Folder:
 
     def add(self, at: int, kind: str, place: int, has_failed: bool) -> None:
         """Takes one event, of a process that has failed in the end or has not."""
-        if kind in FOLDER_USED + MAKES:
-            places = self.makers if kind in MAKES else self.users
-            places[at] = min(place, places.get(at, place))
+        places = self.makers if kind in MAKES else self.users
+        places[at] = min(place, places.get(at, place))
         if kind == MADE_BEFORE and has_failed:  # guard: folders-that-could-not-be-made
             self.refused.add(at)
 
