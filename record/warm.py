@@ -81,12 +81,13 @@ class Target:
 
 
 def targets_of(makes: List[Make], names: Names) -> Iterator[Target]:
-    """All targets with a recipe that makes considered. The file of a member of an archive is that archive."""
+    """All targets with a recipe that makes considered. The file of a member of an archive is that archive. Where no recipe of a round ran, those of targets
+    that were due came to nothing, and these do not count."""
     for make, one in ((make, one) for make in makes for one in make.words.rounds):
         ran, base = [job.target for job in one.jobs], one.base or Base()
         due = {*one.must, *ran}
         for name in dict.fromkeys((*one.nodes, *ran)):
-            if name in base.recipes:
+            if name in base.recipes and (ran or name not in due):
                 spelled = one.vpath.get(name, name)
                 file = spelled.rpartition("(")[0] if spelled.endswith(")") else spelled
                 yield Target(make, one.stage, base, name, spelled, names.find(make.folder, file or spelled, True).path, name not in due)
