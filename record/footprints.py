@@ -1,6 +1,7 @@
 """A record as what `race check --makefile` reads: the listing of the tree before the build, and a footprint for each recipe."""
 
 import json
+import os
 from pathlib import Path
 from typing import Dict, Iterator, List, Set
 
@@ -9,7 +10,7 @@ from record.build.tasks import Build, Task
 from record.build.text import relative, shown
 from record.make.graph import MakeBuild
 from record.missing.footprints import is_below
-from record.trace.events import CREATED, REMOVED, WRITTEN
+from record.trace.events import ASKS, CREATED, READ, REMOVED, WRITTEN
 from record.trace.names import Names
 
 
@@ -30,12 +31,16 @@ def touched(task: Task, kinds: str, tops: List[str]) -> Set[str]:
 
 
 def footprints(build: Build, names: Names) -> Iterator[Dict[str, object]]:
-    """A line for each recipe that ran. Names of folders that it makes stand for something else, as in the tasks."""
+    """A line for each recipe that ran. Who lists a folder reads each name that comes or goes there. Names of folders that it makes stand for something else, as
+    in the tasks."""
     root = build.make.folder
+    inside: Dict[str, Set[str]] = {}
+    for path in (path for task in build.tasks for path in touched(task, CREATED + REMOVED, names.tops)):
+        inside.setdefault(os.path.dirname(path), set()).add(path)
     for task in build.tasks:
         if task.kind == "recipe":
             writes = task.writes | touched(task, WRITTEN + CREATED + REMOVED, names.tops)  # guard: footprints
-            reads = task.reads | touched(task, "RSNPK", names.tops)
+            reads = (task.reads | touched(task, READ + ASKS, names.tops)).union(*(inside.get(folder, ()) for folder in task.lists)) - writes  # guard: lists-in-footprints
             folders = {path for path in reads if names.before.get(path) == "d"} - writes
             yield {"target": shown(task.node.name), "reads": sorted(relative(root, p) for p in reads - folders - {root}),
                    "writes": sorted(relative(root, p) for p in writes)}

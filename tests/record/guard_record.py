@@ -90,6 +90,7 @@ GUARDS: List[Guard] = [
         ("temporary-folders", "if True:", "ends.Places.temporary_folders_in_which_no_program_runs"),
     ),
     *guards("footprints.py",
+        ("lists-in-footprints", "reads = (task.reads | touched(task, READ + ASKS, names.tops)) - writes", "footprints.Agreement.both_ways_give_one_verdict"),
         ("footprints", 'writes = task.writes | touched(task, WRITTEN + CREATED + REMOVED + "F", names.tops)', "locks.Others.footprints"),
     ),
     *guards("fresh.py",

@@ -55,7 +55,7 @@ class Agreement(unittest.TestCase):
     def verdicts(self, name: str) -> Tuple[int, int, str]:
         """The status of race-record, that of race check, and what it printed."""
         with support.Project({"Makefile": PROJECTS[name][1], **FILES}) as project:
-            recorded = project.record(options=["--footprints"])
+            recorded = project.record(options=["--footprints"], once=False)
             folder = project.folder / ".race" / "builds" / "001"
             checked = self.check(project.folder, folder)
         return recorded.status, checked.returncode, checked.stdout.decode()[:600]
