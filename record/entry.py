@@ -74,7 +74,7 @@ def traced(tracer: int) -> Iterator[int]:
                 yield int(pid)
 
 
-def tell(pids: Iterable[int], number: int) -> None:
+def signal_all(pids: Iterable[int], number: int) -> None:
     """Sends processes a signal."""
     for pid in pids:
         with suppress(OSError):  # it has ended, or is of another user
@@ -84,12 +84,12 @@ def tell(pids: Iterable[int], number: int) -> None:
 def have_ended(strace: "subprocess.Popen[bytes]", left: Left, number: int) -> bool:
     """Sends a signal to all processes of a build, once; whether they end in time. strace may have just begun, and then follows none yet; a signal to all may
     have ended it, and not them. Two looks have to show none: one that becomes another program has no environment for a moment."""
-    until, looks, is_told = time.monotonic() + PATIENCE, 0, False
+    until, looks, is_sent = time.monotonic() + PATIENCE, 0, False
     while looks < 2 and time.monotonic() < until:  # guard: what-becomes-another-program
         is_over = strace.poll() is not None
         found = [*(left() if is_over else traced(strace.pid))]  # guard: what-strace-followed-and-has-left
-        tell([] if is_told else found, number)
-        is_told = is_told or is_over or bool(found)
+        signal_all([] if is_sent else found, number)
+        is_sent = is_sent or is_over or bool(found)
         looks = looks + 1 if is_over and not found else 0  # guard: what-strace-has-left-and-lives
         time.sleep(0.02)
     return looks == 2

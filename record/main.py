@@ -198,9 +198,8 @@ def parser_of_words() -> argparse.ArgumentParser:
     parser.add_argument("--keep-trace", action="store_true", help="keep the trace in the record")
     parser.add_argument("--footprints", action="store_true", help="keep a listing and footprints of each build, for race check --makefile")
     parser.add_argument("--strict", action="store_true", help="no yes where something is taken for granted that builds in other orders could try out")
-    parser.add_argument("--orders", type=builds, default=MOST, metavar="N", help="at most N builds in other orders (%d), in copies: a conflict that is about no file, "
-                        "such as which of two is newer, is a race if they leave something else, and none if not" % MOST)
-    parser.add_argument("--once", dest="orders", action="store_const", const=0, help="build once, and try no other order: each such conflict is a race")
+    parser.add_argument("--orders", type=builds, default=MOST, metavar="N", help="at most N builds in other orders (%d), in copies: what they leave otherwise is a race" % MOST)
+    parser.add_argument("--once", dest="orders", action="store_const", const=0, help="build once, and try no other order: a yes takes for granted what that would show")
     parser.add_argument("--missing", action="store_true", help="report missing inputs too: files whose edit does not make a target again")
     parser.add_argument("-V", "--version", action="version", version="%(prog)s " + RELEASE, help="print the version")
     parser.add_argument("words", nargs=argparse.REMAINDER, metavar="-- COMMAND ..", help="what builds the project")
