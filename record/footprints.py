@@ -10,7 +10,7 @@ from record.build.tasks import Build, Task
 from record.build.text import relative, shown
 from record.make.graph import MakeBuild
 from record.missing.footprints import is_below
-from record.trace.events import ASKS, CREATED, READ, REMOVED, WRITTEN
+from record.trace.events import CREATED, LOOKS, REMOVED, WRITTEN
 from record.trace.names import Names
 
 
@@ -40,7 +40,7 @@ def footprints(build: Build, names: Names) -> Iterator[Dict[str, object]]:
     for task in build.tasks:
         if task.kind == "recipe":
             writes = task.writes | touched(task, WRITTEN + CREATED + REMOVED, names.tops)  # guard: footprints
-            reads = (task.reads | touched(task, READ + ASKS, names.tops)).union(*(inside.get(folder, ()) for folder in task.lists)) - writes  # guard: lists-in-footprints
+            reads = (task.reads | touched(task, LOOKS, names.tops)).union(*(inside.get(folder, ()) for folder in task.lists)) - writes  # guard: lists-in-footprints
             folders = {path for path in reads if names.before.get(path) == "d"} - writes
             yield {"target": shown(task.node.name), "reads": sorted(relative(root, p) for p in reads - folders - {root}),
                    "writes": sorted(relative(root, p) for p in writes)}

@@ -9,7 +9,7 @@ from typing import Dict, Iterable, List, Set, Tuple
 from record.build.assumptions import Assumptions
 from record.build.tasks import Build, Task
 from record.build.work import Tool, Work, settle_parts
-from record.trace.events import ASKS, CHANGES, LISTED
+from record.trace.events import CHANGES, LISTED, LOOKS
 from record.trace.names import Names
 
 
@@ -70,7 +70,7 @@ class Builder:
         for kind, path, _ in self.events(task):
             if kind in CHANGES and not path.endswith("/"):
                 task.writes.add(path)
-            elif kind in ASKS and path in self.build.writers:  # guard: failed-looks-are-reads
+            elif kind in LOOKS and path in self.build.writers:  # guard: failed-looks-are-reads
                 task.reads.add(path)
             elif kind == LISTED:
                 task.lists.add(path)  # guard: listings-count

@@ -9,7 +9,7 @@ from typing import Dict, List, Set, Tuple
 
 from record.build.builder import Builder
 from record.build.tasks import Task
-from record.trace.events import ABSENT, CREATED, ENTERED, FOLDER_REMOVED, LISTED, MADE_BEFORE, MAKES, SEEN, WAY_ABSENT
+from record.trace.events import ABSENT, CREATED, ENTERED, FOLDER_REMOVED, LISTED, MADE_BEFORE, MAKES, SEEN
 
 
 def add_folders(builder: Builder) -> None:
@@ -37,7 +37,7 @@ def used(builder: Builder, task: Task, makers: Dict[str, Set[int]]) -> List[str]
     for kind, path, place in builder.events(task):
         if kind in SEEN and path in makers:
             looks[path] = min(place, looks.get(path, place))
-        elif kind in CREATED + ENTERED + LISTED + ABSENT + WAY_ABSENT:
+        elif kind in CREATED + ENTERED + LISTED + ABSENT:
             uses.append((os.path.dirname(path.rstrip("/")) if kind == CREATED else path, place))
     return sorted({path for path, place in uses if path in makers and not looks.get(path, place) < place})  # guard: who-looks-for-the-folder
 

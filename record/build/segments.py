@@ -14,12 +14,12 @@ from typing import Dict, Iterable, Iterator, List, NamedTuple, Optional, Set, Tu
 
 from record.trace.courses import Course, Segment, before
 from record.trace.events import (
-    ABSENT, BY_LIST, CREATED, ENTERED, FOLDER_REMOVED, HELD, LOCKED, MADE, MADE_BEFORE, OUTPUT, READ, REMOVED, SEEN, WAY_ABSENT, WRITTEN,
+    ABSENT, BY_LIST, CREATED, ENTERED, FOLDER_REMOVED, HELD, LOCKED, MADE, MADE_BEFORE, OUTPUT, READ, REMOVED, SEEN, WRITTEN,
 )
 from record.trace.lives import Life
 
 MAKE, USE, LOOKED_USE = "K", "p", "q"  # a folder was made; a name below it was used, or used by who had looked for it
-KINDS = {READ: READ, SEEN: SEEN, BY_LIST: BY_LIST, ENTERED: SEEN, ABSENT: ABSENT, WAY_ABSENT: ABSENT, WRITTEN: WRITTEN, OUTPUT: OUTPUT, CREATED: CREATED, REMOVED: REMOVED,
+KINDS = {READ: READ, SEEN: SEEN, BY_LIST: BY_LIST, ENTERED: SEEN, ABSENT: ABSENT, WRITTEN: WRITTEN, OUTPUT: OUTPUT, CREATED: CREATED, REMOVED: REMOVED,
          FOLDER_REMOVED: REMOVED, MADE: MADE_BEFORE, MADE_BEFORE: MADE_BEFORE}  # (that it came is an event of its own)
 WRITES, COMES = WRITTEN + OUTPUT, CREATED + REMOVED  # of what a file holds; of the name
 GIVES = WRITES + COMES + MAKE

@@ -9,7 +9,7 @@ import re
 from dataclasses import dataclass
 from typing import Dict, Iterator, List, Pattern, Sequence, Set
 
-from record.trace.events import ABSENT, MADE_BEFORE, MAKES, READ, SEEN, WAY_ABSENT
+from record.trace.events import ABSENT, MADE_BEFORE, MAKES, READ, SEEN
 from record.trace.lives import Life, Program
 
 
@@ -35,7 +35,7 @@ KEEPERS = (
     Keeper(re.compile(r"guile(?:-[\d.]+)?"), re.compile(r"(/.+/guile/ccache)/.+\.go(?:\..+)?")),
     Keeper(re.compile(r"dot|fc-\w+|gnuplot(?:-\w+)?|inkscape|rsvg-convert|convert|magick|(?:xe|lua)latex"), re.compile(r"(/.+/fontconfig)/[^/]+\.cache-\d+(?:\..+)?")),
 )
-LOOKS = READ + SEEN + ABSENT + WAY_ABSENT + MAKES  # acts on a folder that mean no more than that it makes it if it is not there
+LOOKS = READ + SEEN + ABSENT + MAKES  # acts on a folder that mean no more than that it makes it if it is not there
 
 
 def settle_caches(lives: Sequence[Life], tops: Sequence[str]) -> Iterator[str]:

@@ -4,7 +4,7 @@ import os
 import re
 from typing import Iterator, List, Sequence, Set, Tuple
 
-from record.trace.events import ABSENT, BY_LIST, MADE, MADE_BEFORE, READ, SEEN, WAY_ABSENT
+from record.trace.events import ABSENT, BY_LIST, MADE, MADE_BEFORE, READ, SEEN
 from record.trace.lives import Life
 
 PYTHON = re.compile(r"(?:.*/)?python[\d.]*$")
@@ -47,7 +47,7 @@ def settle_code(life: Life, others: Set[str]) -> None:
         is_cache = os.path.basename(path) == CACHE
         if cache_of(path) in others or place <= life.begun:  # guard: byte-code-that-others-read
             continue
-        if kind in (READ, SEEN, ABSENT) and ({(SEEN, source), (BY_LIST, source), (READ, source)} & life.events.keys() or is_cache) or kind == WAY_ABSENT and is_cache:
+        if kind in (READ, SEEN, ABSENT) and ({(SEEN, source), (BY_LIST, source), (READ, source)} & life.events.keys() or is_cache):
             del life.events[kind, path]
             life.events.update({} if is_cache else {(READ, source): life.events.get((READ, source), place)})
         elif kind == MADE and is_cache:

@@ -69,8 +69,6 @@ class Calls(Started):
         found = self.found(life, unescape(path.group(1)), True) if path is not None else None
         if found is not None and call.name == "bind" and ok:
             self.write(life, found)  # guard: their-names
-        elif found is not None and call.name == "bind":  # guard: sockets
-            self.put_absent(life, found, ABSENT if call.error in ("ENOENT", "ENOTDIR") else READ)
         elif found is not None:
             self.put_look(life, found, call.error not in ("ENOENT", "ENOTDIR"), READ)
 

@@ -9,7 +9,6 @@ READ = "R"  # a file was opened, run, linked or moved; or a link on the way was 
 SEEN = "S"  # something was there
 BY_LIST = "l"  # the same, and the process had listed the folder: the list has shown it the name
 ABSENT = "N"  # nothing was there; or a name could not be made, since its folder was absent
-WAY_ABSENT = "P"  # a folder on the way was absent
 ENTERED = "U"  # a folder was entered
 LISTED = "L"  # the names in a folder were listed
 
@@ -28,7 +27,6 @@ TIME_SET = "t"  # the time of a folder was set; or that of a file, to another ti
 FOLDER_REMOVED = "X"  # a folder went
 
 LOOKS = READ + SEEN + ABSENT
-ASKS = LOOKS + WAY_ABSENT  # a process sees whether a name is there
 CHANGES = WRITTEN + CREATED + REMOVED + LOCKED  # guard: removals-are-writes
 MAKES = MADE + MADE_BEFORE  # a folder is there behind it
 TREE_CHANGES = CHANGES + MADE + FOLDER_REMOVED

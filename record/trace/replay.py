@@ -7,7 +7,7 @@ from typing import Dict, List, Set, Tuple
 from record.commands import shelltext
 from record.commands.system import OF_SYSTEM
 from record.trace.events import (
-    ABSENT, BY_LIST, CHANGES, CREATED, ENTERED, FOLDER_REMOVED, MADE, READ, REFUSED, REMOVED, SEEN, TREE_CHANGES, WAY_ABSENT, WRITTEN,
+    ABSENT, BY_LIST, CHANGES, CREATED, ENTERED, FOLDER_REMOVED, MADE, READ, REFUSED, REMOVED, SEEN, TREE_CHANGES, WRITTEN,
 )
 from record.trace.courses import Course
 from record.trace.lives import Act, Life
@@ -226,7 +226,7 @@ class Replay:
             self.names.put(found.folder, found.name, found.inode)
         self.put(life, kind if ok else ABSENT, found.path, word)
         if not ok and found.missing and found.missing != found.path:
-            self.put(life, WAY_ABSENT if found.path.startswith(found.missing + "/") else ABSENT, found.missing)  # (`d/../f` is there where d is)  # guard: folders-that-are-absent-on-way
+            self.put(life, ABSENT, found.missing)  # guard: folders-that-are-absent-on-way
 
     def put_absent(self, life: Life, found: Found, kind: str) -> None:
         """A name that could not be made: that its folder is absent counts too."""

@@ -2,7 +2,7 @@
 
 from typing import List
 
-from guard import FALSE_RACE, LOST_HOLE, UNSAID, YES, Guard, guards
+from guard import LOST_HOLE, Guard, guards
 
 GUARDS: List[Guard] = [
     *guards("commands/copies.py",
@@ -12,7 +12,6 @@ GUARDS: List[Guard] = [
     ),
     *guards("commands/shelltext.py",
         ("what-find-does-beside", 'return "-delete" in argv', "shelltext.Words.removals"),
-        ("what-is-removed", 'words = argv if name == "rm" else []', "later.Later.quiet_folders_that_are_cleaned"),
         ("status", "return bool(words) and not any(SAYS.fullmatch(word) for word in options)", "shelltext.Words.removals"),
         ("status", "return any(FORCES.fullmatch(word) for word in options)", "shelltext.Words.removals"),
     ),

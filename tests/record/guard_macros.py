@@ -2,7 +2,7 @@
 
 from typing import List
 
-from guard import FALSE_RACE, YES, Guard, guards
+from guard import Guard, guards
 
 GUARDS: List[Guard] = [
     *guards("make/asked.py",

@@ -2,7 +2,7 @@
 
 from typing import List
 
-from guard import FALSE_RACE, LOST_HOLE, UNSAID, WITHHELD, YES, Guard, guards
+from guard import FALSE_RACE, LOST_HOLE, WITHHELD, YES, Guard, guards
 
 GUARDS: List[Guard] = [
     *guards("make/build.py",

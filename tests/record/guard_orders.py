@@ -2,7 +2,7 @@
 
 from typing import List
 
-from guard import FALSE_RACE, UNSAID, YES, Guard, guards
+from guard import UNSAID, YES, Guard, guards
 
 GUARDS: List[Guard] = [
     *guards("orders/exploring.py",
@@ -36,7 +36,7 @@ GUARDS: List[Guard] = [
     ),
     *guards("orders/graph.py",
         ("recipes-around", "found.update({key: -float(at)} if key else {})", "orders_graph.Graphs.order_of_what_runs_inside"),
-        ("who-lists-folder", "users.setdefault(file_of(path), set()).add(at)", "orders_graph.Graphs.users_first"),
+        ("who-lists-folder", 'for path in row["reads"]:', "orders_graph.Graphs.users_first"),
     ),
     *guards("orders/joined.py",
         ("who-found-it-there", "for late in sorted(made):", "orders.Orders.folders_that_need_no_try"),

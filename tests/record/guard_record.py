@@ -2,7 +2,7 @@
 
 from typing import List
 
-from guard import FALSE_RACE, LOST_HOLE, LOST_RACE, UNSAID, WITHHELD, YES, Guard, guards
+from guard import FALSE_RACE, LOST_HOLE, LOST_RACE, UNSAID, WITHHELD, Guard, guards
 
 GUARDS: List[Guard] = [
     *guards("configured.py",
@@ -90,7 +90,7 @@ GUARDS: List[Guard] = [
         ("temporary-folders", "if True:", "ends.Places.temporary_folders_in_which_no_program_runs"),
     ),
     *guards("footprints.py",
-        ("lists-in-footprints", "reads = (task.reads | touched(task, READ + ASKS, names.tops)) - writes", "footprints.Agreement.both_ways_give_one_verdict"),
+        ("lists-in-footprints", "reads = (task.reads | touched(task, LOOKS, names.tops)) - writes", "footprints.Texts.names_of_a_folder_that_a_recipe_lists"),
         ("footprints", 'writes = task.writes | touched(task, WRITTEN + CREATED + REMOVED + "F", names.tops)', "locks.Others.footprints"),
     ),
     *guards("fresh.py",

@@ -79,7 +79,7 @@ class Folders(unittest.TestCase):
         self.assertEqual([], self.meet([("M", "d"), ("C", "d/")], [("E", "d")]))
 
     def test_user_without_a_maker_before_it(self) -> None:
-        for use in (("C", "d/x"), ("U", "d"), ("L", "d"), ("N", "d"), ("P", "d")):
+        for use in (("C", "d/x"), ("U", "d"), ("L", "d"), ("N", "d")):
             self.assertEqual(["d/@seen"], self.meet([("M", "d")], [use]), use)
 
     def test_user_that_looks_first(self) -> None:

@@ -43,6 +43,12 @@ class Texts(unittest.TestCase):
         self.assertLessEqual({"tmp", "a"}, set(lines[0]["writes"]))
         self.assertIn("words", lines[0]["reads"])
 
+    def test_names_of_a_folder_that_a_recipe_lists(self) -> None:
+        with support.Project({"Makefile": PROJECTS["listed"][1], **FILES}) as project:
+            project.record(options=["--footprints"])
+            lines = (project.folder / ".race" / "builds" / "001" / "footprints").read_text().splitlines()
+        self.assertIn("part.1", json.loads(lines[1])["reads"])
+
     def test_none_without_the_option(self) -> None:
         with support.Project({"Makefile": "all: ; touch all\n"}) as project:
             project.record()

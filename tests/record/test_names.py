@@ -94,6 +94,7 @@ Makefiles = makefiles(__name__, {
     "name_outside_that_is_written": Small("race", "all: a b\na: ; echo 1 > ../y; touch a\nb: ; cat x > b\n", setup="echo 0 > ../y; ln ../y x"),
     # the same of a script
     # folders above the project, and those of the system
+    "file_beside_the_project": Small("safe", "all: a b\na: ; mkdir -p $(CURDIR)/d; touch a\nb: ; touch ../race.tmp; rm ../race.tmp; touch b\n"),
     "folders_by_a_whole_path": Small("safe", "all: x y\nx: ; mkdir -p $(CURDIR)/d/e; touch x\ny: ; touch $(CURDIR)/y\n", lacks="outside of the project"),
     "folder_beside_the_project": Small("race", "all: x y\nx: ; mkdir -p ../d/e; touch x\ny: ; touch ../d/y 2> /dev/null; touch y\n"),
     "folder_of_the_system_for_temporary_files": Small("safe", "all: x y\nx: ; d=/tmp/race-test-$$$$; mkdir -p $$d/e; rmdir $$d/e $$d; touch x\ny: ; rm `mktemp /tmp/race-test-XXXXXX`; touch y\n", below="/dev/shm"),

@@ -1,6 +1,5 @@
 """A recorded build writes what a plain one does: standard output and every file, byte for byte."""
 
-import os
 import unittest
 from typing import Dict, Tuple
 

@@ -8,8 +8,7 @@ import support
 from record.failed import failures
 from record.make.owners import Make, Owners
 from record.make.words import Words, read_words
-from record.trace.events import ABSENT, SEEN
-from record.trace.lives import Act, Life
+from record.trace.lives import Life
 from record.watch.files import Start
 from test_small import Small, makefiles
 

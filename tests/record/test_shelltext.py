@@ -2,7 +2,6 @@
 
 import os
 import unittest
-from typing import List
 
 import support
 from record.premises import clock
@@ -11,30 +10,18 @@ from record.commands.system import OF_SYSTEM
 from test_output import Output
 
 
-def sh(text: str) -> List[str]:
-    """A shell that runs a text."""
-    return ["/bin/sh", "-c", text]
-
-
 class Words(unittest.TestCase):
     """Shells and scripts."""
 
-    def test_text_of_a_shell(self) -> None:
-        self.assertEqual("echo a", shelltext.shell_text(sh("echo a")))
-        self.assertEqual("echo a", shelltext.shell_text(["bash", "-e", "-ec", "echo a", "name"]))
-        self.assertEqual(["", "", ""], [shelltext.shell_text(w) for w in (["sh", "script"], ["cc", "-c", "a.c"], [])])
-
     def test_scripts(self) -> None:
-        for words, text, script in (("sh script", "", "script"), ("sh -c x", "x", ""), ("cc script", "", ""), ("bash -e script -c x", "", "script"),
-                                    ("sh -c -e x name", "x", ""), ("sh -ce x", "x", ""), ("bash -euo pipefail -c x", "x", ""), ("bash +O extglob script", "", "script"),
-                                    ("bash --norc --rcfile y -- script", "", "script"), ("sh -s x", "", ""), ("sh -", "", ""), ("sh -c", "", "")):
-            self.assertEqual((text, script), (shelltext.shell_text(words.split()), shelltext.script_of(words.split())), words)
+        for words, script in (("sh script", "script"), ("sh -c x", ""), ("cc script", ""), ("bash -e script -c x", "script"), ("sh -c -e x name", ""), ("sh -ce x", ""),
+                              ("bash -euo pipefail -c x", ""), ("bash +O extglob script", "script"), ("bash --norc --rcfile y -- script", "script"), ("sh -s x", ""), ("sh -", "")):
+            self.assertEqual(script, shelltext.script_of(words.split()), words)
 
     def test_removals(self) -> None:
         for words, is_one in (("rm -f x", True), ("rm -rf x y", True), ("rm --force x", True), ("rm x", False), ("rm -fv x", False), ("rm -f --verbose x", False), ("rm -if x", False),
                               ("rmdir d", False), ("find d -name x -delete", True), ("find d -name x -print -delete", False), ("find d -delete -execdir ls {} ;", False), ("find d", False)):
             self.assertEqual(is_one, shelltext.is_removal(words.split()), words)
-        self.assertEqual([True, False, False], [shelltext.is_removal(sh(text)) for text in ("rm -f x", "rm x", "rm -f x; ls y")])
 
     def test_first_line_of_a_script(self) -> None:
         with support.Project({"one": "#!/bin/sh -e\n", "two": "#!/usr/bin/env -S python3\n", "three": "text\n"}) as project:
