@@ -3,7 +3,7 @@
 import os
 import re
 from functools import lru_cache
-from typing import List
+from typing import List, Tuple
 
 from record import machine
 from record.commands.texts import text_of
@@ -18,6 +18,7 @@ PROGRESS = ("cmake_progress_start", "cmake_progress_report", "cmake_echo_color")
 NAMES_NEXT = re.compile(r"[-+]\w*[oO]\w*|--rcfile|--init-file")  # options of a shell whose value is the next word: `-euo pipefail`
 FORCES, SAYS = re.compile(r"-[a-zA-Z]*f[a-zA-Z]*|--force"), re.compile(r"-[a-zA-Z]*[viI][a-zA-Z]*|--(?:verbose|interactive.*)")  # of rm: `-rf`, `-v`
 SHOWS = re.compile(r"-(?:print|ls|fprint|fls|exec|ok)")  # what find does beside `-delete`
+REMOVES = re.compile(r"\s*rm\s[^;&|<>`$()\n]*$")  # a text of a shell that runs `rm` and nothing else
 
 
 def base_name(argv: List[str]) -> str:
@@ -30,15 +31,16 @@ def is_removal(argv: List[str]) -> bool:
     name = base_name(argv)
     if name == "find":
         return "-delete" in argv and not any(SHOWS.match(word) for word in argv)  # guard: what-find-does-beside
-    words = argv if name == "rm" else []
+    words = argv if name == "rm" else shell_text(argv).split() if REMOVES.match(shell_text(argv)) else []  # guard: what-is-removed
     options = [word for word in words[1:] if word.startswith("-")]
     return any(FORCES.fullmatch(word) for word in options) and not any(SAYS.fullmatch(word) for word in options)  # guard: status
 
 
-def script_of(argv: List[str]) -> str:
-    """The file that a shell runs: the first word that is no option of it; nothing where it runs a text (`-c`), or reads its standard input."""
+def shell_words(argv: List[str]) -> Tuple[str, str]:
+    """The text of `sh -c TEXT`, and the script of `sh SCRIPT`: the first word that is no option of the shell. Where it has neither
+    it reads its standard input."""
     if base_name(argv) not in SHELLS:
-        return ""
+        return "", ""
     options, at = "", 1
     while at < len(argv) and argv[at][:1] in ("-", "+"):
         word, at = argv[at], at + 1
@@ -46,7 +48,18 @@ def script_of(argv: List[str]) -> str:
             break
         options += word if re.match(r"-\w", word) else ""  # of one letter each, as `-ec`
         at += bool(NAMES_NEXT.fullmatch(word))
-    return argv[at] if at < len(argv) and not {"c", "s"} & {*options} else ""
+    first = argv[at] if at < len(argv) else ""
+    return (first, "") if "c" in options else ("", "" if "s" in options else first)
+
+
+def shell_text(argv: List[str]) -> str:
+    """The text of `sh -c TEXT`, else nothing."""
+    return shell_words(argv)[0]
+
+
+def script_of(argv: List[str]) -> str:
+    """The file that a shell runs, else nothing."""
+    return shell_words(argv)[1]
 
 
 @machine.asked

@@ -21,7 +21,7 @@ READS = r", O_RDONLY(?:\|O_(?:CLOEXEC|NOCTTY|NONBLOCK|DIRECTORY|LARGEFILE|NOFOLL
 # tried before one with two; last, requests that say nothing of a file. What may be absent is an empty choice: Python is slower where it counts.
 LOOKING = (
     r"\n\d+ +(?:(?:readlink|openat|newfstatat|access|faccessat2|readlinkat|open|faccessat|stat|statx|lstat|statfs)\(" + AT + r'"(FOLDERS[^"\n]*)"'
-    r"(?:" + READS + r'|[^"\n={]*(?:\{[^"\n]*\}[^"\n=]*|)= |, "[^"\n]*"[^"\n={]*= )' + RESULT
+    r"(?:" + READS + r'|(?!, O_)[^"\n={]*(?:\{[^"\n]*\}[^"\n=]*|)= |, "[^"\n]*"[^"\n={]*= )' + RESULT  # guard: opens-that-change-something
     + r'|newfstatat\(\d+<[^>\n]*>, "", [^"\n]* = 0(?=\n|$)'
     + r'|(?:rt_sigprocmask\(|prlimit64\(0, )[^\n]*= 0(?=\n|$)'
     + r'|wait4\(-1, [^\n]*WNOHANG[^\n]* = (?:0|-1 ECHILD [^\n]*)(?=\n|$)'  # guard: waits-that-find-child

@@ -11,6 +11,7 @@ GUARDS: List[Guard] = [
         ("copies", "return os.path.getsize(path) == os.path.getsize(real) and filecmp.cmp(path, real, shallow=False)", "commands.Makefiles.another_make", LOST_HOLE),
     ),
     *guards("commands/shelltext.py",
+        ("what-is-removed", 'words = argv if name == "rm" else []', "later.Later.removed_a_pattern"),
         ("what-find-does-beside", 'return "-delete" in argv', "shelltext.Words.removals"),
         ("status", "return bool(words) and not any(SAYS.fullmatch(word) for word in options)", "shelltext.Words.removals"),
         ("status", "return any(FORCES.fullmatch(word) for word in options)", "shelltext.Words.removals"),

@@ -183,6 +183,7 @@ GUARDS: List[Guard] = [
         ("write-is-of-all-names", "if False:", "cases.Cases.hard_link", YES),
     ),
     *guards("trace/sifting.py",
+        ("opens-that-change-something", r"""r"(?:" + READS + r'|[^"\n={]*(?:\{[^"\n]*\}[^"\n=]*|)= |, "[^"\n]*"[^"\n={]*= )' + RESULT""", "sifting.Skips.open_with_other_flags_is_read"),
         ("waits-that-find-child", r"+ r'|wait4\(-1, [^\n]*WNOHANG[^\n]* = [^\n]*(?=\n|$)'", "classes.Sifted.waits_that_find_nobody"),
         ("doubles-of-files", r"+ r'|fcntl\(\d+<[^>\n]*>, F_DUPFD(?:_CLOEXEC|)\b[^\n]*= ' + RESULT", "classes.Sifted.requests_that_say_nothing_of_a_file"),
         ("one-process-and-one-descriptor", r'ROW = re.compile(rb"(\n(\d+) +write\((0x[0-9a-f]+), [^\n]*)(?:\n\d+ +write\([^\n]*)+")', "classes.Sifted.a_row_of_writes"),
