@@ -142,11 +142,13 @@ class Signals(unittest.TestCase):
                 self.assertEqual((2, [], []), (len(outputs), [pid for pid in pids if is_alive(str(pid))], [path for path in outputs if os.path.exists(Path(path).parents[1])]))
 
     def test_builds_that_are_left(self) -> None:
-        """They end where nobody lives who could let their recipes begin."""
-        with support.Project({"Makefile": "all: a b\na b: ; : > begun; sleep 1; touch $@\n"}) as project:
+        """They end where nobody lives who could let their recipes begin: the gates stand still before any comes."""
+        with support.Project({"Makefile": "X := $(shell : > begun; sleep 4)\nall: a b\na b: ; sleep 1; touch $@\n"}) as project:
             process, until = started(project), time.monotonic() + 60
-            while "hold\n" not in [shown(pid, "comm") for pid in below(process.pid)] and time.monotonic() < until:
-                time.sleep(0.01)
+            for name, count in (("make\n", 3), ("hold\n", 1)):
+                while [shown(pid, "comm") for pid in below(process.pid)].count(name) < count and time.monotonic() < until:
+                    time.sleep(0.01)
+                os.killpg(process.pid, signal.SIGSTOP)
             pids = [*map(str, below(process.pid))]
             os.killpg(process.pid, signal.SIGKILL)
             process.communicate(timeout=60)
