@@ -71,7 +71,7 @@ class Meeting(Gate):
     def let_go(self, pid: int, channel: socket.socket) -> None:
         key = self.owners[pid]
         if self.schedule and self.schedule.is_start and key == self.late.key:
-            self.is_reached |= self.is_over(self.early.key)
+            self.is_reached |= not self.early.is_recipe or self.is_over(self.early.key)
         for side in self.reported():
             if key == side.key:
                 self.ask_for_reports(pid, channel, side.side)
@@ -119,7 +119,7 @@ class Meeting(Gate):
         return is_quiet(root, {*self.waiting, *self.held, *lent}) or self.stalled.is_so(root, self.waiting, {*self.held, *lent})
 
     def may_begin(self, key: Key) -> bool:
-        if not self.held:
+        if not self.held or not self.early.is_recipe:
             return super().may_begin(key)
         return any(it.key and key[:len(it.key)] == it.key for it in (self.early, self.late))
 
@@ -129,11 +129,11 @@ class Meeting(Gate):
         if not self.is_idle(root):
             return False
         self.hear_makes()
-        is_over = self.is_over(self.early.key)
+        is_over = self.early.is_recipe and self.is_over(self.early.key)
         rows = [self.bare(pid) for pid in self.waiting]
         if not is_over and any((make, name) in self.open or self.may_begin(key) for make, name, key in rows):
             return super().turn(root)
-        self.is_reached |= is_over
+        self.is_reached |= is_over or not self.early.is_recipe
         for listener, number in self.held.values():
             go_on(listener, number)
         self.held.clear()

@@ -29,6 +29,7 @@ class Held:
     side: str
     target: str
     folder: str
+    is_recipe: bool
     key: Key = ()
     task: int = 0  # its place in the serial order
     is_part: bool = False  # a process of it, and not the whole recipe
@@ -82,6 +83,7 @@ def written(record: Path) -> Iterator[tuple[str, str]]:
     for number in read_json(record / "record.json").get("builds", []):
         about = read_json(record / "builds" / number / "build.json")
         yield from ((about["folder"], file_in(about, it)) for task in tasks_of(record, number) for it in task["writes"])
+        yield from ((about["folder"], it) for label in about["labels"].values() for it in label.get("folders", {}).get("made", ()))
 
 
 def written_outside(record: Path, folder: str) -> Iterator[str]:
@@ -100,10 +102,10 @@ def choice(number: int, race: Race, graph: Graph) -> Chosen:
     sums = Counter(it.get("sum") for it in about["labels"].values())
     for side, recipe in zip(SIDES, (race.first.recipe, race.second.recipe)):
         label = about["labels"].get(recipe.label, {})
-        sum_ = label.get("sum")
+        kind, sum_ = label.get("kind", ""), label.get("sum")
         own = (it.key for it in graph.tasks if it.build == race.build and it.key is not None and it.key[-1][:2] == (folder, sum_ or recipe.target))
         key = graph.tasks[graph.at[race.build, recipe.label]].key or next(own, None) or ()  # all rules with two colons of a target are one recipe
-        sides.append(Held(side, recipe.target, folder, key, graph.at[race.build, recipe.label], label.get("kind") == "part", sum_ is not None and sums[sum_] > 1))
+        sides.append(Held(side, recipe.target, folder, kind in ("recipe", "part"), key, graph.at[race.build, recipe.label], kind == "part", sum_ is not None and sums[sum_] > 1))
     path = file_in(about, race.path)
     whole = os.path.normpath(os.path.join(folder, path))
     return Chosen(number, race, whole + "/" * path.endswith("/"), (sides[0], sides[1]))

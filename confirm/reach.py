@@ -3,7 +3,7 @@
 from __future__ import annotations
 
 import os
-from collections.abc import Container, Iterable, Iterator
+from collections.abc import Callable, Container, Iterable, Iterator, Sequence
 from dataclasses import dataclass, field
 from pathlib import Path
 from typing import Any
@@ -35,7 +35,8 @@ class Tasks:
         tasks = cls(folder)
         for number in read_json(record / "record.json").get("builds", []):
             tasks.add_build(number, record)
-        tasks.add_targets()
+        tasks.add_targets(lambda kind: kind == "recipe")
+        tasks.add_targets(lambda kind: kind != "recipe")  # guard: targets-that-no-recipe-made
         return tasks
 
     def name(self, build: str, path: str) -> str:
@@ -56,14 +57,17 @@ class Tasks:
             for it in task["after"]:
                 self.users.setdefault((number, it), []).append(own)
 
-    def add_targets(self) -> None:
-        """A target is of the tasks that have its name. It stands among what they write only where other recipes touch it too."""
+    def add_targets(self, is_meant: Callable[[str], bool]) -> None:
+        """A target is of the tasks that have its name. It stands among what they write only where other recipes touch it too; where some do
+        and write it, a look at it is no reason."""
+        known = {*self.writers}
         for number, about in self.abouts.items():
             for label, it in about["labels"].items():
-                if it.get("target"):
-                    self.targets.setdefault(it["target"], set()).add((number, label))
-                if it.get("kind") == "recipe":
-                    self.writers.setdefault(self.name(number, it["target"]), set()).add((number, label))
+                if it.get("target") and is_meant(it.get("kind", "")):
+                    name, own = self.name(number, it["target"]), (number, label)
+                    self.targets.setdefault(it["target"], set()).add(own)
+                    if it.get("kind") == "recipe" or name not in known:
+                        self.writers.setdefault(name, set()).add(own)
 
     def within(self, build: str) -> Task | None:
         """The task inside which a make or ninja ran."""
@@ -112,7 +116,7 @@ class Blame:
 class Reach:
     """The tasks that a race can change. `own` are the two, and who needs one of them; `around` those inside which they ran."""
 
-    def __init__(self, tasks: Tasks, race: Race) -> None:
+    def __init__(self, tasks: Tasks, race: Race, races: Sequence[Race] = ()) -> None:
         self.tasks, self.own, self.around = tasks, set[Task](), set[Task]()
         sides = [(race.build, it.recipe.label) for it in (race.first, race.second)]
         self.take(sides)
@@ -124,6 +128,7 @@ class Reach:
                 self.around.add(above)  # guard: recipe-around-others-says-nothing
                 self.take(tasks.users.get(above, ()))  # guard: who-uses-recipe-around
             build = above and above[0]
+        self.doubtful = {it for it in sides if not all(map(self.is_recipe, sides)) and self.has_other(it, races)}  # guard: who-races-with-others-beside-make
 
     def take(self, tasks: Iterable[Task]) -> None:
         """Some tasks with all that need them, and what runs inside of those."""
@@ -133,6 +138,15 @@ class Reach:
             if task not in self.own:
                 self.own.add(task)
                 todo += [*self.tasks.users.get(task, ()), *self.tasks.inside(task)]  # guard: who-needs-one-of-two
+
+    def is_recipe(self, task: Task) -> bool:
+        """Whether a recipe of a task ran."""
+        return bool(self.tasks.abouts[task[0]]["labels"].get(task[1], {}).get("kind") == "recipe")
+
+    def has_other(self, task: Task, races: Sequence[Race]) -> bool:
+        """Whether a recipe races with a recipe of others too. While it is held beside make alone, that one may run before it."""
+        pairs = ({(it.build, side.recipe.label) for side in (it.first, it.second)} for it in races)
+        return any(task in pair and any(self.is_recipe(it) and it not in self.own for it in pair) for pair in pairs)
 
     def blame(self, found: set[str], there: Container[str], output: str) -> Blame:
         """Who can have left `found` otherwise, of which `there` are the files that are there. Where the build fails, that is who failed:
@@ -145,7 +159,7 @@ class Reach:
         """A file is the matter of others also where who needs the two made it of a file that is. With those who did."""
         others: set[str] = set()
         while True:
-            spoilt = {it for it in self.own if self.tasks.reads.get(it, set()) & others}  # guard: what-others-spoilt
+            spoilt = {it for it in self.own if self.tasks.reads.get(it, set()) & others} | self.doubtful  # guard: what-others-spoilt
             more = {it for it in found if self.is_of_others(it, spoilt)}
             if more <= others:  # guard: what-is-made-of-what-others-spoilt
                 break

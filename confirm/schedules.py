@@ -59,7 +59,8 @@ class Points:
 @dataclass(frozen=True)
 class Schedule:
     """A recipe is held at a point until the other has ended. Both wait at their beginnings until both have come there, and the other one
-    until the point is reached: so all schedules of two recipes differ in the order of these two alone."""
+    until the point is reached: so all schedules of two recipes differ in the order of these two alone. Where make is on the other side
+    there is nothing to wait for."""
 
     at: Point
     is_start: bool
@@ -72,6 +73,8 @@ class Schedule:
     def text(self, race: Chosen) -> str:
         """What happens, in words."""
         held, other = race.of(self.held), race.other(self.held)
+        if not other.is_recipe:
+            return f"{held.target} is held {'at its beginning' if self.is_start else str(self.at)} while make goes on"
         if self.is_start:
             return f"all of {other.target} before {held.target}"
         return f"all of {other.target} while {held.target} is held {self.at}"
@@ -88,17 +91,32 @@ def inner(points: Sequence[Point]) -> list[Point]:
     return sorted(between, key=lambda it: ("before", "start", "after").index(it.when))  # guard: before-uses-first
 
 
-def serial_order(points: Points) -> Schedule:
+def middles(points: Points, race: Chosen, side: str) -> list[Point]:
+    """Where to hold a side in its middle. While make alone is on the other side it may start any recipe, so also where processes
+    of the held one begin."""
+    own = points.of(side) if race.of(side).is_recipe else []
+    found = inner(own)
+    return found if race.other(side).is_recipe else [*found, *(it for it in own[1:] if not it.is_use and it not in found)]
+
+
+def serial_order(points: Points, race: Chosen) -> Schedule | None:
     """The schedule that keeps the order of the serial build. What it leaves otherwise is no matter of these two."""
-    late = next(side for side in SIDES if side != points.all[0].side)
-    return Schedule(points.of(late)[0], True)
+    late = "second" if not points.all or points.all[0].side == "first" else "first"
+    return start_of(points, race, late)
 
 
-def tries(points: Points) -> Iterator[Schedule]:
+def start_of(points: Points, race: Chosen, side: str) -> Schedule | None:
+    """The schedule that holds a side at its beginning."""
+    own = points.of(side)
+    return Schedule(own[0], True) if own and race.of(side).is_recipe else None
+
+
+def tries(points: Points, race: Chosen) -> Iterator[Schedule]:
     """The schedules to try, the likeliest first: the other order, then each recipe held in its middle."""
     early = points.all[0].side
-    yield Schedule(points.of(early)[0], True)
-    rows = [inner(points.of(side)) for side in (early, *(it for it in SIDES if it != early))]
+    if reverse := start_of(points, race, early):
+        yield reverse
+    rows = [middles(points, race, side) for side in (early, *(it for it in SIDES if it != early))]
     for at in range(max(map(len, rows))):
         for row in rows:
             if at < len(row):

@@ -56,7 +56,7 @@ class Search:
 
     def run(self, runs: int, only: int) -> None:
         """Tries at most so many schedules, or one alone, until one of them leaves something else, twice."""
-        for number, schedule in numbered(tries(self.serial.gate.points), only):
+        for number, schedule in numbered(tries(self.serial.gate.points, self.race), only):
             if self.finding.builds >= runs:
                 self.finding.is_cut = True
                 break
@@ -82,8 +82,11 @@ class Search:
 
     def in_order(self) -> set[str]:
         """What a parallel build leaves otherwise where the two run in the order of the serial build: others do that."""
+        order = serial_order(self.serial.gate.points, self.race)
+        if order is None:
+            return set()
         self.finding.has_order = True
-        left, found = self.trial.held(self.race, serial_order(self.serial.gate.points))
+        left, found = self.trial.held(self.race, order)
         self.note(left, found)
         if STATUS in found:
             raise clouded({STATUS})
@@ -123,7 +126,7 @@ def search(trial: Trial, race: Chosen, runs: int, only: int = 0) -> Finding:
         if same := [it.target for it in race.sides if it.is_twice]:
             raise CannotConfirm(f"another build statement has the command of {same[0]}, so it cannot be held alone: give it a command of its own")
         serial = trial.marked(race)
-        Search(trial, finding, serial, Reach(trial.tasks, race.race)).run(runs, only)
+        Search(trial, finding, serial, Reach(trial.tasks, race.race, trial.races)).run(runs, only)
     except CannotConfirm as error:
         finding.why = str(error)
     return finding

@@ -15,8 +15,9 @@ from confirm.races import CannotConfirm, Chosen
 from confirm.reach import Tasks
 from confirm.room import Room
 from confirm.schedules import Schedule
-from record.orders.builds import OWN, Built, Plan
-from record.orders.graph import Graph
+from record.orders.builds import MANY, OWN, Built, Plan
+from record.orders.gate import Key
+from record.orders.graph import Graph, placed
 from record.orders.trees import Difference, difference, differing, passing, remove
 from report.model import Race
 
@@ -88,11 +89,17 @@ class Trial:
         self.room.bound(self.serial.built.seconds)
 
     def plan(self, race: Chosen, schedule: Schedule) -> Plan:
-        """The order in which recipes begin: those two one right behind the other, as the schedule says."""
+        """The order in which recipes begin: those two one right behind the other, as the schedule says. One that is held beside make alone is the last
+        that begins, or goes on."""
         late, early = race.of(schedule.held), race.other(schedule.held)
-        places, _ = self.graph.beside([(early.task, late.task) if schedule.is_start else (late.task, early.task)])
-        after = {late.key: {early.key}} if late.key and early.key and schedule.is_start else {}
-        return Plan(PARALLEL, places, after=after)
+        after: dict[Key, set[Key]] = {}
+        if not early.is_recipe:
+            places = placed([it.key for it in self.graph.tasks])
+            places.update({late.key: float("-inf")} if late.key and schedule.is_start else {})
+        else:
+            places, _ = self.graph.beside([(early.task, late.task) if schedule.is_start else (late.task, early.task)])
+            after.update({late.key: {early.key}} if late.key and early.key and schedule.is_start else {})
+        return Plan(PARALLEL, places, MANY, after)
 
     def marked(self, race: Chosen) -> Left:
         """A second serial build, in which the two recipes say where they are; what it leaves in another way is left out."""
@@ -106,9 +113,9 @@ class Trial:
             raise failed("a second serial build of the copy", again.built)
         self.unstable |= differing(self.serial.files, again.files)
         self.passing += passing(self.serial.files.keys() - again.files.keys(), again.files.keys() - self.serial.files.keys())
-        missing = [it.target for it in race.sides if not again.gate.points.of(it.side)]
-        if missing:
-            whose = " and ".join(missing)
+        missing = [it.target for it in race.sides if it.is_recipe and not again.gate.points.of(it.side)]
+        if missing or not again.gate.points.all:
+            whose = " and ".join(missing) or race.race.first.recipe.target
             raise CannotConfirm(f"the recipe of {whose} cannot be held: in the copy it does not run, or make starts no process for it. "
                                 "If it does not run, such as where a folder that it makes is still there: --prepare 'make clean'")
         return again

@@ -29,6 +29,8 @@ BELOW = {"Makefile": "all: one copy\none: ; $(MAKE) -C sub\ncopy: one ; cat sub/
 OF_NINJA = "rule sh\n  command = $c\n" + "".join(f"build {name}: sh\n  c = {text}\n" for name, text in (
     ("a", "echo same > shared; touch a"), ("y", "cat b > y || echo none > y"), ("b", "echo same > shared; echo 1 > b")))
 THREE = {"Makefile": "all: a b c\n" + "".join(f"{it}: ; echo {it} > t; mv t {it}\n" for it in "abc")}
+# While the recipe of a is held beside make alone, that of y runs before it.
+LOOKED = {"Makefile": "all: a y x\na: ; cat conf > a || echo none > a; echo 1 > x\ny: ; echo 1 > conf; touch y\nx: in ; test -f x || echo 1 > x\n", "in": ""}
 
 
 class OtherTests:
@@ -89,6 +91,12 @@ class OtherTests:
         self.record()
         self.check(1, "CONFIRMED  all of c while a is held before `mv` renames it:\n", words=("a", "c"))
 
+    def test_beside_make_alone(self) -> None:
+        self.files(LOOKED)
+        self.record()
+        text = self.check(0, "NOT CONFIRMED in ", "  Another race shows, race 1:\n    a: line 1 is `1`", words=("x",))
+        self.assertNotIn("\nCONFIRMED", text)
+
     def test_make_inside_a_recipe_that_another_needs(self) -> None:
         self.files(BELOW)
         self.record()
@@ -129,14 +137,14 @@ class ReachTests(unittest.TestCase):
         (place / "tasks").write_text("".join(json.dumps(row) + "\n" for row, _ in rows))
         (self.record / "record.json").write_text(json.dumps({"builds": self.numbers}))
 
-    def race(self, first: str, second: str, build: str = "001") -> Race:
+    def race(self, first: str, second: str, build: str = "001", is_look: bool = False) -> Race:
         """A race of two tasks of a build."""
-        one, other = (Recipe(it, it.partition("@")[0], "", "", 0, "") for it in (first, second))
+        one, other = (Recipe(it, it.partition("@")[0], "", "", 0, "", is_look and it == second) for it in (first, second))
         return Race(build, "f", "f", "f", "f", "", Side(one, "writes"), Side(other, "reads"), LOG, Remedy(), (), "/p", ("", "", ""), True, True)
 
-    def blame(self, race: Race, found: str, output: str = "", there: str = "") -> Blame:
+    def blame(self, race: Race, found: str, output: str = "", there: str = "", races: tuple[Race, ...] = ()) -> Blame:
         """Whose matter some names are."""
-        return Reach(Tasks.of(self.record, "/p"), race).blame({*found.split()}, there.split(), output)
+        return Reach(Tasks.of(self.record, "/p"), race, races).blame({*found.split()}, there.split(), output)
 
     def test_files(self) -> None:
         self.build(task("a", writes="f"), task("b", reads="f"), task("c", reads="f", writes="d"), task("app", "a b"), task("all", "app", kind="group"))
@@ -147,6 +155,22 @@ class ReachTests(unittest.TestCase):
     def test_files_of_what_others_spoilt(self) -> None:
         self.build(task("a"), task("b"), task("c", writes="d"), task("app", "a c", "d"), task("top", "app", "app"), task("own", "a"))
         self.assertEqual(Blame({"own"}, {"d", "app", "top"}), self.blame(self.race("a", "b"), "d app top own"))
+
+    def test_targets_that_no_recipe_made(self) -> None:
+        self.build(task("a", writes="f"), task("x", reads="f", kind="group"), task("f@look", kind="group"), task("app", "x"))
+        self.assertEqual(Blame({"x", "app", "f"}), self.blame(self.race("a", "x", is_look=True), "x app f"))
+
+    def test_recipe_that_races_with_others_beside_make(self) -> None:
+        self.build(task("a", writes="f"), task("x", reads="f", kind="group"), task("c"))
+        look = self.race("a", "x", is_look=True)
+        self.assertEqual(Blame({"x"}, {"a"}), self.blame(look, "a x", races=(look, self.race("a", "c"))))
+        self.assertEqual(Blame(set(), {"f", "x"}), self.blame(look, "f x", races=(look, self.race("a", "c"))))
+        self.assertEqual(Blame({"x", "f", "a"}), self.blame(look, "f a x", races=(look, self.race("c", "c"))))
+
+    def test_recipe_that_races_with_others_between_recipes(self) -> None:
+        self.build(task("a", writes="f"), task("b", reads="f"), task("c"))
+        race = self.race("a", "b")
+        self.assertEqual(Blame({"a", "b"}), self.blame(race, "a b", races=(race, self.race("a", "c"))))
 
     def nested(self) -> None:
         """Two makes one after the other inside a recipe, beside which another recipe runs one."""
