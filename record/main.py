@@ -244,7 +244,7 @@ def no_command(word: str) -> str:
 def judge_build(folder: Path, race: str, orders: Orders) -> Judged:
     """Asks `race` about one build of a record, and takes in what other orders came to."""
     about = read_json(folder / "build.json")
-    return Judged(folder.name, about, tried(orders, folder.name, about, judge(race, folder / "tasks", about["folder"])), orders)
+    return Judged(folder.name, about, tried(orders, folder.name, about["folder"], judge(race, folder / "tasks", about["folder"])), orders)
 
 
 def judge_record(out: Path, race: str) -> Tuple[int, List[Judged]]:

@@ -30,7 +30,7 @@ def judge(folder: Path, program: Path) -> Report:
         build = read_build(folder / "builds" / number, number, project, top)
         for label, it in build.about["labels"].items():
             (report.ran if it.get("kind") == "recipe" else report.considered).add(build.name(it.get("target") or label))
-        verdict = tried(record.get("orders"), number, build.about, ask(str(program), folder / "builds" / number / "tasks", build.folder))
+        verdict = tried(record.get("orders"), number, build.folder, ask(str(program), folder / "builds" / number / "tasks", build.folder))
         report.races += [build.race(it, verdict) for it in verdict.races]
         report.is_fixed &= verdict.is_fixed
         report.holes += [f"build {number}: {explained(verdict.refused)}"] * bool(verdict.refused)

@@ -16,7 +16,7 @@ from record.judge import judge, unshown
 from record.orders.builds import BESIDE, CannotTry, Plan, Room, Running, is_child_able
 from record.orders.gate import Key
 from record.orders.graph import Graph
-from record.orders.joined import contested, join, judged
+from record.orders.joined import contested, join, judged, keep, pass_questions
 from record.orders.trees import held_by, remove
 from record.orders.trial import Trial
 from record.watch.lay import leave
@@ -98,7 +98,11 @@ def explore(room: Room, record: Record, out: Path, race: str, most: int, running
         other = Graph(room.top / "record")
         trial.overlap(contested(graph, other))  # guard: folders-that-two-make
         join(graph, other)
-    return trial.result()
+    found = trial.result()
+    if not found["untried"]:
+        pass_questions(graph)  # guard: what-is-tried-out-is-judged-no-more
+    keep(graph)
+    return found
 
 
 def fixes(graph: Graph, race: str, text: Path) -> dict[Key, set[Key]]:

@@ -19,8 +19,18 @@ def join(graph: Graph, other: Graph) -> None:
             also = judged(other.builds[other.known[known]], rows[row["task"]]) if row["task"] in rows else row
             writes = {*row["writes"], *also["writes"]}
             row["reads"], row["writes"] = sorted({*row["reads"], *also["reads"]} - writes), sorted(writes)
-        text = "".join(json.dumps(row, ensure_ascii=False, separators=(",", ":")) + "\n" for row in graph.rows[number])
-        replace(graph.record / "builds" / number / "tasks", text)
+
+
+def pass_questions(graph: Graph) -> None:
+    """Leaves out of the tasks of a record what other orders have tried out."""
+    for number, build in graph.builds.items():
+        graph.rows[number] = [judged(build, row) for row in graph.rows[number]]
+
+
+def keep(graph: Graph) -> None:
+    """Writes the tasks of a record anew."""
+    for number, rows in graph.rows.items():
+        replace(graph.record / "builds" / number / "tasks", "".join(json.dumps(row, ensure_ascii=False, separators=(",", ":")) + "\n" for row in rows))
 
 
 def judged(build: Mapping[str, Any], row: Mapping[str, Any]) -> dict[str, Any]:

@@ -9,24 +9,18 @@ from typing import Any, Optional
 
 from record.build.text import relative
 from record.judge import Race, Verdict
-from record.kinds import is_of_folder
 
 Orders = Optional[Mapping[str, Any]]  # `orders` of record.json
 
 
-def is_tried(about: Mapping[str, Any], race: Race) -> bool:
-    """Whether a conflict is one that other orders try out: that a folder is there, or a name for which make alone asks."""
-    return is_of_folder(race.path) or any(race.path in about["labels"].get(one, {}).get("asks", ()) for one in (race.first, race.second))
-
-
-def tried(orders: Orders, number: str, about: Mapping[str, Any], verdict: Verdict) -> Verdict:
+def tried(orders: Orders, number: str, folder: str, verdict: Verdict) -> Verdict:
     """What is known of a build: what `race` said of it, and what its recipes left in other orders."""
     if orders is None or verdict.refused:
         return verdict
-    races = [race for race in verdict.races if orders["untried"] or not is_tried(about, race)]
+    races = [*verdict.races]
     known = {(race.first, race.second) for race in races}
     more = [one for one in orders["shown"] if one["build"] == number and (one["first"], one["second"]) not in known]
-    races += [Race(relative(about["folder"], one["path"]) or one["second"], one["first"], "runs", one["second"], "runs") for one in more]
+    races += [Race(relative(folder, one["path"]) or one["second"], one["first"], "runs", one["second"], "runs") for one in more]
     shown = {(one["first"], one["second"]) for one in orders["shown"]}
     races.sort(key=lambda race: (race.first, race.second) not in shown)
     edges = ["%s: %s" % (race.second, race.first) for race in races]

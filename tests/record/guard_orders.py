@@ -6,6 +6,7 @@ from guard import UNSAID, YES, Guard, guards
 
 GUARDS: List[Guard] = [
     *guards("orders/exploring.py",
+        ("what-is-tried-out-is-judged-no-more", "pass", "orders.Orders.case_name_for_which_make_asks"),
         ("builds-that-turn-nothing-round", "if False:", "orders.Orders.where_one_job_is_asked_for"),
         ("folders-that-two-make", "pass", "orders.Orders.case_folder_that_two_make", UNSAID),
         ("makes-of-other-users", "pass", "laid.Covered.another_user"),

@@ -34,6 +34,8 @@ CASES: Dict[str, Tuple[str, Dict[str, str], int, Tuple[str, ...]]] = {
         "RACE  b", "  seen where b runs beside a:", "    the build fails with status 2", "  fix: b: a")),
     "folder that one makes by p": ("all: a b\na:\n\t@test -d d || mkdir d\n\t@touch d/a a\nb: ; @mkdir -p d; touch d/b b\n", {}, 1, ("  seen where b runs beside a:", "    the build fails with status 2")),
     "folder that both make by p": ("all: a b\na b:\n\t@test -d d || mkdir -p d\n\t@echo > d/$@; echo > $@\n", {}, 0, ("in other orders left the same 5 files",)),
+    "name for which make asks": ("all: a u\na: ; @echo > x; echo > a\nu: x ; @echo > u\nx: ;\n", {}, 0, ("other orders left the same 4 files",)),
+    "file beside a name for which make asks": ("all: w b\nw: ; @echo 1 > b; echo 1 > z; echo > w\nb: F ; @cat z > /dev/null; echo > t\nF: ;\n.PHONY: F\n", {}, 1, ("RACE  z",)),
     "jobs alone": ("all: a b\na: ; @case \"$$MAKEFLAGS\" in *jobserver*) echo many > a ;; *) echo one > a ;; esac\nb: ; @echo b > b\n", {}, 1, (
         "RACE  with several jobs, whatever the order of recipes is:", "  a: line 1 is `many`, and `one` after a serial build")),
     "what differs in two serial builds": ("all: d/a list\nd/a: ; @echo a > d/a\nlist: ; @ls d > list; date +%N >> list\n", {"d/k": ""}, 0, ("note: two builds in one order differ in list, so other orders are not compared there",)),
