@@ -7,28 +7,24 @@ from typing import Any, Dict, Iterable, List, Optional, Tuple
 
 from record.judge import Race, Verdict
 from record.kinds import AT_ONCE, FORGOTTEN, LEFT, OUTPUT, TEMPORARY, TWO, Kind, Meeting, is_of_folder
-from record.make.words import numbers_of
 from record.ninja.fix import by_cmake, by_meson, owner
-from record.rules import Lines, logical, rule_above
 from record.build.text import file_of
 
 # CMake's makefiles have a makefile for all targets, whose rules run a make for each.
 CMAKE_FILE = re.compile(r"(?:^|/)CMakeFiles/Makefile2$")
 CMAKE_TARGET = re.compile(r"(?:^|/)CMakeFiles/([^/]+)\.dir/all$")
 ESCAPED = re.compile(r"([ \t:#%])")
-OF_NINJA = re.compile(r"([ :$])")
 TOGETHER = 10  # so many targets stand in one line
 
 
 @dataclass(frozen=True)
 class Remedy:
-    """What ends a race. `rule`: a target and what it has to name, as a line of a makefile has them; `words`: other lines, in the words of CMake
-    or of who wrote the rule; `place`: the lines of a file that they take the place of. None where no line helps. `is_edge`: they say that the
-    second recipe waits for the first, which `race fix` checks. `advice`: what is better, or what to do where there is no line."""
+    """What ends a race. `rule`: a target and what it has to name, as a line of a makefile has them; `words`: other lines, as a statement of ninja or
+    in the words of CMake. None where no line helps. `is_edge`: they say that the second recipe waits for the first, which `race fix` checks.
+    `advice`: what is better, or what to do where there is no line."""
 
     rule: Optional[Tuple[str, str]] = None
     words: Tuple[str, ...] = ()
-    place: Optional[Lines] = None
     is_edge: bool = True
     advice: str = ""
 
@@ -37,22 +33,13 @@ class Remedy:
         """The lines to write, each as it has to stand."""
         return ("%s: %s" % self.rule,) if self.rule else self.words
 
-    def note(self, folder: str) -> str:
-        """What the lines take the place of; nothing where they are new."""
-        if not self.place:
-            return ""
-        name, first, last = os.path.relpath(self.place.file, folder), self.place.first, self.place.last
-        return "in place of %s:%s" % (name, first if first == last else "%d-%d" % (first, last))
-
 
 def remedy(about: Dict[str, Any], race: Race) -> Remedy:
     """What ends a race of a build."""
     it = Meeting(about, race)
     kind = it.kind
-    if kind in (AT_ONCE, LEFT):  # guard: no-line-orders-processes
+    if kind in (AT_ONCE, LEFT, TWO):  # guard: no-line-orders-processes
         return Remedy(is_edge=False, advice=kind.advice)
-    if kind is TWO:  # guard: one-rule-with-two-outputs
-        return as_one(it)
     instead = without_line(it)
     if instead:
         return Remedy(is_edge=False, advice=instead)
@@ -64,7 +51,9 @@ def remedy(about: Dict[str, Any], race: Race) -> Remedy:
         return Remedy(words=("add_dependencies(%s %s)" % (late, early),), advice=advice)
     is_loose = about.get("tool") == "make" and (is_of_folder(race.path) or bool(it.first.get("order_only")))  # guard: who-waits-for-what-makes-folder
     needed = ("| " if is_loose else "") + in_makefile(it.early)
-    return in_colons(it, needed) or Remedy((in_makefile(it.late), needed), advice=advice)
+    if it.second.get("colons"):  # guard: line-of-rule-with-two-colons
+        return Remedy(words=("%s:: %s" % (in_makefile(it.late), needed),), advice="write it into that very rule: another rule with two colons is one of its own")
+    return Remedy((in_makefile(it.late), needed), advice=advice)
 
 
 def better(it: Meeting, kind: Kind) -> str:
@@ -90,51 +79,16 @@ def cmake_target(found: Dict[str, Any]) -> str:
     return match.group(1) if match else ""
 
 
-def rule_of(it: Meeting, found: Dict[str, Any]) -> Optional[Lines]:
-    """The rule of a task, as it stands in its makefile now."""
-    return rule_above(os.path.join(it.about.get("folder", ""), found["file"]), found.get("line", 0)) if found.get("file") else None
-
-
-def as_one(it: Meeting) -> Remedy:
-    """One rule with two outputs, written so that make knows it: grouped from GNU make 4.3 on, else with an empty recipe for the others."""
-    rule = rule_of(it, it.first)
-    names, needs, recipe = rule.parts() if rule else ([], "", "")
-    if not rule or len(names) < 2 and "$" not in names[0] or "%" in rule.text.partition(";")[0]:
-        return Remedy(is_edge=False, advice=TWO.advice)
-    if numbers_of(it.about.get("make", "")) >= (4, 3):
-        return Remedy(words=(rule.edited(colons="&:"),), place=rule, is_edge=False)
-    if any("$" in one for one in names):
-        return Remedy(is_edge=False, advice=TWO.advice)
-    empty = ("%s: %s ;" % (" ".join(names[1:]), names[0]),)
-    own = " ".join(filter(None, (names[0] + ":", needs, recipe)))
-    return Remedy(words=empty + (own,), place=rule, is_edge=False)
-
-
-def in_colons(it: Meeting, needed: str) -> Optional[Remedy]:
-    """The line of a rule with two colons that waits: a line with one colon would be an error of the makefile, and one more rule with two would be
-    another rule. Nothing where the second is no such rule."""
-    if not it.second.get("colons"):  # guard: line-of-rule-with-two-colons
-        return None
-    rule = rule_of(it, it.second)
-    line = rule.edited(more=needed) if rule else "%s:: %s" % (in_makefile(it.late), needed)
-    return Remedy(words=(line,), place=rule, advice="" if rule else "write it into that very rule")
-
-
 def in_ninja(it: Meeting, advice: str) -> Remedy:
     """The same for ninja, in the words of CMake, Meson or who wrote the manifest."""
-    about, race, found = it.about, it.race, it.second
+    about, race = it.about, it.race
     early, late = owner(about["labels"], race.first), owner(about["labels"], race.second)
     if late[0] == "cmake" and late[1]:
         words, more = by_cmake(early, late, file_of(race.path) if race.path in about.get("meanings", {}) else race.path)
         return Remedy(words=words, advice=more or advice)
     if late[0] == "meson" and late[1]:
         return Remedy(advice=by_meson(race.first, late[1]))
-    statement = logical(os.path.join(about.get("folder", ""), found["file"]), found.get("line", 0), "$") if found.get("file") else None
-    if not statement or not statement.text.startswith("build "):
-        return Remedy(words=("build %s: .. || %s" % (race.second, race.first),), advice=advice)
-    text, bar, checks = statement.text.partition(" |@ ")
-    line = "%s%s %s" % (text, "" if " || " in text else " ||", OF_NINJA.sub(r"$\1", race.first)) + bar + checks
-    return Remedy(words=(line,), place=statement, advice=advice)
+    return Remedy(words=("build %s: .. || %s" % (race.second, race.first),), advice=advice)
 
 
 def without_line(it: Meeting) -> str:

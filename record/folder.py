@@ -166,7 +166,7 @@ def label_about(build: "Build", at: int, places: Places, leaves: Set[str]) -> Di
 def write_build(folder: Path, build: "Build", within: Optional[Dict[str, str]], record: Record) -> None:
     """One round: its tasks, what its labels and names stand for, and the task `within` which it ran."""
     folder.mkdir(parents=True)
-    root, labels, places, leaves = build.folder, labels_of(build.tasks), Places(build.folder, build.makefiles()), leaves_of(build)
+    root, labels, places, leaves = build.folder, labels_of(build.tasks), Places(build.folder), leaves_of(build)
     about = {label: label_about(build, at, places, leaves[id(build.tasks[at].node)]) for at, label in enumerate(labels)}
     edges = 0
     with open(folder / "tasks", "w", encoding="utf-8", errors="backslashreplace") as file:

@@ -107,16 +107,14 @@ def heading(about: Dict[str, Any], path: str) -> str:
     return name_of(about, path) + ("  (%s)" % meaning if meaning else "")
 
 
-def remedy_text(about: Dict[str, Any], remedies: List[Remedy], is_fixed: bool) -> List[str]:
+def remedy_text(remedies: List[Remedy], is_fixed: bool) -> List[str]:
     """What ends some races: advice, and the lines to write, with what was checked of them."""
     lines = ["  advice: " + advice for advice in dict.fromkeys(one.advice for one in remedies if one.advice)]
     words = merged(remedies)
     lined = [one for one in remedies if one.lines]
-    ends = "checked: ends " + ("these races" if len(lined) > 1 else "this race")
-    checked = ends if is_fixed and all(one.is_edge for one in lined) else ""
-    for at, word in enumerate(words[:SHOWN_LINES]):
-        notes = ", ".join(filter(None, (lined[0].note(about.get("project", "/")), checked)))
-        lines.append("  fix: %s%s" % (word, "          (%s)" % notes if notes and at == min(len(words), SHOWN_LINES) - 1 else ""))
+    checked = "          (checked: ends %s)" % ("these races" if len(lined) > 1 else "this race") if is_fixed and all(one.is_edge for one in lined) else ""
+    last = min(len(words), SHOWN_LINES) - 1
+    lines += ["  fix: %s%s" % (word, checked if at == last else "") for at, word in enumerate(words[:SHOWN_LINES])]
     return lines + (["  and %d more lines: race-report lists them" % (len(words) - SHOWN_LINES)] if len(words) > SHOWN_LINES else [])
 
 
@@ -128,7 +126,7 @@ def race_text(one: Judged, races: List[Race]) -> List[str]:
     ended = ["  the lines of other races end this one too"] if not remedies else []
     more = [more_text(about, races)] if len(races) > 1 else []
     inside = "  in %s: %s, %s" % (target(about, races[0].first), *(who(about, races[0], it) for it in (races[0].first, races[0].second))) if Meeting(about, races[0]).is_of_one_recipe else ""
-    return ["RACE  " + heading(about, races[0].path) + inside, *rows(about, races[0]), *result.seen(one.orders, races[0].first, races[0].second), *more, *ended, *remedy_text(about, remedies, verdict.is_fixed)]
+    return ["RACE  " + heading(about, races[0].path) + inside, *rows(about, races[0]), *result.seen(one.orders, races[0].first, races[0].second), *more, *ended, *remedy_text(remedies, verdict.is_fixed)]
 
 
 def short(words: str) -> str:

@@ -97,9 +97,8 @@ class Race:
 
     @property
     def note(self) -> str:
-        """What the lines take the place of, and whether they were checked."""
-        checked = "checked: ends this race" if self.is_fixed and self.remedy.is_edge else ""
-        return ", ".join(filter(None, (self.remedy.note(self.folder), checked)))
+        """Whether the lines were checked."""
+        return "checked: ends this race" if self.is_fixed and self.remedy.is_edge else ""
 
     @property
     def about(self) -> str:

@@ -81,10 +81,6 @@ class Build:
         """How many targets it looked at."""
         raise NotImplementedError
 
-    def makefiles(self) -> List[str]:
-        """The makefiles that it read."""
-        return []
-
     def about(self, at: int) -> Dict[str, Any]:
         """Where the recipe of a task stands, and its first line."""
         raise NotImplementedError

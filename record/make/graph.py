@@ -181,9 +181,6 @@ class MakeBuild(Build):
     def considered(self) -> int:
         return len(self.graph.round.nodes)
 
-    def makefiles(self) -> List[str]:
-        return list(dict.fromkeys(name for names in (*self.make.words.read, self.make.words.included) for name in names))
-
     def about(self, at: int) -> Dict[str, Any]:
         """Where the recipe of a task stands, and its first line; of a rule with two colons also which of the target's rules it is."""
         base, node = self.graph.base, self.tasks[at].node

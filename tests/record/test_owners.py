@@ -5,7 +5,7 @@ from collections import Counter
 from typing import List, Optional, Tuple
 
 import support
-from record.failed import failures
+from record.failed import failed
 from record.make.owners import Make, Owners
 from record.make.words import Words, read_words
 from record.trace.lives import Life
@@ -62,7 +62,7 @@ class Holes(unittest.TestCase):
 
     def test_make_that_failed(self) -> None:
         makes = Owners(make_of(), [words_of(status="EXIT 2")]).makes
-        self.assertEqual(["make all failed first"], failures(makes, [], "/w"))
+        self.assertEqual(makes, failed(makes))
 
     def test_recipe_without_a_process(self) -> None:
         self.assertIn("a recipe that ran has no process: b", self.holes(make_of((8, 5)), [words_of(self.JOB, self.AGAIN)]))

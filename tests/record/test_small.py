@@ -131,7 +131,7 @@ SMALL: Dict[str, Small] = {
     "double_colon_of_one_user": Small("safe", "all: y u\ny: ; touch y\nx:: ; echo 1 > one\nx:: ; echo 2 > two\nu: x ; cat two > u\n"),
     "double_colon_of_two_users": Small("race", "all: y u v\ny: ; touch y\nx:: ; echo 1 > one\nx:: ; echo 2 > two\nu: x ; touch u\nv: x ; cat two > v\n", says="advice: write the rules of x as one"),
     "double_colon_that_is_a_goal": Small("race", "x:: ; echo 1 > one\nx:: ; echo 2 > two\nu: x ; cat two > u\n", lacks="(checked"),
-    "double_colon_that_reads": Small("race", "all: gen x\ngen: ; echo > gen\nx:: ; touch one\nx:: ; cat gen > two\n", says="fix: x:: gen ; cat gen > two          (in place of Makefile:4, checked: ends this race)"),
+    "double_colon_that_reads": Small("race", "all: gen x\ngen: ; echo > gen\nx:: ; touch one\nx:: ; cat gen > two\n", says="fix: x:: gen          (checked: ends this race)"),
     # the search for implicit rules
     "search_sees_a_name_that_goes": Small("race", "all: gen sub/z.t\n%.t: %.a ; cp $< $@\n%.t: %.b ; cp $< $@\ngen: ; rm sub/z.a; touch gen\n", {"sub/z.a": "a", "sub/z.b": "b"}, is_tried=True),
     # folders
@@ -161,7 +161,7 @@ SMALL: Dict[str, Small] = {
         "newer": "#!" + sys.executable + "\nimport os\nprint(os.stat('x').st_mtime > os.stat('y').st_mtime)\n"}, "chmod +x newer", is_tried=True),
     # looks
     "look_behind_a_recipe": Small("race", "all: t u\nt: p ; touch t\np: ; echo p > p\nu: ; cat p > u || true\n", {"t": "t"}, OLD + "t"),
-    "look_of_a_rule_that_makes_both": Small("race", "all: u\na b: ; touch a b\nu: a b ; touch u\n", says="fix: a b &: ; touch a b          (in place of Makefile:2)\n"),
+    "look_of_a_rule_that_makes_both": Small("race", "all: u\na b: ; touch a b\nu: a b ; touch u\n", says="advice: write it as a b &: c"),
     "fix_by_what_leaves_no_file": Small("race", "all: l u\nl: ; touch f\nu: ; cp f u\n", says="fix: u: | l          (checked"),
     "fix_by_who_makes_a_folder": Small("race", "all: d/a d/b\nd/a: ; mkdir d; touch d/a\nd/b: ; touch d/b\n", says="fix: d/b: | d/a          (checked"),
     "fixes_of_one_writer": Small("race", "all: g a b\ng: ; touch g h\na: ; cp g a\nb: ; cat g h > b\n", says="fix: a b: g          (checked: ends these races)\n"),

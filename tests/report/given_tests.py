@@ -65,16 +65,11 @@ class Patches(Reporting):
         self.assertEqual(0, ran.returncode, ran.stdout + text)
         return text, {name: (top / name).read_text() for name in files}
 
-    def test_lines_behind_the_rule_that_waits(self) -> None:
+    def test_lines_at_the_end_of_the_makefile_that_waits(self) -> None:
         tasks = [records.task("g", (), (), ("g",)), records.task("a", (), ("g",)), records.task("b", (), ("g",))]
         files = {"Makefile": "all: a b g\ninclude mk/b.mk\ng:\n\tgen\na:\n\tone\n\ttwo\\\n  more\n", "mk/b.mk": "b: c"}
         _, found = self.patched(tasks, {"g": ("Makefile", 4), "a": ("Makefile", 6), "b": ("mk/b.mk", 1)}, files)
         self.assertEqual({"Makefile": files["Makefile"] + "a: g\n", "mk/b.mk": "b: c\nb: g\n"}, found)
-
-    def test_rules_that_are_written_anew(self) -> None:
-        tasks = [records.task("a.h", (), (), ("a.h", "b.h")), records.task("b.h", (), (), ("b.h",))]
-        _, found = self.patched(tasks, {"a.h": ("Makefile", 4), "b.h": ("Makefile", 4)}, {"Makefile": "all: a.h\na.h b.h: x \\\n  y\n\tmk\nlast:\n"})
-        self.assertEqual("all: a.h\na.h b.h &: x y\n\tmk\nlast:\n", found["Makefile"])
 
     def test_what_is_done_by_hand(self) -> None:
         tasks = [records.task("g", (), (), ("h",)), records.task("k", (), (), ("z.a",)), records.task("z.t", (), ("z.a",)), records.task("u", (), ("h",))]
