@@ -24,7 +24,7 @@ from record.make.spellings import twice
 from record.make.words import makefiles, read_logs
 from record.ninja.builds import versions as ninja_versions
 from record.ninja.builds import beside, find_ninjas, import_ninjas
-from record.premises import add_granted, add_granted_by_ninjas, add_seen, named_by_time, unasked
+from record.premises import add_granted, add_granted_by_ninjas, add_seen, unasked
 from record.progress import watched
 from record.tools.caches import settle_caches
 from record.tools.exists import credit_makes, settle_exists
@@ -90,8 +90,6 @@ class Imported:
         if self.makes and not facts.covered:
             self.assumed.add("preload", "")  # guard: where-library-is-in-environment
         self.add_builds()
-        for name in named_by_time(self.builds):
-            self.assumed.add("clock", name)
         if (self.makes or self.ninjas) and record.status == 0 and did_nothing(self.builds, self.makes):
             record.holes.append(IDLE)  # guard: nothing
         record.is_parallel = any(map(self.owners.run_at_once, self.makes))

@@ -11,7 +11,6 @@ import io
 import json
 import os
 import subprocess
-import time as clock
 from contextlib import contextmanager
 from functools import wraps
 from pathlib import Path
@@ -110,7 +109,6 @@ def answering(answers: Optional[Answers]) -> Iterator[None]:
 isfile, isdir, islink = asked(os.path.isfile), asked(os.path.isdir), asked(os.path.islink)
 exists, lexists, realpath = asked(os.path.exists), asked(os.path.lexists), asked(os.path.realpath)
 stat, lstat, readlink, listdir = asked(os.stat), asked(os.lstat), asked(os.readlink), asked(os.listdir)
-time = asked(clock.time)
 
 
 @asked

@@ -6,8 +6,8 @@ from typing import Dict, List, Set
 from record.trace.courses import Course
 
 TEXTS = {
-    "serial": "make decides goals in this order, without --shuffle, and recipes do the same on the same looks: they do not go by macros that another one sets ($(eval ..)) or that a target hands down (a: V = 1), how long things take, the space that is free, when a file was read last, MAKEFLAGS, the order in which make prints, the number of processors, a terminal, standard input, descriptors of a job server, or files that were opened for them before make began",
-    "ninja": "commands of ninja do the same on the same looks: they do not go by how long things take, the space that is free, when a file was read last, the number of jobs, the number of processors, a terminal, standard input, or files that were opened for them before ninja began; and nobody looks at the order of what ninja prints",
+    "serial": "make decides goals in this order, without --shuffle, and recipes do the same on the same looks: they do not go by macros that another one sets ($(eval ..)) or that a target hands down (a: V = 1), the time, how long things take, the space that is free, when a file was read last, MAKEFLAGS, the order in which make prints, the number of processors, a terminal, standard input, descriptors of a job server, or files that were opened for them before make began",
+    "ninja": "commands of ninja do the same on the same looks: they do not go by the time, how long things take, the space that is free, when a file was read last, the number of jobs, the number of processors, a terminal, standard input, or files that were opened for them before ninja began; and nobody looks at the order of what ninja prints",
     "ties": "build statements with one command ran in the order that the log of ninja shows",
     "up-to-date": "builds start from this tree: targets that were up to date stay so",
     "configured": "builds start when ./configure has run: what it makes is there and up to date",
@@ -17,7 +17,6 @@ TEXTS = {
     "sockets": "servers that processes talk to keep no files of the build; ports that they open are free; memory is shared by processes of one recipe alone",
     "processes": "who lists the processes that run (ps, pgrep), signals or looks at one of another recipe, sets its limits (prlimit, renice, taskset), or waits for changes of files (inotify, leases), does the same whatever else runs",
     "locks": "who asks for a lock of a file, and does not wait for it, does the same where another one has it; recipes that take two locks take them in one order",
-    "clock": "recipes that put the time into the name of a file have each another time there",
     "hard-links": "files that got or lost a second name, or have one and were written, have none outside of the project",
     "outside": "names outside of the project that the build changed were there before it as they are on the disk after it",
     "preload": "recipes do the same where LD_PRELOAD names the library of the recorder, which lets make say what it does",

@@ -42,7 +42,7 @@ class Judges(unittest.TestCase):
         broken = Project(1, [Block(["a", "b"], RACE.blocks[0].text + RACE.blocks[1].text, {}, {"b": "locks"})])
         says = "printf 'SAFE\\nsafe, if:\\n  - %s (1, such\\n    as x)\\n'\n"
         self.assertEqual("assumption broken", self.result(broken, says % TEXTS["locks"]).kind)
-        self.assertEqual("wrong yes", self.result(broken, says % TEXTS["clock"]).kind)
+        self.assertEqual("wrong yes", self.result(broken, says % TEXTS["outside"]).kind)
         self.assertEqual("wrong yes", self.result(RACE, says % TEXTS["locks"]).kind)
 
     def test_race_that_is_seen(self) -> None:

@@ -3,8 +3,6 @@
 from test_small import COMMANDS, Small, makefiles
 
 KEPT = "all: gen t\nt: p ; touch t log\ngen: ; sleep 0.02; touch p gen\n"
-# Two recipes with a file of their own, whose name has the time in thousandths of a second.
-TIMED = "a b: ; t=t.$$(date +%s%N | cut -c1-13); echo $@ > $$t; mv $$t $@\n"
 IDLE = "nothing was to be done"
 UP_TO_DATE = "touch a"
 DEEP = """python3 -c "import os
@@ -26,8 +24,6 @@ Makefiles = makefiles(__name__, {
     # ages
     # lists of folders, which are said to be that
     # names
-    "names_with_the_time": Small("safe", "all: a b\n" + TIMED, says="recipes that put the time into the name"),
-    "names_with_the_time_in_order": Small("safe", "all: a b\nb: a\n" + TIMED, lacks="recipes that put the time into the name"),
     # ages
     "ages_of_several_files": Small("race", "all: c\nx y z: ; touch $@\nc: x y z ; $(MAKE) -f in.mk\n", {"in.mk": "c: x y z ; touch c\nx: y z ; touch $@\ny: z ; touch $@\n"}, is_tried=True),
     # a run in which nothing was to be done

@@ -4,7 +4,6 @@ import os
 import unittest
 
 import support
-from record.premises import clock
 from record.commands import shelltext
 from record.commands.system import OF_SYSTEM
 from test_output import Output
@@ -51,13 +50,3 @@ class Said(Output):
 
     def test_all_lines(self) -> None:
         self.assertEqual(0, self.both("all: u v\nu:\n\t-no-such-tool\n\t-no-such-tool\nv: ; @echo $@ > $@; echo said $@\n"))
-
-
-class Readings(unittest.TestCase):
-    """The words of shells and programs."""
-
-    def test_names_that_have_the_time(self) -> None:
-        found = clock(1795793502)
-        for name, wanted in (("t.1795793502", "t.@"), ("1795793502123.c", "@.c"), ("20261127-153142", "@"), ("d/2026-11-27T15:31:42x", "d/@x"), ("20261126.153142", "@"), ("20261128153142", "@"),
-                             ("t.1795793502123456", ""), ("t.1700000000", ""), ("20261127", ""), ("a-20250101-153142", ""), ("t.21795793502", "")):
-            self.assertEqual(wanted or name, found.sub("@", name), name)
