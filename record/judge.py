@@ -1,15 +1,14 @@
 """Asks `race` about a text of tasks, and reads what it says: the one reader, of `race-record` and of `race-report`."""
 
-import json
 import os
 import re
 import shutil
 import subprocess
 from dataclasses import dataclass, field
 from pathlib import Path
-from typing import Dict, List, Optional, Set, Tuple
+from typing import List, Optional, Tuple
 
-from record.build.text import OWN_NAME, shown
+from record.build.text import shown
 from record.pages import TOP, page
 
 PLACES = (TOP / "record" / "race", TOP / "race", TOP / "crates" / "race" / "out" / "race", TOP / "out" / "race")  # beside the script, in the checkout
@@ -97,32 +96,6 @@ def ask(race: str, command: str, tasks: Path, root: str) -> "subprocess.Complete
     return subprocess.run(words, cwd=tasks.parent, capture_output=True, text=True, errors="replace", stdin=subprocess.DEVNULL)
 
 
-def touched(tasks: Path) -> Dict[str, Tuple[Set[str], Set[str]]]:
-    """By task: what it reads, and what it writes."""
-    with open(tasks, encoding="utf-8", errors="surrogateescape") as lines:
-        rows = [json.loads(line) for line in lines if line.strip()]
-    return {row["task"]: (set(row["reads"]), set(row["writes"])) for row in rows}
-
-
-def on_files(races: List[Race], tasks: Path) -> List[Race]:
-    """The races, each on a file if the two meet on one: `race` names the least path, and that may be a folder's time where both write files in it."""
-    if not any(OWN_NAME.search(one.path) for one in races):
-        return races
-    touches = touched(tasks)
-    return [on_file(one, touches.get(one.first, (set(), set())), touches.get(one.second, (set(), set()))) for one in races]
-
-
-def on_file(race: Race, first: Tuple[Set[str], Set[str]], second: Tuple[Set[str], Set[str]]) -> Race:
-    """One of them; a target of the two comes first."""
-    common = first[1] & (second[0] | second[1]) | first[0] & second[1]
-    files = [path for path in common if not path.endswith("/") and not OWN_NAME.search(path)]
-    if not files or not OWN_NAME.search(race.path):
-        return race
-    path = min(files, key=lambda one: (one not in (race.first, race.second), one))
-    does = ["writes" if path in writes else "reads" for _, writes in (first, second)]
-    return Race(path, race.first, does[0], race.second, does[1])
-
-
 def judge(race: str, tasks: Path, root: str) -> Verdict:
     """All races of a build, and the lines that fix it."""
     listed = ask(race, "list", tasks, root)
@@ -140,7 +113,6 @@ def judge(race: str, tasks: Path, root: str) -> Verdict:
         said = " ".join((listed.stdout or listed.stderr).split()) or "race list " + ended(listed.returncode)
         verdict.refused = said if listed.returncode not in (0, 1) else "%s does not answer as race does: %s" % (race, said[:300])
     elif listed.returncode == 1:
-        verdict.races = on_files(verdict.races, tasks)  # guard: files-before-folders
         fixed = ask(race, "fix", tasks, root)
         verdict.is_fixed = fixed.returncode == 0
         verdict.fix = [t.partition(" #")[0].rstrip() for t in fixed.stdout.split("\n") if ": " in t and not t.startswith("#")]

@@ -40,7 +40,7 @@ WIDE = Kind("wide-footprint", "a footprint that is too wide: a tree where a few 
 
 # WIDE is advice for footprints that are written by hand: nothing in a race shows it, so no race is given this kind.
 KINDS = (FORGOTTEN, TWO, TEMPORARY, LOG, OUTPUT, ARCHIVE, FOLDER, AT_ONCE, LEFT, WIDE)
-OF_FOLDER = re.compile(r"(?:^|/)@seen(?:/|$)")  # names that stand for it that a folder is there
+OF_FOLDER = re.compile(r"(?:^|/)~seen(?:/|$)")  # names that stand for it that a folder is there
 
 
 def is_of_folder(path: str) -> bool:

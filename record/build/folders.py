@@ -27,7 +27,7 @@ def add_folders(builder: Builder) -> None:
         task.folders = {how: paths - gone for how, paths in task.folders.items() if paths - gone}  # guard: folders-that-are-removed-again
         for path in used(builder, task, makers):
             if at not in makers[path] and not any(builder.build.is_before(maker, at) for maker in makers[path]):  # guard: user-needs-maker
-                apart(builder, path + "/@seen", "that the folder %s is there" % path, at, makers[path])
+                apart(builder, path + "/~seen", "that the folder %s is there" % path, at, makers[path])
 
 
 def used(builder: Builder, task: Task, makers: Dict[str, Set[int]]) -> List[str]:

@@ -8,8 +8,8 @@ if TYPE_CHECKING:
     from record.build.tasks import Task
 
 LABEL_LIMIT = 4096
-# What stands for something else than a file: that a folder is there, which files of rules ninja has read.
-OWN_NAME = re.compile(r"(^|/)@(seen|dyndep)(/.*)?$")
+# What stands for something else than a file: that a folder is there. It comes behind what the folder holds: `race` names the least path on which two meet.
+OWN_NAME = re.compile(r"(^|/)~seen(/.*)?$")
 
 
 def shown(text: str) -> str:

@@ -116,7 +116,6 @@ GUARDS: List[Guard] = [
         ("lines-of-race", "for text in listed.stdout.splitlines():", "judge.Names.file_an_end_of_a_line"),
         ("status-against-its-words", "if not is_whole or listed.returncode not in (0, 1) or False:", "judge.Answers.race_with_the_status_of_a_yes", "2 != 1"),
         ("status-against-its-words", "if listed.returncode not in (0, 1) or (listed.returncode == 1) != bool(verdict.races):", "judge.Answers.another_program", LOST_HOLE),
-        ("files-before-folders", "pass", "small.Makefiles.files_before_folders", UNSAID),
     ),
     *guards("main.py",
         ("long-commands", 'STRACE = ["strace", "-f", "-q", "-y", "--seccomp-bpf", "-s", "4096", "-e", "signal=hup,int,quit,abrt,kill,segv,pipe,term,xfsz", "-e", "trace=" + traced(), "-e", "raw=" + shown_as_numbers()]',

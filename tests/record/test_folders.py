@@ -80,11 +80,11 @@ class Folders(unittest.TestCase):
 
     def test_user_without_a_maker_before_it(self) -> None:
         for use in (("C", "d/x"), ("U", "d"), ("L", "d"), ("N", "d")):
-            self.assertEqual(["d/@seen"], self.meet([("M", "d")], [use]), use)
+            self.assertEqual(["d/~seen"], self.meet([("M", "d")], [use]), use)
 
     def test_user_that_looks_first(self) -> None:
         self.assertEqual([], self.meet([("M", "d")], [("S", "d"), ("C", "d/x")]))
-        self.assertEqual(["d/@seen"], self.meet([("M", "d")], [("C", "d/x"), ("S", "d")]))
+        self.assertEqual(["d/~seen"], self.meet([("M", "d")], [("C", "d/x"), ("S", "d")]))
 
     def test_user_behind_its_maker(self) -> None:
         self.assertEqual({}, meetings(build_of({"a": [], "b": ["a"], "c": []}, {"a": [("M", "d")], "b": [("C", "d/x")], "c": [("E", "d")]})))

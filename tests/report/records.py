@@ -76,14 +76,14 @@ def kinds(folder: Path) -> Path:
         task("m1.o", (), (), ("lib.a",)), task("m2.o", (), (), ("lib.a",)),
         task("parse.c", (), (), ("parse.h",)), task("use.o", (), ("parse.h",), ()),
         task("out", (), (), ("out/",)), task("list", (), ("out/",), ()),
-        task("say", (), (), ("d/@seen/1/0",)), task("tell", (), ("d/@seen/1/0",), ()),
+        task("say", (), (), ("d/~seen/1/0",)), task("tell", (), ("d/~seen/1/0",), ()),
         task("gen%.h", (), (), ("gen%.h",)), task("with'quote.o", (), ("gen%.h",), ()),
         task("a.h", (), (), ("a.h", "b.h")), task("b.h", (), (), ("b.h",)),
         task("cat", (), (), ("log",)), task("sort", (), (), ("log",)),
         task("serve", (), (), ("port",)), task("ping", (), ("port",), ()),
     ]
     places = {it["task"]: ("sub dir/Makefile", at + 1) for at, it in enumerate(tasks) if at % 5} | dict.fromkeys(("a.h", "b.h"), ("Makefile", 3))
-    record = write(folder, tasks, places, meanings={"d/@seen/1/0": "that the folder d is there"})
+    record = write(folder, tasks, places, meanings={"d/~seen/1/0": "that the folder d is there"})
     for label in ("cat", "sort"):
         labelled(record, label, target="all", command=f"{label} in")
     labelled(record, "serve", left=True)

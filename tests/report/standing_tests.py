@@ -65,9 +65,9 @@ class Standing(Reporting):
         prints = []
         for name in ("p", "deep/er/p"):
             top = self.room / name
-            tasks = [records.task("a", (), (), (f"{top}/gen/a.h", "@seen/1/0")), records.task(f"{top}/b", (), (f"{top}/gen/a.h",))]
+            tasks = [records.task("a", (), (), (f"{top}/gen/a.h", "~seen/1/0")), records.task(f"{top}/b", (), (f"{top}/gen/a.h",))]
             (top / ".git").mkdir(parents=True)
-            record = records.write(top / ".race", tasks, {}, folder=str(top), inner="sub", meanings={"@seen/1/0": "x"})
+            record = records.write(top / ".race", tasks, {}, folder=str(top), inner="sub", meanings={"~seen/1/0": "x"})
             prints.append([it["fingerprint"] for it in json.loads(self.shown(record, "json")[1])["races"]])
         self.assertEqual(prints[0], prints[1])
 

@@ -42,8 +42,8 @@ class Words(Reporting):
         self.assertTrue(race["advice"].startswith("write it into that very rule"), race["advice"])
 
     def test_what_leaves_no_file_is_waited_for_alone(self) -> None:
-        tasks = [records.task("dir", (), (), ("d/@seen/0",)), records.task("d/a", (), ("d/@seen/0",)), records.task("gen", (), (), ("f",)), records.task("u", (), ("f",))]
-        record = records.write(self.room / "r", tasks, {}, meanings={"d/@seen/0": "that the folder d is there"})
+        tasks = [records.task("dir", (), (), ("d/~seen/0",)), records.task("d/a", (), ("d/~seen/0",)), records.task("gen", (), (), ("f",)), records.task("u", (), ("f",))]
+        record = records.write(self.room / "r", tasks, {}, meanings={"d/~seen/0": "that the folder d is there"})
         records.changed(record, tool="make")
         records.labelled(record, "gen", order_only=True)
         self.assertEqual(["d/a: | dir", "u: | gen"], json.loads(self.shown(record, "json")[1])["fixes"]["lines"])
