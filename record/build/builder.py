@@ -8,7 +8,7 @@ from typing import Dict, Iterable, List, Set, Tuple
 
 from record.build.assumptions import Assumptions
 from record.build.tasks import Build, Task
-from record.build.work import Tool, Work, settle_parts
+from record.build.work import Work, settle_parts
 from record.trace.events import CHANGES, LISTED, LOOKS
 from record.trace.names import Names
 
@@ -16,9 +16,8 @@ from record.trace.names import Names
 class Builder:
     """What is known of a build so far."""
 
-    def __init__(self, make: Tool, number: int, names: Names, assumed: Assumptions, build: Build, before: Dict[str, str]) -> None:
-        self.make, self.number, self.names, self.assumed = make, number, names, assumed
-        self.build, self.before = build, before
+    def __init__(self, names: Names, assumed: Assumptions, build: Build, before: Dict[str, str]) -> None:
+        self.names, self.assumed, self.build, self.before = names, assumed, build, before
         self.holes: List[str] = []
         self.of_node: Dict[str, int] = {}
 

@@ -134,7 +134,6 @@ class Parts:
         if behind >= 0 and behind not in row:
             self.parts[behind].after.add(row[-1])
 
-
     def in_order(self) -> List[Part]:
         """The parts, that with which the recipe ends last."""
         order = [*(at for at in range(len(self.parts)) if at != self.end), self.end] if self.parts else []

@@ -134,14 +134,14 @@ def renumber(tasks: List[Task], order: List[int], after: List[Set[int]]) -> Tupl
     return [tasks[old] for old in order], number
 
 
-def befores(after: List[Set[int]], order: List[int]) -> List[int]:
-    """For each task the set, as bits, of all that have ended before it starts."""
-    bits = [0] * len(after)
-    for at in order:
+def befores(tasks: List[Task]) -> List[int]:
+    """For each task the set, as bits, of all that have ended before it starts. The tasks are in a serial order."""
+    bits: List[int] = []
+    for task in tasks:
         value = 0
-        for one in after[at]:
+        for one in task.after:
             value |= bits[one] | (1 << one)
-        bits[at] = value
+        bits.append(value)
     return bits
 
 

@@ -1,7 +1,7 @@
 """One round as a build: its tasks, with what each reads and writes."""
 
 import re
-from typing import Dict, List, Optional, Set
+from typing import Dict, List, Set
 
 from record.build.assumptions import Assumptions
 from record.build.builder import Builder
@@ -20,11 +20,9 @@ CALLED = "$(shell ..)"  # the label of what a call of make leaves running
 class MakeBuilder(Builder):
     """Makes the tasks of a round."""
 
-    make: Make
-
-    def __init__(self, make: Make, number: int, names: Names, assumed: Assumptions, before: Optional[Dict[str, str]] = None) -> None:
-        self.graph = Graph(make, number)
-        super().__init__(make, number, names, assumed, MakeBuild(make, self.graph), names.before if before is None else before)
+    def __init__(self, make: Make, number: int, names: Names, assumed: Assumptions, before: Dict[str, str]) -> None:
+        self.make, self.graph = make, Graph(make, number)
+        super().__init__(names, assumed, MakeBuild(make, self.graph), before)
 
     def run(self) -> Build:
         """All steps."""
@@ -124,7 +122,7 @@ class MakeBuilder(Builder):
         self.of_node = {n: number[a] for n, a in self.of_node.items()}
         self.build.tasks = tasks
         self.build.writers = {p: {number[a] for a in w} for p, w in self.build.writers.items()}
-        self.build.bits = befores([t.after for t in tasks], list(range(len(tasks))))
+        self.build.bits = befores(tasks)
 
     # ---------------------------------------------------------------- footprints
     def fill(self) -> None:
@@ -138,7 +136,6 @@ class MakeBuilder(Builder):
         # the next build reads the makefiles that this one looked for
         drop_lonely(self.build.tasks, {self.names.find(self.make.folder, name, True).path for name in makefiles(self.make.words)})
         self.note_late()
-
 
     def add_asked(self, at: int, node: Node) -> None:
         """Make asks whether a target is there, and how old it is. What comes of that is tried out in other orders; where it is not, the target meets who writes

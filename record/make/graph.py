@@ -12,11 +12,9 @@ class Graph:
     """The nodes of a round, and the tasks that are made of them."""
 
     def __init__(self, make: Make, number: int) -> None:
-        self.make, self.number = make, number
         self.round: Round = make.words.rounds[number]
         self.base: Base = self.round.base or Base()
         self.nodes: Dict[str, Node] = {}
-        self.known_late: Optional[Set[str]] = None
         self.read_nodes()
         self.split_double_colons()
         self.join_grouped()
@@ -123,25 +121,6 @@ class Graph:
                 if node is not but:
                     todo.extend(p for p in node.prerequisites if p in self.nodes)
         return seen
-
-    def late(self) -> Set[str]:
-        """The same for all who ask."""
-        if self.known_late is None:
-            self.known_late = self.find_late()
-        return self.known_late
-
-    def find_late(self) -> Set[str]:
-        """What make may look at after its first pass: what only a later rule of a double-colon target needs, and
-        intermediate files."""
-        later = [n for n in self.nodes.values() if n.rule]
-        early: Set[str] = set()
-        todo = [g for g in self.round.goals if g in self.nodes]
-        while todo:
-            label = todo.pop()
-            if label not in early and not self.nodes[label].rule:
-                early.add(label)
-                todo.extend(p for p in self.nodes[label].prerequisites if p in self.nodes)
-        return {n.label for n in later} | (set(self.nodes) - early) | self.base.intermediate
 
     def free(self, label: str) -> str:
         """A label that no node has."""

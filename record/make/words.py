@@ -3,7 +3,7 @@
 import re
 from collections import Counter
 from dataclasses import dataclass, field
-from functools import cached_property, lru_cache
+from functools import lru_cache
 from pathlib import Path
 from typing import Container, Dict, FrozenSet, Iterable, Iterator, List, Optional, Set, Tuple
 
@@ -30,10 +30,9 @@ READING = re.compile(r"^Reading makefile '(.*)'((?: \([^)]*\))*)\.\.\.$")
 
 @dataclass
 class Job:
-    """A recipe that make ran: its target, and how many jobs of the round came before it."""
+    """A recipe that make ran."""
 
     target: str
-    number: int
     pids: List[int] = field(default_factory=list)
 
 
@@ -60,14 +59,6 @@ class Round:
     failed: List[str] = field(default_factory=list)
     vpath: Dict[str, str] = field(default_factory=dict)
     base: Optional[Base] = None
-
-    @cached_property
-    def due(self) -> Dict[int, List[str]]:
-        """By how many jobs came before: the targets that had to be made since the last of them. Asked when all words are read."""
-        found: Dict[int, List[str]] = {}
-        for target, count in self.must.items():
-            found.setdefault(count, []).append(target)
-        return found
 
     def below(self, name: str) -> Set[str]:
         """A target, and all that it needs, by way of others too."""
@@ -161,7 +152,7 @@ class _Reader:
             return
         owner = self.children.get(pointer)
         if what == "Putting child" or what == "Live child" and (owner is None or owner.target != name):  # the first line that ran was not the first
-            owner = self.children[pointer] = Job(name, len(self.round.jobs))
+            owner = self.children[pointer] = Job(name)
             self.round.jobs.append(owner)
         if what == "Removing child":
             self.children.pop(pointer, None)

@@ -61,9 +61,9 @@ class NinjaBuilder(Builder):
     build: NinjaBuild
 
     def __init__(self, ninja: Ninja, number: int, before: Dict[str, str], removed: Set[str], names: Names, assumed: Assumptions) -> None:
-        self.ninja, self.stage = ninja, ninja.stages[number]
+        self.ninja, self.number, self.stage = ninja, number, ninja.stages[number]
         is_last = number == len(ninja.stages) - 1
-        super().__init__(ninja, number, names, assumed, NinjaBuild(ninja, self.stage, "goals" if is_last else "manifest"), before)
+        super().__init__(names, assumed, NinjaBuild(ninja, self.stage, "goals" if is_last else "manifest"), before)
         self.removed = removed
 
     def run(self) -> Build:
@@ -116,7 +116,7 @@ class NinjaBuilder(Builder):
         self.build.tasks, number = renumber(self.build.tasks, order, after)
         self.build.edges = [edges[old] for old in order]
         self.of_node = {label: number[at] for label, at in self.of_node.items()}
-        self.build.bits = befores([task.after for task in self.build.tasks], list(range(len(order))))
+        self.build.bits = befores(self.build.tasks)
 
     def first(self) -> Set[int]:
         """The statements that ran before all others: ninja first makes its manifest. They are those at the head of the run which it needs, and which

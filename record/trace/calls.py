@@ -99,9 +99,8 @@ class Calls(Started):
         if path.startswith("/proc/"):
             self.note_watcher(life, path)  # guard: looks
         follow = not at_link and call.name not in NOFOLLOW
-        plain = path if call.name == "stat" or (call.name == "newfstatat" and follow and not path.startswith("/")) else ""
         link = call.name.startswith("readlink") and ok
-        self.look(life, path, ok or call.error == "EINVAL", follow, READ if link else SEEN, base, plain)
+        self.look(life, path, ok or call.error == "EINVAL", follow, READ if link else SEEN, base)
 
     def on_chdir(self, life: Life, call: Call, ok: bool) -> None:
         """A process looks at a folder and enters it, with its threads."""
@@ -156,7 +155,8 @@ class Calls(Started):
         if changes or call.name == "creat":
             self.open_to_write(life, found, flags, call.name == "creat")
         else:
-            self.take_in(life, found)
+            is_folder = found.inode is not None and found.inode.kind == "d"
+            self.put_look(life, found, True, SEEN if is_folder else READ)
 
     def fail_to_open(self, life: Life, call: Call, asked: Opening) -> None:
         """Nothing was opened: the process sees that something has the name, or that nothing has it. Who wants to create a file sees also which folder is absent."""
@@ -193,12 +193,6 @@ class Calls(Started):
         """Who waits for changes of a name looks at it, and sees what runs beside it."""
         self.look(life, "".join(texts(call.args)[:1]), ok, True)  # guard: changes-that-they-wait
         self.watchers.append(" ".join(life.argv)[:100])
-
-    def take_in(self, life: Life, found: Found) -> None:
-        """A file or a folder is opened, and not to change it."""
-        is_folder = found.inode is not None and found.inode.kind == "d"
-        self.put_links(life, found)
-        self.put_look(life, found, True, SEEN if is_folder else READ)
 
     def on_list(self, life: Life, call: Call, ok: bool) -> None:
         """A folder is listed."""

@@ -17,18 +17,15 @@ class Act:
     place: int
     kind: str
     path: str
-    word: str = ""  # the path as make spelled it, where it looked with `stat`
 
 
 @dataclass(eq=False)
 class Program:
     """A program that a process has begun to run. Processes that this one starts run it too, as long as they begin no other."""
 
-    life: "Life"
     argv: List[str]
     place: int
     name: str = ""  # as who started it named it
-    folder: str = ""
     file: str = ""  # what runs
 
 

@@ -23,7 +23,7 @@ MOUNT_ESCAPE = re.compile(r"\\([0-7]{3})")
 class Inode:
     """A file (`f`), folder (`d`) or link (`l`); a folder knows its place, a file its names, and how many more it had when it was first met."""
 
-    __slots__ = ("kind", "entries", "target", "parent", "name", "walked", "names", "first", "unknown", "is_unmade")
+    __slots__ = ("kind", "entries", "target", "parent", "name", "walked", "names", "unknown", "is_unmade")
 
     def __init__(self, kind: str, target: str = "") -> None:
         self.kind = kind
@@ -33,7 +33,6 @@ class Inode:
         self.name = ""
         self.walked = False
         self.names: List[Tuple["Inode", str]] = []
-        self.first = False
         self.unknown = 0
         self.is_unmade = False  # somebody saw it, and nobody made it so far
 
@@ -134,7 +133,6 @@ class Names:
             for name, found in self.entries_of(path):
                 child = self.made_of(found, join(path, name))
                 self.put(node, name, child)
-                child.first = True
                 self.before[join(path, name)] = child.kind
                 if child.kind == "d":
                     self.note_number(join(path, name), found)
@@ -237,13 +235,6 @@ class Names:
             self.spots.clear()
             self.ends.clear()
 
-    def child_of(self, folder: Inode, name: str) -> Optional[Inode]:
-        """What a folder has under a name; outside of the walked folders the disk says it."""
-        child = folder.entries.get(name)
-        if child is None and not self.is_walked(folder):
-            child = self.ask(folder, name, join(folder.path(), name))
-        return child
-
     def ask(self, folder: Inode, name: str, path: str) -> Optional[Inode]:
         """What the disk has under a name, now in the model."""
         if path in self.absent:  # guard: what
@@ -254,11 +245,6 @@ class Names:
             return None
         self.put(folder, name, child)
         return child
-
-    @staticmethod
-    def is_walked(folder: Inode) -> bool:
-        """Whether all names of a folder are known."""
-        return folder.walked
 
     def find(self, base: str, path: str, follow: bool) -> Found:
         """Follows a path from a folder; `follow`: the last name too, where it is a link."""
@@ -322,7 +308,9 @@ class Names:
             if part == "..":
                 node = node.parent or self.root
                 continue
-            child = self.child_of(node, part)
+            child = node.entries.get(part)
+            if child is None and not node.walked:
+                child = self.ask(node, part, join(node.path(), part))
             if child is not None and child.kind == "d" and todo:
                 node = child
                 continue

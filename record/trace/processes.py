@@ -105,4 +105,4 @@ class Processes(Moves):
     def begin_program(self, life: Life, name: str) -> None:
         """What a process runs from now on. `name`: as who started it named it."""
         life.course.run(self.place)
-        life.programs.append(Program(life, life.argv, self.place, name, life.folder, life.program))
+        life.programs.append(Program(life.argv, self.place, name, life.program))

@@ -149,8 +149,8 @@ class Replay:
             parent.fork(child.course, self.place, "vfork" in flags.lower(), parent.waiter if is_other and parent.waiter else parent)  # guard: parent-waits-for-program
 
     # ---------------------------------------------------------------- events
-    def put(self, life: Life, kind: str, path: str, word: str = "") -> None:
-        """An event of a life, and an act of make where a make does it. `word`: the path as make spelled it. Devices and the recorder's own files have none."""
+    def put(self, life: Life, kind: str, path: str) -> None:
+        """An event of a life, and an act of make where a make does it. Devices and the recorder's own files have none."""
         if path.startswith(KERNEL) and DEVICES.match(path) and not self.names.is_inside(path):  # guard: devices-are-no-files
             if is_hidden(kind, path):  # guard: numbers-hole
                 self.holes.append("a file is known by the number of its descriptor alone: %s of %s" % (path, " ".join(life.argv)[:100]))
@@ -163,7 +163,7 @@ class Replay:
         if kind in TREE_CHANGES and path.rstrip("/") not in self.fresh and not self.names.is_inside(path):
             self.outside[path.rstrip("/")] = None  # guard: names-outside-of-project
         if life.is_make and life.number >= 0 or life.is_ninja and kind in (READ, ENTERED):
-            life.acts.append(Act(self.place, kind, path, word))
+            life.acts.append(Act(self.place, kind, path))
         self.keep(life, kind, path)
         if kind in CHANGES:
             life.changed[path] = self.place
@@ -177,15 +177,14 @@ class Replay:
         if first < life.course.limit:
             life.course.note(key, first, self.place)
 
-    def found(self, life: Life, path: str, follow: bool, base: str = "", word: str = "") -> Found:
+    def found(self, life: Life, path: str, follow: bool, base: str = "") -> Found:
         """Where a path leads a process, from its folder or from `base`; the links on the way are read. `follow`: also a link at the end."""
         if path.startswith(KERNEL):
             path = plain_path(life, path, self.lives)  # guard: processs-own-folder-in-proc
             found = Found(path, None, None, "") if NUMBER.match(path) else self.names.find(base or life.folder, path, follow)  # guard: not-by-recorders-own-numbers
         else:
             found = self.names.find(base or life.folder, path, follow)
-        if found.links:
-            self.put_links(life, found, word)
+        self.put_links(life, found)
         if "/.." in path and (not OF_SYSTEM.match(path) or self.names.is_inside(os.path.normpath(path))):  # guard: folders-that-path-leaves-again
             self.put_left(life, path, base or life.folder)
         return found
@@ -202,29 +201,29 @@ class Replay:
                 if left.inode is not None and left.inode.kind == "d":
                     self.put(life, SEEN if life.is_make or life.is_ninja else ENTERED, left.path)
 
-    def put_links(self, life: Life, found: Found, word: str = "") -> None:
+    def put_links(self, life: Life, found: Found) -> None:
         """Links on the way are read."""
         for link in found.links:
-            self.put(life, READ, link, word)  # guard: links-on-way-are-read
+            self.put(life, READ, link)  # guard: links-on-way-are-read
             inode = self.names.find("/", link, False).inode
             if inode is not None and "/.." in inode.target:  # guard: what-link-says
                 self.put_left(life, inode.target, os.path.dirname(link))
 
-    def look(self, life: Life, path: str, ok: bool, follow: bool, kind: str = SEEN, base: str = "", word: str = "") -> Found:
+    def look(self, life: Life, path: str, ok: bool, follow: bool, kind: str = SEEN, base: str = "") -> Found:
         """A look at a path, which is an event of this kind where something is there (`ok`); what was found."""
-        found = self.found(life, path, follow, base, word)
-        self.put_look(life, found, ok, kind, word)
+        found = self.found(life, path, follow, base)
+        self.put_look(life, found, ok, kind)
         return found
 
-    def put_look(self, life: Life, found: Found, ok: bool, kind: str, word: str = "") -> None:
+    def put_look(self, life: Life, found: Found, ok: bool, kind: str) -> None:
         """A look at what was found: an event of this kind where something is there (`ok`), else that it is absent, and the folder on the way too."""
         if kind == SEEN and os.path.dirname(found.path) in life.listed:  # guard: looks-by-list
             kind = BY_LIST
-        if ok and found.inode is None and found.folder is not None and self.names.is_walked(found.folder):
+        if ok and found.inode is None and found.folder is not None and found.folder.walked:
             found.inode = Inode("f")
             found.inode.is_unmade = True
             self.names.put(found.folder, found.name, found.inode)
-        self.put(life, kind if ok else ABSENT, found.path, word)
+        self.put(life, kind if ok else ABSENT, found.path)
         if not ok and found.missing and found.missing != found.path:
             self.put(life, ABSENT, found.missing)  # guard: folders-that-are-absent-on-way
 

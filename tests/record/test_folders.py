@@ -50,7 +50,7 @@ def build_of(rules: Mapping[str, Sequence[str]], done: Mapping[str, Events], the
         names.put(folder, name, Inode(kind))
     owners = Owners([make, *make.children], [read_words(7, 0, words_of(rules))])
     assert not owners.holes, owners.holes
-    return MakeBuilder(owners.makes[0], 0, names, Assumptions()).run()
+    return MakeBuilder(owners.makes[0], 0, names, Assumptions(), names.before).run()
 
 
 def meetings(build: Build) -> Dict[str, Tuple[str, str]]:

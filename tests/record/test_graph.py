@@ -77,10 +77,6 @@ class Nodes(unittest.TestCase):
         graph = graph_of("all\n a\n  s\n b\n  *s", "all: a b\n\na: s\n#  Also makes: b\n\nb: s\n#  Also makes: a\n", ["a"])
         self.assertEqual((["s"], ["a", "s"]), (sorted(graph.nodes["a"].prerequisites), sorted(graph.nodes["b"].prerequisites)))
 
-    def test_late_targets(self) -> None:
-        graph = graph_of("all\n d\n  p\n d\n  q\n m", "all: d m\n\nd:: p\n" + RECIPE + "\nd:: q\n" + RECIPE + "\nm:\n#  File is an intermediate prerequisite.\n", ["d", "d"])
-        self.assertEqual({"d@rule2", "q", "m"}, graph.late() - {"+"})
-
 
 class Order(unittest.TestCase):
     """A serial order, and what ended before what."""
@@ -100,7 +96,7 @@ class Order(unittest.TestCase):
         self.assertEqual(set(), after[0])
 
     def test_what_has_ended(self) -> None:
-        self.assertEqual([0, 1, 3, 0], befores([set(), {0}, {1}, set()], [0, 1, 2, 3]))
+        self.assertEqual([0, 1, 3, 0], befores([Task(str(n), Node(str(n), str(n), 0, 0), "recipe", after) for n, after in enumerate([set(), {0}, {1}, set()])]))
 
 
 Makefiles = makefiles(__name__, {
