@@ -61,7 +61,7 @@ def passed_over(make: Make) -> str:
     for one in make.words.rounds[-1:]:
         base = one.base or Base()
         wanted = [name for node in one.nodes for name in (*base.prerequisites.get(node, ()), *base.order_only.get(node, ()))]
-        wanted += base.values.get("MAKECMDGOALS", "").split() if one.stage == "goals" else []
+        wanted += " ".join(base.values.get("MAKECMDGOALS", ())).split() if one.stage == "goals" else []
         return next((name for name in wanted if name not in one.nodes), "")
     return ""
 

@@ -33,7 +33,8 @@ def add_granted(owners: Owners, assumed: Assumptions) -> None:
 
 def guile(make: Make) -> List[str]:
     """Another language that a make has inside."""
-    return ["$(guile ..)"] if "guile" in make.words.values().get(".FEATURES", "").split() else []  # guard: another-language
+    values = (value for one in make.words.rounds for value in (one.base or Base()).values.get(".FEATURES", ()))
+    return ["$(guile ..)"] if any("guile" in value.split() for value in values) else []  # guard: another-language
 
 
 def add_granted_by_ninjas(ninjas: List[Ninja], ties: List[str], owners: Owners, assumed: Assumptions) -> None:

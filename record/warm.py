@@ -65,8 +65,9 @@ class Target:
 
     def does_nothing(self) -> bool:
         """Whether its recipe is the word `true` alone, or less, as for a file that the project has."""
-        shell = self.base.values.get("SHELL", "") if "SHELL" not in self.base.own else ""  # guard: recipes-that-do-nothing-in-shell
-        return OF_SYSTEM.match(shell) is not None and os.path.basename(shell) in SHELLS and all(RUNS_NOTHING.fullmatch(line) for line in self.base.recipes[self.name])  # guard: recipes-that-do-something
+        shells = self.base.values.get("SHELL", {""})
+        is_known = all(OF_SYSTEM.match(shell) is not None and os.path.basename(shell) in SHELLS for shell in shells)  # guard: recipes-that-do-nothing-in-shell
+        return is_known and all(RUNS_NOTHING.fullmatch(line) for line in self.base.recipes[self.name])  # guard: recipes-that-do-something
 
     def is_beginning(self) -> bool:
         """Whether it is the makefile that make finds by itself when it begins, and no recipe runs that make, which might have made it: without it there is

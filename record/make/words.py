@@ -24,7 +24,7 @@ LATER = (4, 4)
 DEFAULTS = ("GNUmakefile", "makefile", "Makefile")  # the makefiles that make looks for where its words name none
 # Lines of which each word counts: one that is none of those above was not read as a whole.
 BROKEN = re.compile(r" *(?:Considering target file|Pruning file|Finished prerequisites of target file|Must remake target|Failed to remake target file|Giving up on target file) '"
-                    r"(?!.*'\.$)|(?:Putting|Live|Reaping \w+|Removing) child 0x(?!.*PID \d)")
+                    r"(?!.*'\.$)|(?:Putting|Live|Reaping \w+|Removing) child 0x(?!.*PID \d)|# (?:Files|files hash-table stats:)$")  # the last two: of a data base that has ended
 READING = re.compile(r"^Reading makefile '(.*)'((?: \([^)]*\))*)\.\.\.$")
 
 
@@ -108,14 +108,6 @@ class Words:
     def has_failed(self) -> bool:
         """Whether it failed, or a signal ended it."""
         return self.status != 0
-
-    def values(self) -> Dict[str, str]:
-        """The macros of its data bases; one that differs between them may be anything."""
-        found: Dict[str, str] = {}
-        for base in (one.base for one in self.rounds if one.base is not None):
-            for name, value in base.values.items():
-                found[name] = value if found.get(name, value) == value else "$(other)*"
-        return found
 
 
 @lru_cache(KEPT)
@@ -273,7 +265,6 @@ def take_base(words: Words, lines: List[str]) -> None:
     hole = base_hole(lines, found)
     if hole:  # guard: data-base-that-is-not-whole
         words.holes.append("the data base of a make %s: make %s" % (hole, words.args))
-    words.holes += ["the data base of a make has a macro of several lines without an end: make " + words.args] if found.is_open else []  # guard: macro-without-end
     for one in words.rounds:
         unread = next((job.target for job in one.jobs if one.base is None and job.target not in found.recipes), None)
         words.holes += ["the data base of a make does not show the recipe of a target that ran: " + unread] if unread is not None else []  # guard: recipes-that-it-does-not-show

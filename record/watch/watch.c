@@ -140,7 +140,7 @@ static int open_file(const char *folder) {
 
 /* The data base, by the functions of `make -p`. */
 static void put_base(void) {
-  static const char *const parts[] = {"print_variable_data_base", "print_dir_data_base", "print_rule_data_base", "print_file_data_base", "print_vpath_data_base"};
+  static const char *const parts[] = {"print_variable_data_base", "print_file_data_base"};
   FILE *real = stdout;
   if (!is_raised || *level < RAISED || getpid() != own) return; /* a signal may have lowered the level: then make has not said all */
   fputs_unlocked("# Make data base, printed on\n", said);

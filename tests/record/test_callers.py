@@ -102,7 +102,6 @@ ONE_JOB = "\n# Files\n.NOTPARALLEL:\n\n"  # as the data base of make says it
 Makefiles = makefiles(__name__, {
     "file_with_lines_like_those_of_the_data_base": Small("no verdict", "V := $(file <x)\n" + RULES, {"x": "x" + ONE_JOB}, says="holds lines of a macro that look like its own"),
     "text_with_lines_like_those_of_the_data_base": Small("no verdict", "define V :=\nx" + ONE_JOB + "endef\n" + RULES, says="holds lines of a macro that look like its own"),
-    "macro_of_lines_like_those_of_the_data_base": Small("race", "define V" + ONE_JOB + "endef\n" + RULES),
     "file_with_lines_that_begin_so": Small("race", "V := $(file <x)\n" + RULES, {"x": "x\n# Files of x\n.NOTPARALLEL:\n\n"}),
     "file_with_other_lines": Small("race", "V := $(file <x)\n" + RULES, {"x": "x\n# files\n.NOTPARALLEL:\n\n"}),
 })

@@ -125,33 +125,16 @@ class Texts(unittest.TestCase):
         args = found.args if found is not None else ""
         self.assertEqual((['1<"', "2>"], ['/q\\"4', "/r"]), (texts(args), folders(args)))
 
-    def test_macros_of_a_data_base(self) -> None:
-        base = read_base(["# makefile (from 'M', line 1)", "a b := 1", "# makefile (from 'M', line 2)", "V := 1", "2 = 3", "# default", "W = $(x)", "# makefile (from 'M', line 3)", "define two", "define in",
-                          "endef", "\tendef", "last", "endef", "# makefile (from 'M', line 9)", "x:y += 4", "# automatic", "# Y := 3"])
-        self.assertEqual({"V": "1", "W": "$(x)", "two": "$(lines)*"}, base.values)
-        self.assertEqual({"a": ["a b := 1"], "V": ["2 = 3"], "two": ["define in", "endef", "\tendef", "last"], "x": ["x:y += 4"], "Y": ["# Y := 3"]}, base.bodies)
-
-    def test_lines_that_are_in_no_pairs(self) -> None:
-        base = read_base(["# environment", "define E", "define in", "endef", "# makefile (from 'M', line 1)", "V := 1", "# variable set hash-table stats:", "# Load=1"])
-        self.assertEqual({"E": "$(lines)*", "V": "1"}, base.values)
-        self.assertEqual({"E": ["define in", "endef"]}, base.bodies)
-
-    def test_lines_that_go_on(self) -> None:
-        base = read_base(["# makefile (from 'M', line 1)", "define two", "foo \\", "endef", "x", "endef", "# default", "V := 1"])
-        self.assertEqual({"two": ["foo \\", "endef", "x"]}, base.bodies)
+    def test_macros_that_count(self) -> None:
+        base = read_base(["# makefile (from 'M', line 1)", "SHELL := /bin/sh", "X = $(SHELL)", "MAKESHELL = /s", "# automatic", "# SHELL := x", "define SHELL", "two", "endef", "# Files", "",
+                          "# makefile (from 'M', line 2)", "a: SHELL = y", "a: SHELL = z"])
+        self.assertEqual({"SHELL": {"/bin/sh", "x", "", "y"}}, base.values)
 
     def test_not_parallel_that_is_no_target(self) -> None:
         head = ["# Make data base", "# Files", ""]
         self.assertTrue(read_base([*head, ".NOTPARALLEL:"]).serial)
         self.assertFalse(read_base([*head, "# Not a target:", ".NOTPARALLEL:"]).serial)
         self.assertTrue(read_base([*head, "# Not a target:", "x:", "", ".NOTPARALLEL:"]).serial)
-
-    def test_macro_that_is_called_define(self) -> None:
-        self.assertEqual({"define": "1"}, read_base(["# makefile (from 'M', line 1)", "define = 1"]).values)
-
-    def test_value_of_several_lines(self) -> None:
-        base = read_base(["# makefile (from 'M', line 1)", "V := 1", "two", "# three", "# default", "W = 2"])
-        self.assertEqual(({"V": "1", "W": "2"}, {"V": ["two", "# three"]}), (base.values, base.bodies))
 
     def test_recipe_with_an_empty_line(self) -> None:
         base = read_base(["# Files", "", "a: s", "#  recipe to execute (from 'M', line 2):", "\techo a; \\", "", "\techo b", "", "b:"])

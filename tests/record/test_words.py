@@ -75,23 +75,18 @@ class Holes(unittest.TestCase):
         self.assertEqual(["the data base of a make begins twice: make all"], self.holes(BASE[:1] + ["hello"] + BASE))
 
     def test_data_base_that_a_variable_ends(self) -> None:
-        self.assertEqual("the data base of a make lists no targets: make all", self.holes(BASE[:1] + BASE[-1:] + BASE[1:])[-1])
+        self.assertIn("the data base of a make lists no targets: make all", self.holes(BASE[:1] + BASE[-1:] + BASE[1:]))
 
-    def test_data_base_with_a_part_or_a_macro_that_comes_twice(self) -> None:
-        """A macro's text may look like either, and nobody can say which is the real one."""
-        unclear = ["the data base of a make holds lines of a macro that look like its own: make all"]
-        for part in ("# Files", "# Implicit Rules", "# Directories", "# files hash-table stats:"):
-            self.assertEqual(unclear, self.holes([BASE[0], "# makefile", "V := x", part, part, *BASE[1:]]), part)
-        first, second = ["# makefile (from 'x', line 1)", "X = 1"], ["# makefile", "define X", "y", "endef"]
-        self.assertEqual([unclear, unclear, []], [self.holes([BASE[0], *lines, *BASE[1:]]) for lines in (first + first, first + second, first)])
-        self.assertEqual([], self.holes([BASE[0], "# makefile", "define V", "# Files", "# Files", "endef", *BASE[1:]]))
+    def test_data_base_with_a_mark_that_comes_twice(self) -> None:
+        """A macro's text may look like it, and nobody can say which is the real one."""
+        for mark in ("# Files", "# files hash-table stats:"):
+            self.assertEqual(["the data base of a make holds lines of a macro that look like its own: make all"], self.holes([BASE[0], "V := x", mark, *BASE[1:]]), mark)
+
+    def test_data_base_that_a_macro_holds_whole(self) -> None:
+        self.assertEqual(["a line of make's words cannot be read: " + mark for mark in ("# Files", "# files hash-table stats:")], self.holes([BASE[0], "V := x", *BASE[1:], *BASE[1:]]))
 
     def test_data_base_that_is_cut(self) -> None:
         self.assertEqual(["the data base of a make has no end: make all"], self.holes(BASE[:-1]))
-
-    def test_macro_without_an_end(self) -> None:
-        for line, wanted in (("define V", ["the data base of a make has a macro of several lines without an end: make all"]), ("define = x", []), ("define := x", [])):
-            self.assertEqual(wanted, self.holes([BASE[0], "# makefile (from 'M', line 1)", line, *BASE[1:]]), line)
 
     def test_variable_with_a_line_of_the_log(self) -> None:
         words = self.words(BASE[0], "EXIT x", *BASE[1:])
