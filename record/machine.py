@@ -112,15 +112,21 @@ stat, lstat, readlink, listdir = asked(os.stat), asked(os.lstat), asked(os.readl
 
 
 @asked
+def processors() -> int:
+    """How many processors this process may use."""
+    return len(os.sched_getaffinity(0))
+
+
+@asked
 def read(path: str, size: int = -1) -> bytes:
     """What a file holds, or so many bytes of it."""
     with open(path, "rb") as file:
         return file.read(size)
 
 
-def opened(path: str, errors: str = "surrogateescape", newline: Optional[str] = None, size: int = -1) -> TextIO:
-    """A file as a text, or the text of so many bytes of it."""
-    return io.TextIOWrapper(io.BytesIO(read(path, size)), encoding="utf-8", errors=errors, newline=newline)
+def opened(path: str, errors: str = "surrogateescape", newline: Optional[str] = None) -> TextIO:
+    """A file as a text."""
+    return io.TextIOWrapper(io.BytesIO(read(path, -1)), encoding="utf-8", errors=errors, newline=newline)
 
 
 @asked

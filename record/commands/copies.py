@@ -5,8 +5,9 @@ import os
 from functools import lru_cache
 
 from record import machine
-from record.commands.shelltext import KEPT, first_words
+from record.commands.shelltext import first_words
 
+KEPT = 4096  # how many programs are remembered
 MAKES = ("make", "gmake", "remake")
 
 

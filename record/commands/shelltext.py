@@ -1,14 +1,11 @@
-"""What the words of a process say: scripts of shells, removals, programs that are well known."""
+"""What the words of a process say: texts of shells, removals, programs that are well known."""
 
 import os
 import re
-from functools import lru_cache
-from typing import List, Tuple
+from typing import List
 
 from record import machine
-from record.commands.texts import text_of
 
-KEPT, LARGE = 4096, 1 << 22  # how many files are remembered; how much of a script is read
 # Programs by their names.
 SHELLS = ("sh", "dash", "bash", "ksh", "zsh", "ash")
 NINJA = re.compile(r"(?:ninja|ninja-build|samu|samurai)(?:[-.\d]*)$")  # `ninja-1.11`
@@ -36,11 +33,10 @@ def is_removal(argv: List[str]) -> bool:
     return any(FORCES.fullmatch(word) for word in options) and not any(SAYS.fullmatch(word) for word in options)  # guard: status
 
 
-def shell_words(argv: List[str]) -> Tuple[str, str]:
-    """The text of `sh -c TEXT`, and the script of `sh SCRIPT`: the first word that is no option of the shell. Where it has neither
-    it reads its standard input."""
+def shell_text(argv: List[str]) -> str:
+    """The text of `sh -c TEXT`, else nothing: the first word that is no option of the shell."""
     if base_name(argv) not in SHELLS:
-        return "", ""
+        return ""
     options, at = "", 1
     while at < len(argv) and argv[at][:1] in ("-", "+"):
         word, at = argv[at], at + 1
@@ -48,18 +44,7 @@ def shell_words(argv: List[str]) -> Tuple[str, str]:
             break
         options += word if re.match(r"-\w", word) else ""  # of one letter each, as `-ec`
         at += bool(NAMES_NEXT.fullmatch(word))
-    first = argv[at] if at < len(argv) else ""
-    return (first, "") if "c" in options else ("", "" if "s" in options else first)
-
-
-def shell_text(argv: List[str]) -> str:
-    """The text of `sh -c TEXT`, else nothing."""
-    return shell_words(argv)[0]
-
-
-def script_of(argv: List[str]) -> str:
-    """The file that a shell runs, else nothing."""
-    return shell_words(argv)[1]
+    return argv[at] if "c" in options and at < len(argv) else ""
 
 
 @machine.asked
@@ -83,12 +68,3 @@ def with_interpreter(argv: List[str], path: str, words: List[str]) -> List[str]:
 def shows_progress(argv: List[str]) -> bool:
     """Whether CMake counts what is built, to print how much of it there is."""
     return base_name(argv) == "cmake" and argv[1:2] == ["-E"] and argv[2:3] != [] and argv[2] in PROGRESS
-
-
-@lru_cache(KEPT)
-def contents(path: str) -> str:
-    """The text of a script; nothing where it is gone."""
-    try:
-        return text_of(path, LARGE)
-    except OSError:
-        return ""

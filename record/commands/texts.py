@@ -14,8 +14,8 @@ def is_plain(path: str) -> bool:
     return machine.isfile(path) and not os.path.normpath(path).startswith(OF_PROCESS)  # guard: what-cannot-be-read-again
 
 
-def text_of(path: str, limit: int = -1) -> str:
-    """The text of a file, or its beginning; an error where it is gone, or cannot be read again."""
+def text_of(path: str) -> str:
+    """The text of a file; an error where it is gone, or cannot be read again."""
     if not is_plain(path):
         raise OSError(errno.EINVAL, "is no plain file", path)
-    return machine.opened(path, "replace", size=max(-1, 4 * limit)).read(limit)  # a sign has four bytes at most
+    return machine.opened(path, "replace").read()

@@ -8,7 +8,7 @@ TARGET = re.compile(r"^(.*?)(::?)(?: (.*))?$")
 PLACE = re.compile(r"^#  recipe to execute \(from '(.*)', line (\d+)\):")
 ORIGIN = re.compile(r"# (makefile|environment(?: under -e)?|command line|default|automatic|'override' directive)(?: private)?(?: \(from '(.*)', line (\d+)\))?$")
 # A macro of which the value counts, also one of single targets or of a pattern, or of several lines.
-VALUE = re.compile(r"(?:.*[\s:])?(SHELL|MAKECMDGOALS|\.FEATURES)(?: (?:=|:=|::=|:::=|\+=|\?=) ?(.*))?$")
+VALUE = re.compile(r"(?:.*[\s:])?(SHELL|MAKEFLAGS|MAKECMDGOALS|\.FEATURES)(?: (?:=|:=|::=|:::=|\+=|\?=) ?(.*))?$")
 NO_TARGET = "# Not a target:"
 MARKS = ("# Files", "# files hash-table stats:")  # the lines around its targets
 

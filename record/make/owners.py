@@ -2,21 +2,23 @@
 tried out in other orders."""
 
 import os
-import re
 from dataclasses import dataclass, field
-from typing import Container, Dict, Iterable, Iterator, List, Optional, Sequence, Set
+from functools import cached_property
+from itertools import takewhile
+from typing import Container, Dict, Iterable, Iterator, List, Optional, Set
 
+from record import machine
 from record.build.parts import divide
 from record.build.work import Part, Tool, Work, written_by
+from record.commands.shelltext import shell_text
 from record.commands.system import OF_SYSTEM
 from record.commands.texts import text_of
 from record.make.asked import asked_in
-from record.make.one_job import has_one_job
 from record.make.words import Job, Words, makefiles
 from record.trace.events import ENTERED, INSIDE, LISTED, READ
 from record.trace.lives import Life
 
-SHELL = re.compile(r"\$[({]shell\s|!=")  # what calls a program while make reads or expands a text
+ONE = "-j1"  # as MAKEFLAGS has it, whatever the words of make are
 
 
 @dataclass(eq=False)
@@ -28,10 +30,9 @@ class Make(Tool):
     folder: str
     work: Dict[int, Work] = field(default_factory=dict)  # by id of the job
     by_links: bool = False  # it went by links: folders have other paths than its makefiles say
-    is_called: bool = False  # a make above calls it by `$(shell ..)`: it has the environment with which that was started
     lists: Set[str] = field(default_factory=set)  # folders that it listed by itself
-    callers: Sequence[str] = ()  # the lines of the recipe that called it, as they stand in the makefile
     left: List[Part] = field(default_factory=list)  # processes that its own calls leave running, as `$(shell a &)`
+    above: Optional["Make"] = None  # the make whose recipe calls it
 
     def known_text(self, name: str) -> Optional[str]:
         """What a makefile said when make read it; None where it is gone."""
@@ -44,12 +45,25 @@ class Make(Tool):
         """The patterns of names for which it looked in a folder; any name where nobody has heard them."""
         return ["*"] if self.words.is_deaf else [*asked_in(self.words.patterns, self.folder, folder, self.by_links)]  # guard: makes-with-glob-of-their-own
 
+    @cached_property
+    def flags(self) -> List[List[str]]:
+        """The words of MAKEFLAGS that are no macros, as each data base of it has them."""
+        return [value.partition(" -- ")[0].split() for one in self.words.rounds if one.base is not None for value in one.base.values.get("MAKEFLAGS", ())]
+
     def has_one_slot(self) -> bool:
-        """Whether it runs one job at a time whatever the user says: by its words, or as no make above hands it jobs. The words of
-        a make that none is above are the user's own."""
-        if not any(life.is_make or life.is_ninja for life in self.life.up() if life is not self.life):
-            return False  # guard: users-own-j1
-        return (bool(self.words.slots) or not self.is_called) and has_one_job(self.words, self.life, self.callers)  # guard: not-make-that-make-calls
+        """Whether it runs one job at a time whatever the user says: a recipe says so, or a ninja runs it, which hands no jobs on, no make is above, and it asks
+        for none itself."""
+        above = {life.is_make for life in self.life.up() if life is not self.life and (life.is_make or life.is_ninja)}
+        return self.is_called_for_one() or above == {False} and bool(self.flags) and not any("j" in word for words in self.flags for word in words)  # guard: makes-that-ninja-runs
+
+    def is_called_for_one(self) -> bool:
+        """Whether a recipe calls it with -j1: the shell of the recipe, and no script or program, which may find a number; the make above was not called so; and
+        no count of processors is 1."""
+        if self.above is None or not self.flags or not all(ONE in words for words in self.flags) or any(ONE in words for words in self.above.flags):  # guard: j1-of-the-user
+            return False
+        ups = takewhile(lambda up: up is self.life or not (up.is_make or up.is_ninja), self.life.up())
+        words = [argv for up in ups for argv in (up.ran[:-1] if up is self.life else up.ran or [up.argv])]
+        return all(map(shell_text, words)) and machine.processors() > 1  # guard: numbers-that-programs-give
 
 
 def beginning(make: Make, number: int) -> int:
@@ -104,7 +118,6 @@ class Owners:
             self.holes.extend(make.words.holes)
             self.match_jobs(make)
         for make in self.makes:
-            make.is_called, make.callers = self.is_called(make), self.callers_of(make)
             self.collect(make)
         for make in self.makes:
             for work in make.work.values():
@@ -115,6 +128,7 @@ class Owners:
         """One more make, with what it said; that it did not end, or failed, is a hole."""
         make = Make(words, life, self.folder_of(life, words))
         make.by_links = any(act.kind == READ and act.path in self.links and not OF_SYSTEM.match(act.path) for act in life.acts)
+        make.above = next((self.of_life.get(id(up)) for up in life.up() if up is not life and (up.is_make or up.is_ninja)), None)
         self.makes.append(make)
         self.of_life[id(life)] = make
         self.holes += ["a make did not end: make " + words.args] if words.status is None else []  # guard: make-that-did-not-end
@@ -162,26 +176,6 @@ class Owners:
                 self.holes.append("a recipe that ran has no process: " + jobs[0].target if not lives else "a process number came again: %d" % pid)
             for life, job in zip(lives, jobs):
                 self.jobs[id(life)] = job
-
-    def is_called(self, make: Make) -> bool:
-        """Whether a make above calls a make by `$(shell ..)`, and leaves MAKEFLAGS as that make has found it: it may ask for several jobs."""
-        chain = list(make.life.up())
-        for child, up in zip(chain, chain[1:]):
-            if up.is_make or up.is_ninja:
-                return up.is_make and id(child) not in self.jobs and not any("MAKEFLAGS" in word for one in chain[:chain.index(up)] for argv in one.ran for word in argv)  # guard: make-that-make-calls
-        return False
-
-    def callers_of(self, make: Make) -> Sequence[str]:
-        """The lines of the recipe of a make above that called a make, as they stand in the makefile, or of those that call `$(shell ..)`."""
-        chain = list(make.life.up())
-        caller, above = next(((life, up) for life, up in zip(chain, chain[1:]) if up.is_make), (make.life, None))
-        outer, job = self.of_life.get(id(above)), self.jobs.get(id(caller))
-        if outer is None:
-            return []
-        if job is None:
-            texts = (outer.known_text(name) or "" for name in makefiles(outer.words))
-            return [line for text in texts for line in text.split("\n") if SHELL.search(line)]
-        return [line for one in outer.words.rounds if one.base is not None for line in one.base.recipes.get(job.target, ())]
 
     # ---------------------------------------------------------------- what jobs did
     def below(self, life: Life) -> Iterable[Life]:

@@ -5,10 +5,9 @@ from collections import Counter
 from dataclasses import dataclass, field
 from functools import lru_cache
 from pathlib import Path
-from typing import Container, Dict, FrozenSet, Iterable, Iterator, List, Optional, Set, Tuple
+from typing import Container, Dict, Iterable, Iterator, List, Optional, Set, Tuple
 
 from record.make.database import Base, read_base
-from record.make.flags import own_jobs
 from record.watch.files import OWN_WORDS, Output, Start, files_in, open_file, own_outputs, read_start
 
 KEPT = 1 << 14  # how many lines are remembered: most come again for each target that needs the same
@@ -79,9 +78,6 @@ class Words:
     life: int
     args: str = ""
     flags: str = ""
-    environment: FrozenSet[str] = frozenset()  # the names of the variables that it found there
-    below: bool = False  # a make above has handed it flags
-    slots: str = ""  # how many jobs its own words ask for: digits, or `all`
     log: str = ""  # the file to which its output goes, where that of the build does not go there
     version: str = ""
     status: Optional[int] = None
@@ -287,9 +283,7 @@ def begun(words: Words, start: Start, own: Container[Tuple[int, int]]) -> Words:
     """The words of a make as it was called. `own`: the files to which the output of the recorder itself goes."""
     first = start.outputs.get(1, Output())
     words.start, words.version, words.args = start, start.version, " ".join(start.args).replace("\n", " ")
-    words.flags, words.environment = start.environment.get("MAKEFLAGS", ""), frozenset(start.environment)
-    words.slots = own_jobs(start.args)
-    words.below = {"MAKELEVEL", "MAKEFLAGS"} <= words.environment
+    words.flags = start.environment.get("MAKEFLAGS", "")
     words.log = first.path if first.kind == "f" and (first.device, first.number) not in own else ""
     return words
 

@@ -5,6 +5,7 @@ build left, except for what two such builds leave in two ways: so it shows what 
 """
 
 import os
+import re
 import time
 from pathlib import Path
 from typing import Dict, Iterable, Iterator, List, Optional, Sequence, Set, Tuple
@@ -12,7 +13,6 @@ from typing import Dict, Iterable, Iterator, List, Optional, Sequence, Set, Tupl
 from record.build.tasks import Node
 from record.folder import Record, room_of_programs
 from record.make.database import Base
-from record.make.flags import cluster
 from record.make.graph import MakeBuild
 from record.make.owners import Make, makes_of
 from record.make.words import Job, Words, read_logs
@@ -22,6 +22,7 @@ from record.orders.trees import CannotCopy, differing, held_by
 from record.trace.names import Names
 
 ANOTHER = "a later build is another one, where nothing is edited: "
+TAKES_AS_OLD = re.compile(r"-[^-CfIoWjlOE]*o|--ol|--assume-o")  # words of make
 UNKNOWN = "what make knows in a later build is not known: "
 Call = Tuple[str, str, str]  # of a make: its folder, its words, and the flags in its environment
 
@@ -126,7 +127,7 @@ class Later:
             is_due = os.path.isdir(make.folder) and (caller is None or above is not None and caller[1].target in above.ran)
             if call not in self.idle and is_due:  # guard: makes-that-nobody-calls
                 yield ANOTHER + "it does not call make %s in %s" % (call[1], call[0])
-            if any(cluster(word)[1] == "o" or word.startswith(("--ol", "--assume-o")) for word in " ".join(call[1:]).split(" ")):  # guard: files-that-make-takes-as-old
+            if any(TAKES_AS_OLD.match(word) for word in " ".join(call[1:]).split(" ")):  # guard: files-that-make-takes-as-old
                 yield UNKNOWN + "make %s in %s is asked to take files as old (-o)" % (call[1], call[0])
 
 

@@ -219,7 +219,7 @@ GUARDS: List[Guard] = [
         ("programs-by-their-numbers", "program = first_text(call.args)", "calls.Descriptors.a_program_by_its_number"),
         ("programs-that-are-not-run", "if False:", "classes.Traces.programs_that_are_not_run"),
         ("interpreters-are-read", "pass", "small.Makefiles.interpreter_that_a_recipe_makes", YES, "interpreter"),
-        ("scripts-are-of-their-interpreter", "pass", "small.Makefiles.one_job_of_a_script", FALSE_RACE),
+        ("scripts-are-of-their-interpreter", "pass", "python.Python.script_that_names_python"),
         ("too-many-words-hole", "if False:", "moves.Traces.too_many_words"),
         ("file-of-another-make", "if match is None or not ok:", "replay.Lives.make_without_the_library_is_noted"),
         ("make-whatever-its-program-is-called", "life.is_query = name in self.silent", "replay.Lives.make_without_the_library_is_noted"),

@@ -1,5 +1,6 @@
 """Words of makes and lives of processes, brought together; what does not fit is a hole."""
 
+import os
 import unittest
 from collections import Counter
 from typing import List, Optional, Tuple
@@ -10,11 +11,10 @@ from record.make.owners import Make, Owners
 from record.make.words import Words, read_words
 from record.trace.lives import Life
 from record.watch.files import Start
-from test_small import Small, makefiles
+from test_small import IN_ORDER, Small, makefiles
 
 INNER = "all: in gen\ngen: ; %s; touch gen\nin: ; $(MAKE) -f in.mk; touch in\n"
 KEPT = "all: gen t\nt: p ; touch t log\ngen: ; sleep 0.02; touch p gen\n"
-ROW = "all: p q\np: ; @echo 1 > p\nq: ; @cat p > q || true\n"
 LATER = "all: u gen\ngen: ; cp t bin/tool; touch gen\n"
 SETUP = "sed -i '1i#!/bin/sh' t; chmod +x t bin2/tool"
 TOOLS = {"t": "echo new > $1\n", "bin2/tool": "#!/bin/sh\necho old > $1\n", "bin/k": ""}
@@ -112,10 +112,6 @@ Makefiles = makefiles(__name__, {
     "target_that_the_make_above_has_made": Small("race", "in: pre ; $(MAKE) -f 2.mk; touch in\npre: ; touch t pre\n", {"p": "p", "2.mk": KEPT}),
     "target_that_is_made_while_make_reads": Small("race", "X := $(shell touch t; sleep 0.05)\n" + KEPT, {"p": "p"}),
     "target_that_is_made_for_a_makefile": Small("race", "-include x.d\n" + KEPT + "x.d: ; touch t\n", {"p": "p"}),
-    # a make that make calls has the environment of that make: it may ask for several jobs there
-    "make_that_make_calls": Small("race", "X := $(shell $(MAKE) -s -f in.mk)\nall: ; touch all\n", {"in.mk": ROW}),
-    "make_that_make_calls_without_flags": Small("safe", "X := $(shell env -u MAKEFLAGS $(MAKE) -s -f in.mk)\nall: ; touch all\n", {"in.mk": ROW}),
-    "make_of_one_job_that_make_calls": Small("safe", "X := $(shell $(MAKE) -s -j1 -f in.mk)\nall: ; touch all\n", {"in.mk": ROW}),
     # programs that make itself looks for before a line of a recipe
     "program_of_a_later_line_that_comes_first": Small("safe", "export PATH := $(CURDIR)/bin:$(CURDIR)/bin2:$(PATH)\n" + LATER + "u: gen\n\ttrue\n\ttool u\n", TOOLS, SETUP),
     "program_that_the_next_recipe_does_not_need": Small("safe", "export PATH := $(CURDIR)/bin:$(PATH)\n" + LATER + "all: w\nw: ; touch w\nu: gen\n\ttrue\n\ttool u\n", TOOLS, SETUP),
@@ -124,8 +120,15 @@ Makefiles = makefiles(__name__, {
 })
 
 
-class Names(unittest.TestCase):
-    """At what make itself looks."""
+class Slots(unittest.TestCase):
+    """Makes that run one job at a time."""
+
+    def test_count_of_processors(self) -> None:
+        before = os.sched_getaffinity(0)
+        os.sched_setaffinity(0, {min(before)})
+        self.addCleanup(os.sched_setaffinity, 0, before)
+        with support.Project({"Makefile": "all: ; $(MAKE) -j`nproc` -f in.mk\n", "in.mk": IN_ORDER}) as project:
+            self.assertEqual(1, project.record().status)
 
 
 class Texts(unittest.TestCase):

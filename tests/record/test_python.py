@@ -21,12 +21,16 @@ class Python(unittest.TestCase):
         env = {name: value for name, value in os.environ.items() if name != "PYTHONDONTWRITEBYTECODE"}
         env["PATH"] = os.path.dirname(os.path.realpath(sys.executable)) + os.pathsep + env["PATH"]
         with support.Project({"Makefile": makefile, "t/gen.py": script, **HELPER}) as project:
+            project.sh("chmod +x t/gen.py")
             outcome = project.run(["--race", support.race_program(), "--", "make"], env, once=False)
             self.assertEqual(status, outcome.status, outcome.text())
             self.assertIn(says, outcome.text())
 
     def test_modules_and_byte_code(self) -> None:
         self.of(TWO, SCRIPT, 0, "by its key: bytecode\n")
+
+    def test_script_that_names_python(self) -> None:
+        self.of(TWO.replace("python3 -S ", ""), "#!%s -S\n%s" % (os.path.realpath(sys.executable), SCRIPT), 0, "by its key: bytecode\n")
 
     def test_script_that_lists_the_folder(self) -> None:
         self.of(TWO, SCRIPT.replace("lib.text()", "' '.join(sorted(__import__('os').listdir('t')))"), 1, "seen where t/y.c runs before t/x.c")

@@ -12,6 +12,7 @@ from record.make.words import LATER
 STATUSES = {"safe": 0, "race": 1, "no verdict": 2}
 INSTALL = "test -d $2 || mkdir $2 || true\n"
 OLD = "touch -d 2001-01-01 "
+IN_ORDER = "all: a b\na: ; echo a > a\nb: ; cp a b\n"
 
 
 @dataclass(frozen=True)
@@ -37,26 +38,12 @@ SMALL: Dict[str, Small] = {
     # what make itself looks at in its first pass
     "look_of_a_leaf": Small("safe", "all: t gen\nt: p ; touch t\ngen: ; echo x > p; touch gen\n", {"p": "p", "t": "t"}, OLD + "t"),
     "look_behind_its_writer": Small("race", "all: gen t\nt: p ; touch t\ngen: ; echo x > p; touch gen\n", {"p": "p", "t": "t"}, OLD + "t"),
-    # makes that run one recipe at a time whatever -j is
-    "inner_make_of_one_job": Small("safe", "all: ; $(MAKE) -j1 -f in.mk\n", {"in.mk": "all: a b\na: ; echo a > a\nb: ; cp a b\n"}),
-    "inner_make_of_two_jobs": Small("race", "all: ; $(MAKE) -j2 -f in.mk\n", {"in.mk": "all: a b\na: ; echo a > a\nb: ; cp a b\n"}),
-    "inner_make_without_flags": Small("safe", "all: ; env -u MAKEFLAGS make -f in.mk\n", {"in.mk": "all: a b\na: ; echo a > a\nb: ; cp a b\n"}),
     # numbers of jobs
-    "folder_that_looks_like_one_job": Small("race", "all: ; $(MAKE) -Cobj1\n", {"obj1/Makefile": "all: a b\na: ; echo a > a\nb: ; cp a b\n"}),
-    "value_that_looks_like_one_job": Small("race", "all: a b\na: ; echo a > a\nb: ; cp a b\n"),
-    "one_job_that_the_environment_says": Small("race", "all: ; ./run\n", {"run": "#!/bin/sh\nmake -j${JOBS:-1} -f in.mk\n", "in.mk": "all: a b\na: ; echo a > a\nb: ; cp a b\n"}, "chmod +x run"),
-    "one_job_that_a_program_says": Small("race", "all: ; env python3 run\n", {"run": "import os; os.execlp('make', 'make', '-j%d' % 1, '-f', 'in.mk')\n", "in.mk": "all: a b\na: ; echo a > a\nb: ; cp a b\n"}),
-    "one_job_of_a_script": Small("safe", "all: ; ./run\n", {"run": "#!/bin/sh\nmake -j 1 -f in.mk\n", "in.mk": "all: a b\na: ; echo a > a\nb: ; cp a b\n"}, "chmod +x run"),
-    "one_job_by_way_of_a_program": Small("safe", "all: ; env X=1 $(MAKE) -rj1 -f in.mk\n", {"in.mk": "all: a b\na: ; echo a > a\nb: ; cp a b\n"}),
-    "jobs_in_two_words": Small("safe", "all: ; $(MAKE) -kj 1 -f in.mk\n", {"in.mk": "all: a b\na: ; echo a > a\nb: ; cp a b\n"}),
-    "jobs_that_a_recipe_hands_on": Small("race", "all: ; env -u MAKEFLAGS $(MAKE) $(MFLAGS) -f in.mk\n", {"in.mk": "all: a b\na: ; echo a > a\nb: ; cp a b\n"}),
-    "own_jobs_that_a_recipe_hands_on": Small("race", "all: ; env -u MAKEFLAGS $(MAKE) $(MFLAGS) -f in.mk\n", {"in.mk": "all: a b\na: ; echo a > a\nb: ; cp a b\n"}),
-    "jobs_before_those_that_a_recipe_hands_on": Small("race", "all: ; env -u MAKEFLAGS $(MAKE) -j1 $(MFLAGS) -f in.mk\n", {"in.mk": "all: a b\na: ; echo a > a\nb: ; cp a b\n"}),
-    "jobs_behind_those_that_a_recipe_hands_on": Small("safe", "all: ; env -u MAKEFLAGS $(MAKE) $(MFLAGS) -j1 -f in.mk\n", {"in.mk": "all: a b\na: ; echo a > a\nb: ; cp a b\n"}),
-    "one_job_that_a_macro_says": Small("race", "N := $(shell echo 1)\nall: ; $(MAKE) -j$(N) -f in.mk\n", {"in.mk": "all: a b\na: ; echo a > a\nb: ; cp a b\n"}),
-    "one_job_that_a_macro_says_to_a_shell": Small("race", "N = 1\nall: ; $(MAKE) -j$(N) -f in.mk; touch all\n", {"in.mk": "all: a b\na: ; echo a > a\nb: ; cp a b\n"}),
+    "inner_make_of_one_job": Small("safe", "all: ; cd . && $(MAKE) -kj 1 -f in.mk\n", {"in.mk": IN_ORDER}, says="makes that recipes call with -j1 are called so in each build"),
+    "inner_make_of_two_jobs": Small("race", "all: ; $(MAKE) -j2 -f in.mk\n", {"in.mk": IN_ORDER}),
+    "one_job_of_a_script": Small("race", "all: ; ./run\n", {"run": "#!/bin/sh\nmake -j 1 -f in.mk\n", "in.mk": IN_ORDER}, "chmod +x run"),
+    "own_job_of_the_user": Small("race", "all: ; $(MAKE) -f in.mk\n", {"in.mk": IN_ORDER}),
     "jobs_of_a_makefile": Small("race", "MAKEFLAGS += -j4\nall: a b\na: ; sleep 0.1; echo a > a\nb: ; cat a > b || true\n"),
-    "jobs_of_a_makefile_and_one_job": Small("race", "MAKEFLAGS += -j4\nall: a b\na: ; sleep 0.1; echo a > a\nb: ; cat a > b\n"),
     # macros of make
     "recipe_behind_another_mark": Small("race", ".RECIPEPREFIX = >\nall: a b\na:\n> touch a b\nb:\n> touch b\n", says="make looks at it"),
     # what make keeps of what it saw
@@ -195,13 +182,11 @@ SMALL: Dict[str, Small] = {
 }
 COMMANDS: Dict[str, List[str]] = {
     "double_colon_that_is_a_goal": ["make", "x", "u"],
-    "value_that_looks_like_one_job": ["make", "X=-v -j1"],
     "wildcard_that_a_recipe_gives_a_macro_for_a_while": ["env", "F=$(eval T = $$(wildcard d/*.q))", "make"],
+    "own_job_of_the_user": ["make", "-j1"],
     "make_by_its_path": [str(shutil.which("make"))],
     "script_of_make": ["./rules", "all"],
-    "jobs_of_a_makefile_and_one_job": ["make", "-j1"],
     "ages_behind_make": ["sh", "-c", "make && if test x -nt y; then echo x > z; else echo y > z; fi"],
-    "own_jobs_that_a_recipe_hands_on": ["make", "-j1"],
     "two_builds_at_once": ["sh", "-c", "make & make -f other.mk; wait"],
     "status_of_the_command": ["sh", "-c", "make; exit 3"],
 }

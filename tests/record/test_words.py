@@ -5,7 +5,6 @@ import unittest
 from typing import List
 
 import support  # noqa: F401
-from record.make.flags import asks_jobs
 from record.make.owners import Make, Owners
 from record.make.words import Words, read_words
 from record.trace.lives import Life
@@ -121,10 +120,6 @@ class Several(unittest.TestCase):
                  "Removing child 0x5 PID 8 from chain."]
         words = read_words(7, 0, lines)
         self.assertEqual([["a"], []], [[job.target for job in one.jobs] for one in words.rounds])
-
-    def test_letters_of_the_environment(self) -> None:
-        for flags, wanted in (("j", True), ("kj", True), ("kj4", True), ("k", False), ("w -- J=j", False), ("J=kj", False), ("Ij", False)):
-            self.assertEqual(wanted, asks_jobs([], flags), flags)
 
 
 class Language(unittest.TestCase):
