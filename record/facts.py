@@ -42,7 +42,7 @@ class Facts:
         before.write(folder / "before")
         after.write(folder / "after")
         about = {**{name: getattr(record, name) for name in OF_BUILD}, "place": self.place, "said": self.said_place, "covered": list(self.covered), "real": self.real,
-                 "tops": self.names.tops, "linked": options.linked, "warm": options.warm,
+                 "tops": self.names.tops, "warm": options.warm,
                  "first": {**asdict(record.first), "tracked": sorted(record.first.tracked)} if record.first else None}
         (folder / "facts.json").write_text(json.dumps(about, indent=1) + "\n", encoding="utf-8")
 

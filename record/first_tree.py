@@ -44,7 +44,7 @@ NAMED = 3  # so many new files are named
 class FirstTree:
     """The tree that a build starts from, as it was before it."""
 
-    folder: str
+    folder: str  # that has all of it
     top: str = ""  # of a git work tree
     commit: str = ""  # none where nothing was committed
     changed: int = 0  # tracked files that are not as in the commit
@@ -53,18 +53,15 @@ class FirstTree:
     left: Tuple[str, ...] = ()  # files that --fresh took out again, as an earlier build made them; whole paths
     said: str = ""  # how --fresh got it
     setup: str = ""  # what ran between the tree and the build
-
-    @property
-    def place(self) -> str:
-        """The folder that has all of it."""
-        return self.top or self.folder
+    ninja: str = ""  # the folder that --fresh cleaned by ninja
+    linked: Tuple[str, ...] = ()  # files that --fresh copied, and that have names outside of it; whole paths
 
     def text(self) -> str:
         """What it is, behind `for`."""
         changes = [plural(count, kind) for count, kind in ((self.changed, "changed file"), (len(self.new), "new file")) if count]
         names = " (%s)" % first_names(self.new) if self.new else ""
         tree = self.said or ("a checkout of %s" % self.commit + (" with %s%s" % (" and ".join(changes), names) if changes else "") if self.commit else "this folder as it stood")
-        left = "%s that an earlier build left (%s)" % (plural(len(self.left), "file"), first_names([os.path.relpath(path, self.place) for path in self.left]))
+        left = "%s that an earlier build left (%s)" % (plural(len(self.left), "file"), first_names([os.path.relpath(path, self.folder) for path in self.left]))
         return tree + (", without " + left if self.left else "") + (", after %s" % self.setup if self.setup else "")
 
     def has(self, path: str) -> bool:
@@ -87,7 +84,7 @@ class FirstTree:
 
     def may_go(self, path: str) -> bool:
         """Whether --fresh may take a file out again: it is below the folder, and git does not track it, nor has an archive it."""
-        return path.startswith(self.place + "/") and not self.has(path)
+        return path.startswith(self.folder + "/") and not self.has(path)
 
 
 def first_names(names: Sequence[str]) -> str:
@@ -112,7 +109,7 @@ def tree_of(folder: str) -> FirstTree:
     top = os.path.realpath(top)
     files = [os.path.join(top, name) for name in git(top, "ls-files", "-z", "--recurse-submodules").split("\0") if name]
     changed = [line for line in git(top, "status", "--porcelain", "-z", "-uno").split("\0") if line]
-    return FirstTree(folder, top, git(top, "rev-parse", "--short", "HEAD").strip(), len(changed), tracked=frozenset(with_folders([*files, *in_clone(top)], top)))
+    return FirstTree(top, top, git(top, "rev-parse", "--short", "HEAD").strip(), len(changed), tracked=frozenset(with_folders([*files, *in_clone(top)], top)))
 
 
 def in_clone(top: str) -> Iterator[str]:

@@ -1,45 +1,104 @@
 """`--fresh`: records the tree that a checkout or an archive holds, in the project's own place. The work tree stays as it is.
 
-The tree is what git tracks, with the changes of the work tree and new files that are not ignored; with `--from`, what an archive holds; else a copy
-of the folder, as `make distclean` or `make clean` leaves it, if these work. If the build shows that an earlier one left files there, it is recorded again without
-them. Where the system gives this process mounts of its own, the tree lies over the project for
-the build alone. Elsewhere the project is moved aside, and comes back.
+The tree is what git tracks, with the changes of the work tree and new files that are not ignored; with `--from`, what an archive holds; where ninja builds, a
+copy of its folder, as `ninja -t clean` leaves it (record/ninja/clean.py); else a copy of the folder, as `make distclean` or `make clean` leaves it, if these
+work. If the build shows that an earlier one left files there, it is recorded again without them. Where the system gives this process mounts of its own, the
+tree lies over the project for the build alone. Elsewhere the project is moved aside, and comes back.
 """
 
+import argparse
 import os
+import pickle
+import shlex
 import shutil
 import signal
-import subprocess
+import stat
+import sys
+import tempfile
 from contextlib import contextmanager, suppress
 from dataclasses import replace
 from pathlib import Path
-from typing import Callable, Iterator, List, Optional, Set, Tuple
+from typing import Callable, Dict, Iterator, List, Set, Tuple, cast
 
+from record.command import named_folders, ninja_folder
 from record.entry import in_one_step
-from record.first_tree import FirstTree, git, tree_of, with_folders
+from record.first_tree import FirstTree, first_names, git, tree_of, with_folders
+from record.folder import Record, room_of_programs
 from record.messages import reason
-from record.ninja.cold_copy import SAVED, CannotClean, Copier, left_over, moved_aside
+from record.ninja import clean as ninja
+from record.ninja.clean import CannotClean, run
 from record.orders.builds import WITH_PARENT, is_child_able
+from record.orders.trees import remove
 from record.watch.lay import BELOW, BIND, LIBC, OWN_MOUNTS, mount
 
+TRIES = 4  # so many recordings, each without what the ones before show to be left
+SAVED = ".race-saved"  # how the other name of a project ends
 PRIVATE = 1 << 18  # for mount: neither mounts that come from outside, nor own ones outside
 FOLDERS = ("-C", "-f", "--directory=", "--file=", "--makefile=")  # how words of make begin that say where it works
 
 
-def fresh_tree(archive: Optional[str], setup: str, copy: str, kept: str, left: Tuple[str, ...] = ()) -> FirstTree:
-    """Makes a copy that holds the tree. `kept`: the folder of the record, which is no part of it; `left`: what an earlier build left, neither."""
-    out, folder = {kept, *left}, os.path.realpath(".")
-    if archive:
-        return of_archive(archive, folder, copy, setup)
-    tree = tree_of(folder)
-    if tree.top:
-        files = copy_work_tree(tree.top, copy, out)
-        new = tuple(os.path.relpath(path, tree.top) for path in files if not tree.has(path))
-        return replace(tree, new=new, left=left, setup=setup)
-    if not shutil.which("git") and any((up / ".git").exists() for up in Path(folder, ".git").parents):  # guard: git-that-is-missing
+def record_fresh(options: argparse.Namespace, out: Path, record: Callable[[Path], Record]) -> Record:
+    """The record of a clean tree; the tree and what was built in it are gone afterwards. `record`: records what stands in the place of the project. Where an
+    earlier build has left files there, as git does not ignore them, or `make clean` leaves them, the build shows that: then it is recorded again without them,
+    and that counts if it does not fail."""
+    refuse_left_over(options.words)
+    records: List[Record] = []
+    left: Set[str] = set()
+    with tempfile.TemporaryDirectory(prefix="race-record-", dir=room_of_programs([os.path.realpath(".")])) as room:
+        kept = Path(room, "record")
+        for number in range(TRIES):
+            with tempfile.TemporaryDirectory(dir=room) as place:
+                found = recorded(options, Path(place), fresh_tree(options, os.path.join(place, "tree"), {os.path.realpath(out)}, left), record)
+                if records and found.status != 0:
+                    print("race-record: the build fails without that: what was recorded before stands", file=sys.stderr, flush=True)
+                    break
+                records.append(found)
+                shutil.rmtree(kept, ignore_errors=True)
+                Path(place, "record").rename(kept)
+            more = {path for path in found.warm if found.first is not None and found.first.may_go(path)} - left
+            if not more or options.warm or found.status != 0 or number == TRIES - 1:
+                break
+            left |= more
+            print("race-record: an earlier build left %s; recording again without that" % first_names([os.path.relpath(path) for path in sorted(more)]), file=sys.stderr, flush=True)
+        shutil.copytree(kept, out, dirs_exist_ok=True)
+    return records[-1]
+
+
+def recorded(options: argparse.Namespace, place: Path, tree: FirstTree, record: Callable[[Path], Record]) -> Record:
+    """One record, which is written to a folder, of a tree whose copy is there."""
+    said = place / "said"
+
+    def work() -> None:
+        options.tree = clean(tree, options.words)
+        said.write_bytes(pickle.dumps(record(place / "record")))
+
+    in_place(tree.folder, str(place / "tree"), place / "fault", work)
+    return cast(Record, pickle.loads(said.read_bytes()))
+
+
+def refuse_left_over(words: List[str]) -> None:
+    """Says what to do where another run has not put a project back that a command works in."""
+    for folder in {str(one) for name in named_folders(words) for one in (Path(name), *Path(name).parents)}:
+        if os.path.lexists(folder + SAVED):
+            saved, own = shlex.quote(folder + SAVED), shlex.quote(folder)
+            raise CannotClean("%s is there: another --fresh runs now, or was killed before it put it back\n  it is your folder as it was: rm -rf %s && mv %s %s\n"
+                              "  %s is a copy of it. If you have worked in the copy since, keep that, and remove %s" % (saved, own, saved, own, own, saved))
+
+
+def fresh_tree(options: argparse.Namespace, copy: str, out: Set[str], left: Set[str]) -> FirstTree:
+    """Makes a copy that holds the tree. `out`: paths that are no part of it; `left`: what an earlier build left, neither."""
+    folder = os.path.realpath(".")
+    if options.archive:
+        return of_archive(options.archive, folder, copy, options.setup)
+    tree = replace(tree_of(folder), left=tuple(sorted(left)), setup=options.setup, ninja="" if options.setup else ninja_folder(options.words))
+    if tree.top and not tree.ninja:
+        files = copy_work_tree(tree.top, copy, out | left)
+        return replace(tree, new=tuple(os.path.relpath(path, tree.top) for path in files if not tree.has(path)))
+    if not tree.ninja and not shutil.which("git") and any((up / ".git").exists() for up in Path(folder, ".git").parents):  # guard: git-that-is-missing
         raise CannotClean("git is missing (Debian: apt-get install git): --fresh builds what it tracks here")
-    shutil.copytree(folder, copy, symlinks=True, copy_function=Copier().copy, ignore=without(out))
-    return replace(tree, left=left, setup=setup)
+    place, copier = ninja.place_of(tree.ninja, copy) if tree.ninja else folder, Copier()
+    shutil.copytree(place, copy, symlinks=True, copy_function=copier.copy, ignore=without(out | left))
+    return replace(tree, folder=place, linked=tuple(place + path[len(copy):] for path in copier.linked()))
 
 
 def without(out: Set[str]) -> Callable[[str, List[str]], List[str]]:
@@ -47,15 +106,38 @@ def without(out: Set[str]) -> Callable[[str, List[str]], List[str]]:
     return lambda place, names: [name for name in names if os.path.join(place, name) in out]
 
 
+class Copier:
+    """Copies files; a file with several names in the tree is one file there too."""
+
+    def __init__(self) -> None:
+        self.copies: Dict[Tuple[int, int], str] = {}
+        self.names: Dict[Tuple[int, int], int] = {}  # names that were not met yet
+
+    def copy(self, source: str, target: str) -> str:
+        """One file, for `shutil.copytree`."""
+        found = os.stat(source)
+        if not stat.S_ISREG(found.st_mode):  # guard: nothing-that-cannot-be-copied
+            raise CannotClean("%s is no file, link or folder, and cannot be copied: remove it, or clean the project and record without --fresh" % os.path.realpath(source))
+        key = found.st_dev, found.st_ino
+        self.names[key] = self.names.get(key, found.st_nlink) - 1  # guard: name-outside-of-file-that-nobody-writes
+        if key in self.copies:  # guard: two-names-of-file
+            os.link(self.copies[key], target)
+            return target
+        self.copies[key] = target
+        shutil.copy2(source, target)
+        return target
+
+    def linked(self) -> List[str]:
+        """The copies whose files have names elsewhere too."""
+        return [path for key, path in self.copies.items() if self.names[key] > 0]
+
+
 def of_archive(archive: str, folder: str, copy: str, setup: str) -> FirstTree:
     """Unpacks an archive; where it holds one folder alone, that is the tree."""
     place = Path(copy + ".archive")
     place.mkdir()
     words = ["unzip", "-q", archive, "-d", str(place)] if archive.endswith(".zip") else ["tar", "-xf", archive, "-C", str(place)]
-    try:
-        ran = subprocess.run(words, capture_output=True, text=True, errors="replace", stdin=subprocess.DEVNULL, check=False)
-    except FileNotFoundError:
-        raise CannotClean("%s is missing (Debian: apt-get install %s): --from unpacks by it" % (words[0], words[0])) from None
+    ran = run(words, words[0], "unpacks --from")
     if ran.returncode:
         raise CannotClean("%s cannot be unpacked: %s" % (archive, ran.stderr.strip()[-300:]))
     held = list(place.iterdir())
@@ -100,44 +182,45 @@ def copy_object(source: str, target: str) -> str:
     return str(shutil.copy2(source, target))
 
 
+def clean(tree: FirstTree, words: List[str]) -> FirstTree:
+    """Takes away what an earlier build made, where the tree is a copy of a folder, by ninja, or by a rule of the project; in the place of the project."""
+    if tree.ninja:
+        ninja.clean(tree.ninja, tree.folder)
+    if tree.ninja or tree.top or tree.said or os.path.basename(words[0]) not in ("make", "gmake"):
+        return tree
+    place = [word for before, word in zip(words, words[1:]) if word.startswith(FOLDERS) or before in ("-C", "-f")]
+    for goal in ["distclean", "clean"] if tree.setup else ["clean"]:
+        if run([words[0], *place, goal], "make", "cleans").returncode == 0:
+            return replace(tree, said="this folder as make %s leaves it" % goal)
+    return tree
+
+
 def lay(copy: str, top: str) -> bool:
     """Lays a tree over a folder for this process and all that it starts; whether the system let it."""
     return LIBC.unshare(OWN_MOUNTS) == 0 and mount("none", "/", BELOW | PRIVATE) and mount(copy, top, BIND)
 
 
-@contextmanager
-def moved(copy: str, top: str) -> Iterator[None]:
-    """The tree in the place of the project, which has another name meanwhile."""
-    here, saved = os.path.realpath("."), top + SAVED
-    if os.path.lexists(saved):
-        raise CannotClean(left_over(top, saved))
-    with moved_aside(top, saved, "run it as root, or record a clean checkout without --fresh"):
-        shutil.move(copy, top)
-        os.chdir(here)
-        yield
-
-
-def clean(tree: FirstTree, words: List[str]) -> FirstTree:
-    """Takes away what an earlier build made, where the tree is a copy of the folder and the project has a rule for that; in the place of the project."""
-    if tree.top or tree.said or os.path.basename(words[0]) not in ("make", "gmake"):
-        return tree
-    place = [word for before, word in zip(words, words[1:]) if word.startswith(FOLDERS) or before in ("-C", "-f")]
-    for goal in ["distclean", "clean"] if tree.setup else ["clean"]:
-        ran = subprocess.run([words[0], *place, goal], stdin=subprocess.DEVNULL, stdout=subprocess.DEVNULL, stderr=subprocess.DEVNULL, check=False)
-        if ran.returncode == 0:
-            return replace(tree, said="this folder as make %s leaves it" % goal)
-    return tree
+def in_place(top: str, copy: str, faults: Path, work: Callable[[], None]) -> None:
+    """Does some work where a tree is in the place of the project."""
+    if is_child_able(lambda: lay(top, top)):
+        return beside(work, copy, top, faults)
+    with moved(copy, top):
+        return work()
 
 
 def beside(work: Callable[[], None], copy: str, top: str, faults: Path) -> None:
     """Does some work in a process over whose project the tree is laid. Where it fails, it says why in a file, and so does this."""
+    here = os.path.realpath(".")
     with in_one_step() as heard:
         child = os.fork()
         if child == 0:
             try:
                 with heard():
                     LIBC.prctl(WITH_PARENT, signal.SIGTERM)
-                    in_this_process(work, copy, top)
+                    if not lay(copy, top):
+                        raise CannotClean("the tree cannot be laid over " + top)
+                    os.chdir(here)
+                    work()
                 os._exit(0)
             except BaseException as fault:
                 faults.write_text(reason(fault) if isinstance(fault, OSError) else str(fault) or type(fault).__name__)
@@ -154,18 +237,38 @@ def beside(work: Callable[[], None], copy: str, top: str, faults: Path) -> None:
         raise CannotClean(faults.read_text() if faults.exists() else "the recording ended with status %d, without a record" % ended)
 
 
-def in_this_process(work: Callable[[], None], copy: str, top: str) -> None:
-    """The same, for good."""
-    here = os.path.realpath(".")
-    if not lay(copy, top):
-        raise CannotClean("the tree cannot be laid over " + top)
-    os.chdir(here)
-    work()
+@contextmanager
+def moved(copy: str, top: str) -> Iterator[None]:
+    """The tree in the place of the project, which has another name meanwhile, and comes back, whatever happens. A signal that comes while it moves is heard
+    behind that."""
+    here, saved = os.path.realpath("."), top + SAVED
+    with in_one_step() as heard:
+        try:
+            os.rename(top, saved)
+        except OSError as fault:
+            raise CannotClean("--fresh puts a clean tree in the place of %s, and the folder cannot get another name meanwhile (%s): run it as root, or record a "
+                              "clean checkout without --fresh" % (top, fault.strerror)) from None
+        try:
+            with heard():
+                print("race-record: %s is kept as %s meanwhile" % (top, saved), file=sys.stderr, flush=True)
+                shutil.move(copy, top)
+                os.chdir(here)
+                yield
+        finally:
+            come_back(top, saved)
+            os.chdir(here)
 
 
-def in_place(top: str, copy: str, faults: Path, work: Callable[[], None]) -> None:
-    """Does some work where a tree is in the place of the project."""
-    if is_child_able(lambda: lay(top, top)):
-        return beside(work, copy, top, faults)
-    with moved(copy, top):
-        return work()
+def come_back(top: str, saved: str) -> None:
+    """Puts a project back. What stands in its place gets another name first, as some of it may not go."""
+    left = "%s.race-left-%d" % (top, os.getpid())
+    try:
+        if os.path.lexists(top):
+            os.rename(top, left)
+        os.rename(saved, top)
+    except OSError as fault:
+        raise OSError("%s cannot come back (%s): it is in %s" % (top, reason(fault), saved)) from fault
+    with suppress(OSError):
+        remove(Path(left))
+    if os.path.lexists(left):
+        print("race-record: %s is what is left of the copy, and could not be removed: remove it" % left, file=sys.stderr, flush=True)

@@ -16,10 +16,10 @@ def import_again(folder: Path, out: Optional[Path] = None) -> Tuple[Record, Impo
     """Imports a build again, of what was kept of it; the machine is not asked. The record is written to `out`, if there is one, without what
     `--missing` and `--footprints` add: only then the places of lines are looked for, and what else a report shows."""
     about: Dict[str, Any] = json.loads((folder / "facts.json").read_text(encoding="utf-8"))
-    with machine.answering(machine.Answers.written(folder / "before")):
-        names, kept = first_tree(about["tops"], about["linked"])
     first: Dict[str, Any] = about.get("first") or {}
-    first.update(new=tuple(first.get("new", ())), left=tuple(first.get("left", ())), tracked=frozenset(first.get("tracked", ())))
+    first.update({name: tuple(first.get(name, ())) for name in ("new", "left", "linked")}, tracked=frozenset(first.get("tracked", ())))
+    with machine.answering(machine.Answers.written(folder / "before")):
+        names, kept = first_tree(about["tops"], first["linked"])
     record = Record(*(about[name] for name in OF_BUILD))
     record.first = FirstTree(**first) if about.get("first") else None
     facts = Facts(folder, about["place"], about["real"], names, kept, folder / SAID, about["said"], about["covered"])

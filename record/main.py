@@ -21,16 +21,17 @@ from pathlib import Path
 from typing import Dict, List, Optional, Set, Tuple, cast
 
 from record import RELEASE, VERSION, machine
+from record.command import tops_of, with_jobs
 from record.entry import STOPPING, UNHEARD, Stopped, end_traced, forget_coerced
 from record.messages import printable
 from record.facts import Facts, first_tree
-from record.first_tree import FirstTree, first_names, tree_of
+from record.first_tree import FirstTree, tree_of
 from record.folder import Idle, NotWhole, Record, Taken, accept_warm, alone, aside, former, reading, rewrite, room_of_programs, what_stands
 from record.build.assumptions import UNTRIED
-from record.fresh import clean, fresh_tree, in_place
+from record.fresh import record_fresh
 from record.judge import find_race, judge, no_race
-from record.ninja.retry import JOBS, TRIES, by_hand, hints, tops_of, undo, with_jobs
-from record.ninja.cold_copy import CannotClean, cold_copy, fresh_folder, has_ninja, saved_name
+from record.ninja.clean import CannotClean
+from record.ninja.retry import JOBS, TRIES, by_hand, hints, undo
 from record.orders.builds import CannotTry, Plan, with_many
 from record.orders.graph import Graph
 from record.orders.exploring import MOST, beside, explore, new_room
@@ -205,7 +206,7 @@ def parser_of_words() -> argparse.ArgumentParser:
     parser.add_argument("words", nargs=argparse.REMAINDER, metavar="-- COMMAND ..", help="what builds the project")
     parser.set_defaults(tree=None)  # the first tree, where --fresh made it
     parser.set_defaults(gate="", held=())  # where recipes wait in a build in another order; processes that are held at their end
-    parser.set_defaults(linked=[], expected=0.0, made=0)  # files of a copy that have names outside of it, in the folder itself; seconds and builds of the former record
+    parser.set_defaults(expected=0.0, made=0)  # seconds and builds of the former record
     return parser
 
 
@@ -262,14 +263,14 @@ def attempt(options: argparse.Namespace, words: List[str], tools: Dict[str, str]
     """One recorded build, and whether it failed in a way that another may not: then it is undone, except after the last one."""
     real, folder = shutil.which("make") or "make", os.path.realpath(".")
     before, after = (machine.Answers(), machine.Answers()) if options.keep_trace else (None, None)
+    tree = options.tree or tree_of(folder)
     with machine.answering(before):
-        names, kept = first_tree(tops_of(words, options.top), options.linked)
+        names, kept = first_tree(tops_of(words, options.top), tree.linked)
     rooms = room_of_programs(names.tops)
     room = Path(tempfile.mkdtemp(prefix="race-record-", dir=rooms))
     spool, watch = Path(os.path.realpath(room)), Watch(os.path.dirname(options.gate) or rooms, options.gate)
     try:
         watch.prepare(makes_of(os.environ.get("PATH", os.defpath)))
-        tree = options.tree or tree_of(folder)
         status, seconds = run_build(prepared(options) + words, spool, names.tops, watch, options.expected)
         record, facts = Record(options.words, folder, status, round(seconds, 2), dict(tools), first=tree), Facts(spool, str(spool), real, names, kept, watch.said, str(watch.said), list(watch.covered))
         from record.importing import complete  # it was loaded while the build ran
@@ -346,51 +347,6 @@ def record_serial(options: argparse.Namespace, tools: Dict[str, str], out: Path)
     return record
 
 
-def record_fresh(options: argparse.Namespace, tools: Dict[str, str], out: Path, race: str) -> Record:
-    """The record of a clean tree; the tree and what was built in it are gone afterwards."""
-    with tempfile.TemporaryDirectory(prefix="race-record-", dir=room_of_programs([os.path.realpath(".")])) as room:
-        fresh = Path(room) / "record"
-        if has_ninja(options.words) and not (options.setup or options.archive):
-            folder = fresh_folder(options.words)
-            with cold_copy(folder, saved_name(folder, tops_of(options.words, options.top))) as options.linked:
-                record = record_all(options, tools, fresh, race)
-        else:
-            record = record_tree(options, tools, fresh, os.path.realpath(out), race)
-        shutil.copytree(fresh, out, dirs_exist_ok=True)
-        return record
-
-
-def record_tree(options: argparse.Namespace, tools: Dict[str, str], fresh: Path, kept: str, race: str) -> Record:
-    """The record of a tree that is laid over the project. Where an earlier build has left files in it, as git does not ignore them, or `make clean` leaves
-    them, the build shows that: then it is recorded again without them, and that counts if it does not fail."""
-    records: List[Record] = []
-    left: Set[str] = set()
-    for number in range(1 + TRIES):
-        with tempfile.TemporaryDirectory(dir=fresh.parent) as room:
-            said, again = Path(room) / "said", Path(room) / "record"
-            copy = os.path.join(room, "tree")
-            tree = fresh_tree(options.archive, options.setup, copy, kept, tuple(sorted(left)))
-
-            def work() -> None:
-                options.tree = clean(tree, options.words)
-                said.write_bytes(pickle.dumps(record_all(options, tools, again, race)))
-
-            in_place(tree.place, copy, Path(room) / "fault", work)
-            record = cast(Record, pickle.loads(said.read_bytes()))
-            if records and record.status != 0:
-                print("race-record: the build fails without that: what was recorded before stands", file=sys.stderr, flush=True)
-                break
-            records.append(record)
-            shutil.rmtree(fresh, ignore_errors=True)
-            again.rename(fresh)
-        more = {path for path in record.warm if record.first is not None and record.first.may_go(path)} - left
-        if not more or options.warm or record.status != 0 or number == TRIES:
-            break
-        left |= more
-        print("race-record: an earlier build left %s; recording again without that" % first_names([os.path.relpath(path) for path in sorted(more)]), file=sys.stderr, flush=True)
-    return records[-1]
-
-
 def run(options: argparse.Namespace) -> int:
     """Records, writes, asks, reports."""
     race = find_race(options.race)
@@ -414,7 +370,7 @@ def record_and_judge(options: argparse.Namespace, tools: Dict[str, str], out: Pa
     """Records in the place of an older record, and judges. Where nothing was to be done, the older one stays."""
     options.expected, options.made = former(out)
     with aside(out) as has_older:
-        record = record_fresh(options, tools, out, race) if options.fresh else record_all(options, tools, out, race)
+        record = record_fresh(options, out, lambda place: record_all(options, tools, place, race)) if options.fresh else record_all(options, tools, out, race)
         if has_older and import_module("record.importing").IDLE in record.holes:
             raise Idle(*record.holes)
     if options.strict:

@@ -3,14 +3,14 @@
 The graph of ninja is read from its manifest, so a record of commands side by side serves as well as a serial one.
 """
 
-import json
 import os
 import re
 import shlex
 from pathlib import Path
 from typing import TYPE_CHECKING, Dict, List, Set
 
-from record.ninja.log import Kept
+from record.command import with_jobs
+from record.ninja.log import OWN, Kept
 from record.trace.names import Names
 
 if TYPE_CHECKING:
@@ -21,64 +21,6 @@ if TYPE_CHECKING:
 TRIES = 3
 JOBS = 4
 HINTS = 5
-OWN = (".ninja_log", ".ninja_deps", ".ninja_lock")
-
-
-def with_jobs(words: List[str], jobs: int) -> List[str]:
-    """The words of a command that surely runs ninja, with a number of commands at once; of any other as they are."""
-    name = os.path.basename(words[0])
-    own = ["-j%d" % jobs]
-    if re.fullmatch(r"ninja(-build)?|samu", name) or name == "meson" and words[1:2] == ["compile"]:
-        split = words.index("--") if "--" in words else len(words)
-        return words[:split] + own + words[split:]
-    if name == "cmake" and words[1:2] == ["--build"] and len(words) > 2 and cached(words[2], "CMAKE_GENERATOR").startswith("Ninja"):
-        if "--" not in words:
-            return words + own
-        split = words.index("--")
-        has_own = any(re.match(r"-j|--jobs", w) for w in words[split:])
-        return words[:split] + own + words[split:] + (own if has_own else [])
-    return words
-
-
-def named_folders(words: List[str]) -> List[str]:
-    """The names of folders that a command is to work in, whether they are there or not."""
-    named = [words[at + 1] for at, word in enumerate(words[:-1]) if word in ("-C", "--build", "--directory")]
-    named += [word[2:] for word in words if word.startswith("-C") and len(word) > 2]
-    return named + [word.partition("=")[2] for word in words if word.startswith("--directory=")]
-
-
-def folders_of(words: List[str]) -> List[str]:
-    """The folders that a command names to work in."""
-    return [name for name in named_folders(words) if os.path.isdir(name)]
-
-
-def tops_of(words: List[str], others: List[str]) -> List[str]:
-    """The folders that a build works in: where it starts, those that its words name, and the sources that they belong to."""
-    found = [os.path.realpath(name) for name in [".", *others, *folders_of(words)]]
-    found += [os.path.realpath(source) for name in list(found) for source in (source_of(name),) if source]
-    return [top for top in dict.fromkeys(found) if not any(top.startswith(other.rstrip("/") + "/") for other in found)]
-
-
-def cached(folder: str, name: str) -> str:
-    """What CMake's cache in a folder says; nothing where there is none."""
-    try:
-        text = Path(folder, "CMakeCache.txt").read_text(errors="surrogateescape")
-    except OSError:
-        return ""
-    match = re.search(r"(?m)^%s:INTERNAL=(.*)$" % name, text)
-    return match.group(1) if match else ""
-
-
-def source_of(folder: str) -> str:
-    """The sources of a folder that CMake or Meson configured; nothing where neither did."""
-    source = cached(folder, "CMAKE_HOME_DIRECTORY")
-    if source:
-        return source
-    try:
-        found = json.loads(Path(folder, "meson-info", "meson-info.json").read_text())["directories"]["source"]
-        return found if isinstance(found, str) else ""
-    except (OSError, ValueError, KeyError, TypeError):
-        return ""
 
 
 def hints(ninjas: "List[Ninja]", names: Names) -> List[str]:

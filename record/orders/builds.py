@@ -25,8 +25,8 @@ from dataclasses import dataclass, field
 from pathlib import Path
 from typing import ContextManager, Optional
 
+from record.command import with_jobs
 from record.entry import forget_coerced, in_one_step
-from record.ninja.retry import with_jobs
 from record.orders.gate import Gate, Key
 from record.orders.holding import Ends
 from record.orders.processes import children_of, end

@@ -2,7 +2,7 @@
 
 from typing import List
 
-from guard import FALSE_RACE, LOST_HOLE, LOST_RACE, UNSAID, WITHHELD, Guard, guards
+from guard import FALSE_RACE, LOST_HOLE, LOST_RACE, UNSAID, WITHHELD, YES, Guard, guards
 
 GUARDS: List[Guard] = [
     *guards("configured.py",
@@ -21,7 +21,7 @@ GUARDS: List[Guard] = [
     ),
     *guards("entry.py",
         ("key-that-quits", "STOPPING = (signal.SIGINT, signal.SIGTERM, signal.SIGHUP, signal.SIGQUIT, signal.SIGALRM)", "ends.Signals.signal_of_a_batch_system"),
-        ("signals-while-folders-move", "with masked(signal.SIG_UNBLOCK, {*STOPPING}) as old:", "cold_copy.Places.signal_at_each_step"),
+        ("signals-while-folders-move", "with masked(signal.SIG_UNBLOCK, {*STOPPING}) as old:", "fresh.Places.signal_at_each_step"),
         ("end-of-child", "if False:", "callers.Places.end_of_a_child_that_the_caller_ignores"),
         ("end-of-child-as-caller", "pass", "callers.Places.end_of_a_child_that_the_caller_ignores"),
         ("what-strace-followed-and-has-left", "found = [*traced(strace.pid)]", "ends.Signals.strace_that_ended_before_the_build"),
@@ -88,6 +88,9 @@ GUARDS: List[Guard] = [
     *guards("fresh.py",
         ("what-stays-out-of-inner-repository", "shutil.copytree(source, target, symlinks=True, dirs_exist_ok=True, copy_function=copier.copy)", "first_tree.Fresh.repository_in_the_tree", "(1, ['sub/h']) != (2, [])"),
         ("git-that-is-missing", "if False:", "first_tree.Fresh.work_tree_without_git"),
+        ("nothing-that-cannot-be-copied", "if False:", "ninja.Fresh.what_cannot_be_copied"),
+        ("name-outside-of-file-that-nobody-writes", "self.names[key] = 1", "fresh.Copies.file_with_two_names", LOST_RACE),
+        ("two-names-of-file", "if False:", "fresh.Copies.file_with_two_names", YES),
     ),
     *guards("importing.py",
         ("byte-code", "for kind, example in ():", "python.Python.modules_and_byte_code", FALSE_RACE),
@@ -100,7 +103,7 @@ GUARDS: List[Guard] = [
         ("paths-that-are-too-long", "holes += replay.holes + self.owners.holes + names.mounted({*mounts_below(*names.tops)}) + names.too_long()",
          "spelling.Spellings.file_that_a_recipe_makes", LOST_HOLE),
         ("name-outside", 'holes += ["--fresh copied %s, which has a name outside of the folder too, and the build writes it" % path for path in ()]',
-         "cold_copy.Copies.name_outside_of_the_folder", LOST_HOLE),
+         "fresh.Copies.name_outside_of_the_folder", LOST_HOLE),
         ("recipes-that-nothing-asked", "pass", "small.Makefiles.unasked", UNSAID),
         ("where-library-is-in-environment", "pass", "laid.Preloaded.premise"),
         ("nothing", "pass", "record.Makefiles.nothing_to_do", LOST_HOLE),

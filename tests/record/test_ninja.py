@@ -142,11 +142,11 @@ class Fresh(unittest.TestCase):
         self.assertEqual([], (record or {"holes": ["none"]})["holes"])
 
     def test_what_cannot_be_copied(self) -> None:
-        for name, text in (("named pipe", "import os; os.mkfifo('b/deep/x')"), ("socket", "import socket; socket.socket(socket.AF_UNIX).bind('b/deep/x')")):
+        for text in ("import os; os.mkfifo('b/deep/x')", "import socket; socket.socket(socket.AF_UNIX).bind('b/deep/x')"):
             with support.Project({"b/build.ninja": RULES, "b/deep/.keep": ""}) as project:
                 project.plain(["python3", "-c", text])
                 path = os.path.realpath(project.folder) + "/b/deep/x"
-                self.says(project, "race-record: --fresh copies the folder, and %s is a %s: remove it, or clean the folder and record without --fresh\n" % (path, name), "ninja", "-C", "b")
+                self.says(project, "race-record: %s is no file, link or folder, and cannot be copied: remove it, or clean the project and record without --fresh\n" % path, "ninja", "-C", "b")
                 self.assertTrue(os.path.lexists(path))
 
     def test_outputs_outside_come_back(self) -> None:
@@ -157,10 +157,6 @@ class Fresh(unittest.TestCase):
             before = self.state(project)
             outcome = project.record(["ninja", "-C", "b", "a"], ["--fresh"])
             self.assertEqual((before, 0), (self.state(project), outcome.status), outcome.text() + outcome.stderr.decode())
-            project.sh("touch g.race-saved")
-            self.assertEqual(3, project.record(["ninja", "-C", "b", "a"], ["--fresh"]).status)
-            (project.folder / "g.race-saved").unlink()
-            self.assertEqual(before, self.state(project))
 
     def test_folder_that_holds_something(self) -> None:
         """An output that is a folder is not removed, and its statement runs all the same."""

@@ -5,12 +5,13 @@ import unittest
 from typing import Dict
 
 import support
+from record.command import named_folders, source_of, tops_of, with_jobs
 from record.fixes import remedy
 from record.judge import Race
 from record.ninja.fix import owner_of, pool_text
 from record.ninja.log import Kept, Missing, ends, new_outputs, read_missing
 from record.ninja.manifest import Manifest, read_manifest
-from record.ninja.retry import folders_of, source_of, tops_of, undo, with_jobs
+from record.ninja.retry import undo
 from record.ninja.runs import options_of
 from record.trace.lives import Life
 from record.trace.names import Names
@@ -41,8 +42,8 @@ class Words(unittest.TestCase):
         with support.Project({"b/CMakeCache.txt": cache % "Ninja", "m/CMakeCache.txt": cache % "Unix Makefiles", "m/build.ninja": ""}) as project:
             ninja, make = str(project.folder / "b"), str(project.folder / "m")
             self.assertEqual(["cmake", "--build", ninja, "-j1"], with_jobs(["cmake", "--build", ninja], 1))
-            self.assertEqual(["cmake", "--build", ninja, "-j1", "--", "-v"], with_jobs(["cmake", "--build", ninja, "--", "-v"], 1))
-            self.assertEqual(["cmake", "--build", ninja, "-j1", "--", "-j8", "-j1"], with_jobs(["cmake", "--build", ninja, "--", "-j8"], 1))
+            self.assertEqual(["cmake", "--build", ninja, "--", "-v", "-j1"], with_jobs(["cmake", "--build", ninja, "--", "-v"], 1))
+            self.assertEqual(["cmake", "--build", ninja, "--", "-j8", "-j1"], with_jobs(["cmake", "--build", ninja, "--", "-j8"], 1))
             self.assertEqual(["cmake", "--build", make], with_jobs(["cmake", "--build", make], 1))
 
     def test_folders(self) -> None:
@@ -50,7 +51,8 @@ class Words(unittest.TestCase):
                               "bad/meson-info/meson-info.json": "[1]"}) as project:
             base = os.path.realpath(project.folder)
             self.assertEqual(["/usr/share", "/usr", ""], [source_of(base + "/" + name) for name in ("b", "m", "bad")])
-            self.assertEqual([base + "/b"], folders_of(["ninja", "-C", base + "/b", "-C" + base + "/none"]))
+            words = ["x", "-C", base + "/b", "-C" + base + "/none", "--directory", "/usr", "--directory=/bin/..", "--build", "/"]
+            self.assertEqual([base + "/b", base + "/none", "/usr", "/", "/", os.path.realpath(".")], named_folders(words))
             self.assertEqual([os.path.realpath("."), base, "/usr/share"], tops_of(["ninja", "-C", base + "/b"], [base]))
 
     def test_options_of_ninja(self) -> None:

@@ -1,4 +1,4 @@
-"""`--fresh`: what stands outside of the folder, files with several names, and folders that cannot be moved or removed."""
+"""`--fresh` where ninja builds: what stands outside of the folder, files with several names, and folders that cannot be moved or removed."""
 
 import os
 import shutil
@@ -6,11 +6,13 @@ import subprocess
 import unittest
 from pathlib import Path
 from typing import Dict, Tuple
+from unittest import mock
 
 import support
 from ninja_table import RULES, sh
 
-from record.ninja import cold_copy
+from record import fresh
+from record.ninja import clean
 
 NOBODY = 65534
 BUILD = ["ninja", "-C", "b"]
@@ -56,51 +58,43 @@ class Copies(unittest.TestCase):
         self.assertEqual(0, self.recorded(sh("z", "", "cat x ../y > z"), setup).status)
 
     def test_build_that_looks_everywhere(self) -> None:
-        """It does not see the folder that is kept: neither below the project, where that is known, nor in a list."""
+        """It does not see the folder that is kept."""
         outcome = self.recorded(sh("a", "", "find .. -name '*.in' | sort; touch a"), "touch b/y.in")
         self.assertEqual(["../b/y.in", "../x.in"], [line for line in outcome.text().splitlines() if line.endswith(".in") and line.startswith("..")])
 
     def test_folder_inside_that_was_built_too(self) -> None:
-        """The line on a warm tree does not name what was just done."""
+        """What its ninja made goes too, and what that knows of headers."""
         inner = "mkdir b/c; printf 'rule sh\\n  command = $c\\nbuild i: sh\\n  c = touch i\\n' > b/c/build.ninja"
         outcome = self.recorded(sh("a", "", "ninja -C c; touch a"), inner)
-        self.assertEqual(2, outcome.status, outcome.text())
-        self.assertIn("--fresh leaves it: remove it, name an archive of the tree by --from, or configure an empty folder by --setup", " ".join(outcome.text().split()))
+        self.assertEqual(0, outcome.status, outcome.text())
+        self.assertIn(", without 1 file that an earlier build left (c/i)\n", outcome.text())
 
 
 @unittest.skipUnless(shutil.which("ninja"), "ninja is missing (Debian: apt-get install ninja-build)")
 class Places(unittest.TestCase):
     """Where the folder is meanwhile, and what stands in its place."""
 
-    def test_other_name(self) -> None:
-        with support.Project({"top/a/b/x": ""}) as project:
-            top = os.path.realpath(project.folder) + "/top"
-            names = [cold_copy.saved_name(top + below, tops) for below, tops in (("/a/b", [top]), ("/a/b", [top + "/a"]), ("/a", [top + "/a"]), ("/a", ["/"]))]
-            self.assertEqual([top + name + ".race-saved" for name in ("-a-b", "/a-b", "/a", "/a")], names)
-            self.assertTrue({*names[:2]} <= {*cold_copy.saved_names(top + "/a/b")})
-
-    def test_left_over_beside_the_project(self) -> None:
-        with support.Project({"b/build.ninja": RULES}) as project:
-            left = project.folder.parent / "project-b.race-saved"
-            left.mkdir()
-            outcome = project.record(BUILD, ["--fresh"])
-            self.assertEqual(3, outcome.status)
-            self.assertIn("project-b.race-saved is there: another --fresh runs now", outcome.stderr.decode())
-            self.assertTrue(left.is_dir())
-
     def test_folder_that_cannot_be_moved(self) -> None:
-        with self.assertRaisesRegex(cold_copy.CannotClean, r"cannot get another name meanwhile \(.*\): clean it \(ninja -C /proc/sys -t clean\) and record without --fresh"):
-            with cold_copy.moved_aside("/proc/sys", "/proc/sys.race-saved", "clean it (ninja -C /proc/sys -t clean) and record without --fresh"):
+        with self.assertRaisesRegex(clean.CannotClean, r"/proc/sys, and the folder cannot get another name meanwhile \(.*\): run it as root"):
+            with fresh.moved("/nowhere", "/proc/sys"):
                 self.fail("it was moved")
 
+    def test_outputs_beside_the_home_folder(self) -> None:
+        with support.Project({"b/build.ninja": RULES + sh("../g", "", "echo 1 > ../g"), "home/x": ""}) as project, mock.patch.dict(os.environ, HOME=str(project.folder / "home")):
+            project.sh("ninja -C b > /dev/null")
+            outcome = project.record(BUILD, ["--fresh"])
+        self.assertEqual(3, outcome.status)
+        self.assertIn("/g, and --fresh does not copy all of %s for that: clean the folder" % os.path.realpath(project.folder), outcome.stderr.decode())
+
     def test_signal_at_each_step(self) -> None:
-        """Behind each change of a name there is a signal once. All comes back."""
+        """Behind each change of a name there is a signal once. All comes back, also where nobody may mount."""
+        bare = ["setpriv", "--bounding-set=-sys_admin"] if os.geteuid() == 0 else []
         with support.Project({"b/build.ninja": RULES + sh("../gen/a", "", "echo 1 > ../gen/a")}) as project:
             project.sh("ninja -C b > /dev/null")
             before = state(project)
             words = [str(support.RECORDER), "--once", "--race", support.race_program(), "--fresh", "--", *BUILD]
-            for number in range(1, 9):
-                inject = ["strace", "-o", os.devnull, "-e", "inject=rename,renameat,renameat2:signal=TERM:when=%d" % number]
+            for number in range(1, 19):
+                inject = [*bare, "strace", "-o", os.devnull, "-e", "inject=rename,renameat,renameat2:signal=TERM:when=%d" % number]
                 ended = subprocess.run([*inject, *words], cwd=project.folder, capture_output=True, timeout=support.SECONDS, check=False)
                 self.assertEqual((before, ["project"]), (state(project), os.listdir(project.folder.parent)), (number, ended.stderr.decode()))
                 if ended.returncode != 3:
@@ -108,8 +102,8 @@ class Places(unittest.TestCase):
             self.assertEqual((0, True), (ended.returncode, number > 4), ended.stderr.decode())
 
     def test_folders_that_may_not_be_written(self) -> None:
-        """They go too; else the folder itself could not come back."""
-        with support.Project({"b/d/e/f": ""}) as project:
+        """They go too, and the project comes back."""
+        with support.Project({"b/d/e/f": "", "kept/g": ""}) as project:
             folder = project.folder / "b"
             for path in (folder / "d" / "e", folder / "d"):
                 path.chmod(0o555)
@@ -121,8 +115,8 @@ class Places(unittest.TestCase):
                 try:
                     if os.geteuid() == 0:
                         os.setuid(NOBODY)
-                    cold_copy.remove(str(folder))
+                    fresh.come_back(str(folder), str(project.folder / "kept"))
                 finally:
                     os._exit(0)
             os.waitpid(child, 0)
-            self.assertEqual([], sorted(Path(project.folder).iterdir()))
+            self.assertEqual(["b", "b/g"], sorted(str(path.relative_to(project.folder)) for path in project.folder.rglob("*")))
