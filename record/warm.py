@@ -1,7 +1,6 @@
 """Cold and warm: whether something that a build makes was there before it (first_tree.py says what an earlier build left besides)."""
 
 import os
-import re
 import sys
 from dataclasses import dataclass
 from typing import Dict, Iterable, Iterator, List, Set
@@ -21,9 +20,7 @@ from record.trace.names import Names
 from record.trace.snapshots import Change, Past
 
 CHANGES = "WCDMTX"  # kinds of events of a file or a folder
-BUILDS = re.compile(r"make|ninja", re.I)  # a recipe that may run several others  # guard: recipes-that-build
-RUNS_NOTHING = re.compile(r"[\s@+-]*(?:true|:)?\s*")  # a line of a recipe
-MAKES_FOLDER = re.compile(r"\s*[@+-]*\s*mkdir\s+(?:(?:-p|--parents)\s+)?(?:\$@|\$\(@\)|([^\s;&|<>`$*?\[]+?))/?\s*")
+NOTHING = ("", ":", "true")  # lines of a recipe
 
 
 class Cleaned:
@@ -67,7 +64,7 @@ class Target:
         """Whether its recipe is the word `true` alone, or less, as for a file that the project has."""
         shells = self.base.values.get("SHELL", {""})
         is_known = all(OF_SYSTEM.match(shell) is not None and os.path.basename(shell) in SHELLS for shell in shells)  # guard: recipes-that-do-nothing-in-shell
-        return is_known and all(RUNS_NOTHING.fullmatch(line) for line in self.base.recipes[self.name])  # guard: recipes-that-do-something
+        return is_known and all(line.strip(" \t@+-") in NOTHING for line in self.base.recipes[self.name])  # guard: recipes-that-do-something
 
     def is_beginning(self) -> bool:
         """Whether it is the makefile that make finds by itself when it begins, and no recipe runs that make, which might have made it: without it there is
@@ -99,7 +96,7 @@ def warm_names(makes: List[Make], builds: List[Build], ninjas: List[Ninja], name
 
     What a tool makes to read it itself (makefiles, manifests) is no part of the question: configuring made it. Nor is what was removed first.
     """
-    found = {path for build in builds for path in left_folders(build, builds, names) if not cleaned.is_gone(path, build.make.life)}  # guard: folders-that-are-left
+    found = {path for build in builds for path in left_folders(build, names) if not cleaned.is_gone(path, build.make.life)}  # guard: folders-that-are-left
     made = {path for ninja in ninjas for path in made_by(ninja, names)}
     for path in (path for ninja in ninjas for path in outputs_of(ninja, names) if not cleaned.is_gone(path, ninja.life)):  # guard: what-ninja-finds-removed
         kinds = ("f", "l") if path in made else ("f", "l", "d")  # a folder too: its statement did not run  # guard: folder-that-is-up-to-date
@@ -141,29 +138,11 @@ def is_beyond(path: str, names: Names) -> bool:
     return not any(is_below(path, top) for top in names.tops) and machine.isfile(path)
 
 
-def left_folders(build: Build, builds: List[Build], names: Names) -> Iterator[str]:
-    """Targets that are folders in which there were no files before the build: an earlier one may have left them. Not those whose recipe
-    makes the folder and does nothing else, where all who use the folder wait for it."""
-    if not isinstance(build, MakeBuild) or build.stage != "goals":
-        return
-    for node in build.graph.nodes.values():
+def left_folders(build: Build, names: Names) -> Iterator[str]:
+    """Targets that are folders in which there were no files before the build: an earlier one may have left them."""
+    for node in build.graph.nodes.values() if isinstance(build, MakeBuild) and build.stage == "goals" else ():
         if node.has_recipe and not node.phony and names.before.get(node.path) == "d" and not any(kind != "d" and is_below(path, node.path) for path, kind in names.before.items()):  # guard: folders-with-sources
-            lines = [MAKES_FOLDER.fullmatch(line) for line in build.graph.base.recipes.get(node.name, [])]
-            is_plain = bool(lines) and all(line and line.group(1) in (None, node.name.rstrip("/")) for line in lines)
-            if not is_plain or is_used_early(build, builds, node):  # guard: folders-that-all-wait
-                yield node.path
-
-
-def is_used_early(build: MakeBuild, builds: List[Build], node: Node) -> bool:
-    """Whether a task uses a folder, and does not wait for the rule that makes it."""
-    inside = {id(make) for task in build.tasks for work in task.works for make in work.makes}
-    for other in builds:
-        own = [at for at, task in enumerate(other.tasks) if any(make is build.make for work in task.works for make in work.makes)]
-        for at, task in enumerate(other.tasks) if other is build or id(other.make) not in inside else ():  # guard: folders-of-other-makes
-            waits = node.label in build.graph.reached_from([task.node.label]) if other is build else any(one == at or other.is_before(one, at) for one in own)
-            if not waits and any(is_below(path, node.path) for work in task.works for _, path in work.events):
-                return True
-    return False
+            yield node.path
 
 
 def is_made_link(path: str, names: Names) -> bool:
@@ -204,8 +183,8 @@ def stand_alone(warm: List[str], builds: List[Build], ninjas: List[Ninja]) -> bo
 
 
 def is_alone(graph: Graph, node: Node) -> bool:
-    """Whether a target was up to date, and its recipe is in order with all others and runs no make of its own."""
-    if node.jobs or node.must or node.phony or node.name in graph.base.double or BUILDS.search("\n".join(graph.base.recipes.get(node.name, []))):  # guard: made-again
+    """Whether a target was up to date, and its recipe is in order with all others."""
+    if node.jobs or node.must or node.phony or node.name in graph.base.double:  # guard: made-again
         return False
     below = graph.reached_from([node.label])
     others = [label for label, other in graph.nodes.items() if other.has_recipe or other.jobs]

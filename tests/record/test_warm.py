@@ -52,9 +52,6 @@ class Warm(unittest.TestCase):
     def test_target_that_is_made_again_alone(self) -> None:
         self.assertEqual(2, self.status("all: kept\nkept: new ; touch kept\nnew: s ; touch new\n"))
 
-    def test_recipe_that_builds(self) -> None:
-        self.assertEqual(2, self.status(BOTH + "kept: s ; $(MAKE) -f in.mk\n", in_mk="kept: ; touch kept\n"))
-
     def test_inner_make(self) -> None:
         self.assertEqual(2, self.status("all: ; $(MAKE) -f in.mk\n", in_mk=BOTH + KEPT))
 
@@ -73,33 +70,15 @@ class Warm(unittest.TestCase):
                 project.sh(there)
                 self.assertEqual(wanted, project.record().status, there)
 
-    def folder(self, wanted: int, makefile: str, **files: str) -> None:
-        """The status of a recording in a tree where the folder `d` is there, and holds a folder alone."""
-        with support.Project({"Makefile": makefile, **{name.replace("_", "."): text for name, text in files.items()}}) as project:
+    def test_folder_that_is_a_target(self) -> None:
+        """An earlier build may have left it, as there are no files in it."""
+        with support.Project({"Makefile": "all: a b\na: | d ; touch d/a a\nb: ; touch b\nd: ; mkdir -p d\n"}) as project:
             project.sh("mkdir -p d/e")
-            outcome = project.record()
-        self.assertEqual(wanted, outcome.status, outcome.text())
-
-    def test_folder_that_all_wait_for(self) -> None:
-        self.folder(0, "all: a b\na: | d ; touch d/a a\nb: ; touch b\nd: ; mkdir -p $@\n")
-
-    def test_folder_that_a_recipe_does_not_wait_for(self) -> None:
-        self.folder(2, "all: d a\na: ; touch d/a a\nd: ; mkdir -p d\n")
-
-    def test_folder_whose_recipe_does_more(self) -> None:
-        self.folder(2, "all: a b\na b: | d ; touch $@\nd: e ; mkdir -p d; touch x\ne: ; touch e\nb: e\n")
+            self.assertEqual(2, project.record().status)
 
     def test_folder_with_sources(self) -> None:
         with support.Project({"Makefile": "all: d a\na: ; touch d/a a\nd: ; mkdir -p d\n", "d/s": "s"}) as project:
             self.assertEqual(0, project.record().status)
-
-    def test_folder_of_an_inner_make(self) -> None:
-        made = "d/a: | d ; touch d/a\nd: ; mkdir -p d\n"
-        self.folder(0, "all: in ; touch d/z\nin: ; $(MAKE) -f in.mk\n", in_mk=made)
-        self.folder(2, "all: in z\nz: ; touch d/z\nin: ; $(MAKE) -f in.mk\n", in_mk=made)
-
-    def test_folder_for_an_inner_make(self) -> None:
-        self.folder(0, "all: in\nd: ; mkdir -p d\nin: | d ; $(MAKE) -f in.mk\n", in_mk="d/a: ; touch d/a\n")
 
     def test_race(self) -> None:
         self.assertEqual(1, self.status("all: a b\na b: kept ; echo $@ > log\n" + KEPT))
