@@ -1,4 +1,4 @@
-"""Files of locks: `flock FILE COMMAND` makes the file where it is not there, and neither reads nor writes it.
+"""Files of locks: who opens one to read it, and makes it where it is not there, as `flock FILE COMMAND` does, writes nothing into it.
 
 Where nobody in a build changes such a file, it is there behind each recipe that locks it, and holds what it held before. So who is the first to
 make it makes no difference, except to those who look whether it is there. What the commands under the lock do counts as ever.

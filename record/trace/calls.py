@@ -9,10 +9,10 @@ from typing import Callable, Dict, Iterable, Tuple
 
 from record.commands.system import SETTINGS
 from record.trace.arguments import TEXT_END, Opening, opening, spelled
-from record.trace.classes import COPIES, DOUBLES, LIMITS, NO_FILES, PAIRS, SHARING, SIGNALLED, SIGNALS, SLEEPS, WAITS, WRITES
+from record.trace.classes import COPIES, DOUBLES, LIMITS, NO_FILES, PAIRS, SHARING, SIGNALLED, SIGNALS, SLEEPS, TIMERS, WAITS, WRITES
 from record.trace.descriptors import CHANGING, OF_KERNEL, READING, requests
 from record.trace.events import (
-    ABSENT, CREATED, ENTERED, FOLDER_CHANGED, FOLDER_REMOVED, HELD, LISTED, MADE, MADE_BEFORE, READ, REFUSED, REMOVED, SEEN, TIME_SET,
+    ABSENT, CREATED, ENTERED, FOLDER_CHANGED, FOLDER_REMOVED, HELD, LISTED, LOCKED, MADE, MADE_BEFORE, READ, REFUSED, REMOVED, SEEN, TIME_SET, WRITTEN,
 )
 from record.trace.lives import Life
 from record.trace.names import Found, Inode
@@ -33,7 +33,7 @@ CHANGES = {"chmod", "chown", "lchown", "utime", "utimes", "truncate", "setxattr"
            "setxattrat", "removexattrat", "file_setattr"}  # guard: new-names
 TIMES = {"utime", "utimes", "utimensat", "futimesat", "utimensat_time64"}
 BY_NUMBER = {"fchmod", "fchown", "fchown32", "ftruncate", "ftruncate64", "fsetxattr", "fremovexattr"}  # by a descriptor alone
-NUMBERED = {*SIGNALS, *LIMITS, *WAITS, *WRITES, *NO_FILES}  # calls whose first number is no descriptor  # guard: no-descriptors
+NUMBERED = {*SIGNALS, *LIMITS, *WAITS, *WRITES, *NO_FILES, *TIMERS}  # calls whose first number is no descriptor  # guard: no-descriptors
 THERE = ("EEXIST", "EISDIR", "ENXIO", "EACCES", "ENOTEMPTY")  # errors of an open that say that something has the name
 
 # Parts of arguments, as strace shows them.
@@ -42,7 +42,6 @@ SOCKET = re.compile(r'sun_path="((?:[^"\\]|\\.)*)"')  # `{sa_family=AF_UNIX, sun
 ANY_PORT = re.compile(r"_port=htons\(0\)")  # `sin_port=htons(0)`: the kernel chooses the number
 GIVEN_TIME = re.compile(r"tv_[nu]sec=\d+\}(?: /\*[^*]*\*/)?\]|modtime=")  # `[.., {tv_sec=5, tv_nsec=0}]`: a time, and not UTIME_NOW or UTIME_OMIT
 GONE = " (deleted)"  # so strace 5.10 shows a name that is gone already
-TIMED = re.compile(r"\s(-\w*w|--(wait|timeout))")  # words of a program that waits for a lock, but not for ever: `flock -w SECONDS`
 
 
 class Calls(Started):
@@ -73,12 +72,15 @@ class Calls(Started):
             self.put_look(life, found, call.error not in ("ENOENT", "ENOTDIR"), READ)
 
     def on_flock(self, life: Life, call: Call, ok: bool) -> None:
-        """Who waits for a lock does the same whoever has it; who does not wait sees whether another has it."""
+        """Who waits for a lock does the same whoever has it; who does not wait, or not for ever, sees whether another has it."""
         if ok and "LOCK_UN" not in call.args:
             self.keep(life, HELD, "".join(folders(call.args)[:1]))
-        waits = "LOCK_NB" not in call.args and not TIMED.search(" ".join(life.argv))  # guard: for-while
+        waits = "LOCK_NB" not in call.args and not life.has_timer  # guard: for-while
         if not (ok and (waits or "LOCK_UN" in call.args)):
-            self.locks.append("%s locks %s" % (" ".join(life.argv)[:60], "".join(folders(call.args)[:1])))  # guard: said
+            path = "".join(folders(call.args)[:1])
+            self.locks.append("%s locks %s" % (" ".join(life.argv)[:60], path))  # guard: said
+            if (LOCKED, path) in life.events:
+                self.put(life, WRITTEN, path)  # guard: files-of-locks-that-others-may-have
         elif "LOCK_UN" not in call.args:
             self.wait_for_lock(life, call)
 
@@ -176,8 +178,9 @@ class Calls(Started):
             self.fresh.add(found.path)
         if "O_CREAT" in flags and (is_new or not self.names.is_inside(found.path)):  # guard: files-that-others-saw-first
             self.put(life, CREATED, found.path)  # the disk has what is outside after the build: nobody knows whether it was there before
-        if self.opens_to_lock(life, flags):
-            self.open_to_lock(life, found)
+        if "O_RDONLY" in flags and "O_TRUNC" not in flags and "O_EXCL" not in flags:  # guard: how-it-is-opened
+            self.create(life, found)
+            self.put(life, LOCKED, found.path)
             return
         if "O_WRONLY" not in flags and "O_TRUNC" not in flags and not is_creat:
             self.put(life, READ, found.path)
@@ -301,6 +304,7 @@ METHODS: Tuple[Tuple[Handler, Iterable[str]], ...] = (
     (Calls.on_wait, WAITS),
     (Calls.on_sleep, SLEEPS),
     (Calls.on_signal, SIGNALLED),
+    (Calls.on_timer, TIMERS),
     (Calls.on_ptrace, ("ptrace",)),
     (Calls.on_kill, SIGNALS),
     (Calls.on_limits, LIMITS),

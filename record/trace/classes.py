@@ -24,7 +24,7 @@ REASONS: Dict[str, str] = {
         msync brk sbrk remap_file_pages mbind get_mempolicy set_mempolicy set_mempolicy_home_node mseal map_shadow_stack process_mrelease membarrier rseq rseq_slice_yield cacheflush riscv_flush_icache""",
     # Processes, rights and limits of who calls. What names another process is traced: its number may come from a file that both read, and make is
     # the parent. The end of a process stands in the trace without its call.
-    "processes": """exit exit_group pidfd_send_signal alarm
+    "processes": """exit exit_group pidfd_send_signal
         rt_sigaction rt_sigpending rt_sigprocmask rt_sigtimedwait rt_sigtimedwait_time64 sigaction sigaltstack sigpending
         sigprocmask sgetmask ssetmask restart_syscall getpid getppid gettid getpgrp setsid getuid getuid32 geteuid
         geteuid32 getgid getgid32 getegid getegid32 getresuid getresuid32 getresgid getresgid32 getgroups getgroups32 setuid setuid32 setgid setgid32 setreuid
@@ -36,8 +36,8 @@ REASONS: Dict[str, str] = {
     # Waiting, and the time of day, which nobody can keep a recipe from asking.
     "waiting and time": """poll ppoll ppoll_time64 select _newselect pselect6 pselect6_time64 epoll_ctl epoll_wait epoll_pwait
         epoll_pwait2 epoll_ctl_old epoll_wait_old futex futex_time64 futex_waitv futex_wait futex_wake futex_requeue nanosleep clock_nanosleep
-        clock_nanosleep_time64 clock_gettime clock_gettime64 clock_getres clock_getres_time64 gettimeofday time times getitimer setitimer timer_create
-        timer_delete timer_getoverrun timer_gettime timer_gettime64 timer_settime timer_settime64""",
+        clock_nanosleep_time64 clock_gettime clock_gettime64 clock_getres clock_getres_time64 gettimeofday time times getitimer timer_create
+        timer_delete timer_getoverrun timer_gettime timer_gettime64""",
     # What the machine is, and mounts by their numbers: no file of a build.
     "the machine": """uname olduname oldolduname sysinfo syslog sysfs getcpu getrandom vhangup lookup_dcookie ustat statmount listmount
         listns riscv_hwprobe fsconfig""",
@@ -56,6 +56,7 @@ LIMITS = {"prlimit64", "getpriority", "setpriority", "ioprio_get", "ioprio_set",
           "sched_getparam", "sched_setparam", "sched_getscheduler", "sched_setscheduler", "sched_rr_get_interval", "sched_rr_get_interval_time64", "getpgid",
           "setpgid", "getsid", "kcmp", "get_robust_list", "migrate_pages", "move_pages"}
 SLEEPS = {"rt_sigsuspend", "sigsuspend", "pause"}  # until a signal comes
+TIMERS = {"alarm", "setitimer", "timer_settime", "timer_settime64"}  # after which a signal comes
 SIGNALLED = {"rt_sigreturn", "sigreturn"}  # a handler of a signal has run
 DOUBLES = {"dup", "dup2", "dup3"}
 # Calls that give a descriptor which leads to no file.

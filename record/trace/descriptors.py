@@ -1,13 +1,11 @@
 """What calls do to what is open, such as requests (`ioctl`) and locks; and the calls that nobody follows. calls.py says which calls each method takes."""
 
 import re
-from typing import List, Set
+from typing import Set
 
-from record.commands import shelltext
 from record.trace.classes import HIDING, LEFT_OUT, NO_FILES, SHARING, UNFOLLOWED, WRITES, named
-from record.trace.events import CREATED, HELD, LOCKED, OUTPUT
+from record.trace.events import HELD, OUTPUT
 from record.trace.lives import Life
-from record.trace.names import Found, Inode
 from record.trace.processes import Processes
 from record.trace.replay import DEVICES
 from record.trace.strace import Call, folders
@@ -24,9 +22,6 @@ CHANGING = set("""FS_IOC_SETFLAGS FS_IOC32_SETFLAGS FS_IOC_SETVERSION FS_IOC32_S
 NO_WAIT = re.compile(r", F_(?:OFD_)?(?:GETLK|SETLK)(?:64)?, (?!\{l_type=F_UNLCK)")  # a lock that is asked for and not waited for  # guard: not-where-they-are-given-back
 TAKES_LOCK = re.compile(r", F_(?:OFD_)?SETLKW?(?:64)?, (?!\{l_type=F_UNLCK)")
 WAITS = re.compile(r", F_(?:OFD_)?SETLKW(?:64)?, (?!\{l_type=F_UNLCK)")  # one that is waited for
-LOCK_FILE = re.compile(r", O_RDONLY\|O_CREAT(?:\|O_(?:NOCTTY|CLOEXEC|LARGEFILE))*, 0666$")  # how `flock` opens it
-FOR_A_WHILE = re.compile(r"-\w*[nw]|--[nwt]")  # options of `flock`: `-n`, `-w SECONDS`
-STATUS = re.compile(r"-\w*E|--c[a-z-]*")  # and one that has a word behind it: `-E NUMBER`
 NUMBER_FIRST = re.compile(r"\d+")
 NUMBERS = re.compile(r"[\[ ](\d+)<")  # of `pipe2([3<pipe:[7]>, 4<pipe:[7]>], 0)`
 FROM_TO = re.compile(r"(?:^|, )(\d+)<(?:[^<>\\]|\\.)*>")  # the descriptors of a copy
@@ -34,19 +29,6 @@ LEASE = re.compile(r", F_(?:SETLEASE|NOTIFY), ")
 LOOSE = re.compile(r"AF_(?:INET6?|UNIX), SOCK_(?:DGRAM|RAW)\b")  # a socket that may send without being connected
 STAND_IN = "a program read make itself, and found the recorder's copy in its place: "
 OF_KERNEL = re.compile(r"/(?:dev/(?!shm/)|proc/|sys/)")  # requests to devices change no file
-
-
-def waits(argv: List[str]) -> bool:
-    """Whether the words of `flock` say that it waits for the lock, as long as it takes. Its own options stand in front of the file."""
-    words = iter(argv[1:])
-    for word in words:
-        if not word.startswith("-"):  # guard: words-of-command
-            return True
-        if FOR_A_WHILE.match(word):
-            return False
-        if STATUS.fullmatch(word):  # guard: options-with-word
-            next(words, "")
-    return True
 
 
 def requests(args: str) -> Set[str]:
@@ -109,19 +91,6 @@ class Opened(Processes):
         if any(other != path for other in taken):  # guard: two-locks-of-one-recipe
             self.locks.append("%s locks %s, and its recipe has locked %s" % (" ".join(life.argv)[:60], path, taken[0]))
         taken.append(path)
-
-    def opens_to_lock(self, life: Life, flags: str) -> bool:
-        """Whether it is `flock` that opens the file which its words name, and waits for the lock: it makes the file where it is not there, and does nothing
-        else with it."""
-        return LOCK_FILE.match(flags) is not None and shelltext.base_name(life.argv) == "flock" and waits(life.argv) and not self.names.is_inside(life.program)  # guard: how-it-is-opened
-
-    def open_to_lock(self, life: Life, found: Found) -> None:
-        """The file of a lock."""
-        if found.inode is None and found.folder is not None:
-            found.inode = Inode("f")
-            self.names.put(found.folder, found.name, found.inode)
-            self.put(life, CREATED, found.path)
-        self.put(life, LOCKED, found.path)
 
     def note_stand_in(self, life: Life, path: str) -> None:
         """Who opens a make as a file finds the copy that lies over it: it sees another file than without the recorder."""

@@ -53,6 +53,7 @@ class Life:
     number: int = -1  # which life of this number among the makes with words
     adopted: bool = False
     has_failed: bool = False  # when it ended
+    has_timer: bool = False
     is_heir: bool = False  # it was seen before the call that started it was finished, and has its folder from who began that call
     children: List["Life"] = field(default_factory=list)
     threads: List["Life"] = field(default_factory=list)  # those that change their folder together, with this one

@@ -70,6 +70,10 @@ class Processes(Moves):
         """A process has heard a signal, such as that of the end of a child: it may have waited for that."""
         life.course.has_heard = True  # guard: looks-when-signal-came
 
+    def on_timer(self, life: Life, call: Call, ok: bool) -> None:
+        """A process has asked for a signal after some time: it waits no longer than that."""
+        life.has_timer = True
+
     def on_core(self, life: Life, call: Call, ok: bool) -> None:
         """The kernel keeps the memory of a process that a signal ends, in a file of whose name the trace says nothing."""
         self.holes.append("a process left its memory in a file that nobody saw (core dumped): " + " ".join(life.argv)[:100])

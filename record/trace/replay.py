@@ -235,12 +235,16 @@ class Replay:
         if found.missing and found.missing != found.path:  # guard: names-that-cannot-be-made
             self.put(life, ABSENT, found.missing)
 
-    def write(self, life: Life, found: Found) -> None:
-        """A file is written, by all its names; it is created where nothing was there."""
+    def create(self, life: Life, found: Found) -> None:
+        """A file is created where nothing was there."""
         if found.inode is None and found.folder is not None:
             found.inode = Inode("f")
             self.names.put(found.folder, found.name, found.inode)
             self.put(life, CREATED, found.path)
+
+    def write(self, life: Life, found: Found) -> None:
+        """A file is written, by all its names; it is created where nothing was there."""
+        self.create(life, found)
         self.put(life, WRITTEN, found.path)
         if found.inode is not None and found.inode.unknown > 0:  # guard: elsewhere
             self.hard_links.append(found.path)

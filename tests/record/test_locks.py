@@ -21,11 +21,11 @@ LOCKS: Dict[str, Small] = {
     "file_that_the_command_writes": Small("race", "all: a b\na b: ; flock lock -c 'echo $@ >> lock'; touch $@\n"),
     "file_that_the_command_writes_in_one_process": Small("race", "all: a b\na b: ; flock -F lock sh -c 'echo $@ >> lock; touch $@'\n"),
     "file_that_a_shell_opens": Small("race", "all: a b\na b: ; (flock 9; touch $@) 9> lock\n"),
-    "tool_of_that_name": Small("race", "all: a b\na b: ; ./flock lock touch $@\n", {"flock.c": ""}, setup="cp $(command -v flock) flock"),
+    "tool_of_that_name": Small("safe", "all: a b\na b: ; ./flock lock touch $@\n", {"flock.c": ""}, setup="cp $(command -v flock) flock"),
     "lock_that_nobody_waits_for": Small("race", "all: a b\na b: ; flock -n lock touch $@\n"),
     "lock_that_nobody_waits_for_with_a_status": Small("race", "all: a b\na b: ; flock -E 3 -xn lock touch $@\n"),
     "lock_that_all_wait_for_a_while": Small("race", "all: a b\na b: ; flock -w 9 lock touch $@\n"),
-    "lock_before_other_options": Small("safe", "all: a b\na b: ; flock -xE 3 lock sort -n Makefile -o $@\n"),
+    "lock_before_other_options": Small("safe", "all: a b\na b: ; flock -xE 3 lock grep -w all Makefile > $@\n"),
     # who looks whether it is there
     "file_that_another_looks_for": Small("race", BOTH + "c: ; test -f lock && echo yes > c || touch c\n"),
     "file_that_another_looks_for_behind_one": Small("safe", BOTH + "c: a ; test -f lock && echo yes > c || touch c\n"),
@@ -76,8 +76,8 @@ class Others(unittest.TestCase):
         self.assertEqual(0, outcome.status, outcome.text())
 
     def test_opened_in_another_way(self) -> None:
-        began = '1 execve("/usr/bin/flock", ["flock", "x", "true"], 0x1 /* 1 var */) = 0'
-        for flags, wanted in (("O_RDONLY|O_CREAT|O_NOCTTY, 0666", "F"), ("O_RDWR|O_NOCTTY", "W"), ("O_RDONLY|O_CREAT|O_TRUNC, 0666", "W"), ("O_RDONLY|O_CREAT|O_NOCTTY, 0600", "W")):
+        began = '1 execve("/usr/bin/some", ["some"], 0x1 /* 1 var */) = 0'
+        for flags, wanted in (("O_RDONLY|O_CREAT|O_NOCTTY, 0666", "F"), ("O_RDWR|O_NOCTTY", "W"), ("O_RDONLY|O_CREAT|O_TRUNC, 0666", "W"), ("O_RDONLY|O_CREAT|O_EXCL, 0666", "W"), ("O_WRONLY|O_CREAT, 0666", "W")):
             replay = played(began, '1 openat(AT_FDCWD<%s>, "x", %s) = 3<%s/x>' % (TOP, flags, TOP))
             self.assertIn((wanted, "x"), events_of(replay.all[0]), flags)
             self.assertEqual(wanted == "F", "F" in {kind for kind, _ in events_of(replay.all[0])}, flags)
