@@ -4,11 +4,11 @@ lacked: a file that another recipe makes, which had not run yet.
 
 from typing import Dict, List, Optional, Sequence
 
+from record.build.tasks import Job
 from record.build.work import Work
 from record.folder import Record
 from record.make.database import Base
 from record.make.owners import Make, makes_of
-from record.make.words import Job
 from record.ninja.runs import TRIED, Ninja
 from record.trace.lives import Life
 from record.trace.names import Names

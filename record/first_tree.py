@@ -173,7 +173,7 @@ def used(before: Dict[str, str], lives: "Iterable[Life]") -> Set[str]:
     looks: Dict[str, int] = {}
     changes: Dict[str, int] = {}
     for life in lives:
-        for (kind, path), place in [*life.events.items(), *(((act.kind, act.path), act.place) for act in life.acts)]:
+        for (kind, path), place in life.events.items():
             if kind == READ or kind in SEEN + BY_LIST and path not in life.changed:
                 looks[path] = min(place, looks.get(path, place))
             elif kind in CHANGES:
@@ -235,7 +235,7 @@ def listed(before: Dict[str, str], builds: "Iterable[Build]") -> Iterator[str]:
     lives = (life for build in builds for task in build.tasks for work in task.works for life in work.lives if not life.is_make)
     inside = {path: ["*"] for life in lives for kind, path in life.events if kind == LISTED}
     for make in {id(build.make): build.make for build in builds if isinstance(build.make, Make)}.values():
-        for folder in make.lists:
+        for folder in (path for kind, path in make.life.events if kind == LISTED):
             inside.setdefault(folder, []).extend(make.patterns_in(folder))  # guard: what-make-lists
     for path, kind in before.items():
         if kind in ("f", "d") and any(fnmatchcase(os.path.basename(path), pattern) for pattern in inside.get(os.path.dirname(path), ())):

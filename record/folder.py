@@ -18,7 +18,7 @@ from record.messages import reason
 from record.places import Places
 from record.build.assumptions import TEXTS, TRIED_OUT
 from record.build.text import labels_of, lines_of, relative, shown
-from record.trace.courses import Address, Child, apart
+from record.trace.lives import Address, Child, apart
 
 if TYPE_CHECKING:
     from record.build.assumptions import Assumptions

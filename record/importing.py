@@ -30,7 +30,7 @@ from record.tools.caches import settle_caches
 from record.tools.exists import credit_makes, settle_exists
 from record.tools.python import settle
 from record.trace.calls import Calls
-from record.trace.courses import known_of
+from record.trace.lives import known_of
 from record.trace.names import mounts_below
 from record.trace.sifting import SYSTEM, unseen_changes
 from record.trace.snapshots import Past
@@ -45,7 +45,7 @@ IDLE = "nothing was to be done, so nothing was seen: record a clean tree (--fres
 def replay_trace(facts: Facts, folder: str) -> Calls:
     """The trace, played in the name space."""
     spool, names = facts.spool, facts.names
-    replay = Calls(names, facts.place, machine.realpath(facts.real), folder, names.tops)
+    replay = Calls(names, facts.place, machine.realpath(facts.real), folder)
     trace = spool / ("sifted" if (spool / "sifted").exists() and not names.leads_to(SYSTEM) else "trace")  # guard: links-that-lead
     if facts.said_place:
         replay.own, replay.said, replay.covered = (facts.place, os.path.dirname(facts.said_place)), facts.said_place + "/", {*facts.covered}
@@ -101,9 +101,9 @@ class Imported:
     def settle(self) -> Owners:
         """Puts what is meant in the place of what known programs did; who did what."""
         logs = read_logs(self.facts.said, self.facts.said_place)
-        for kind, example in settle(self.lives, self.replay.tops):  # guard: byte-code
+        for kind, example in settle(self.lives, self.names.tops):  # guard: byte-code
             self.assumed.add(kind, example)
-        for words in settle_caches(self.lives, self.replay.tops):
+        for words in settle_caches(self.lives, self.names.tops):
             self.assumed.add("caches", words)
         markers = settle_exists(self.lives, logs)
         self.record.markers = sorted(markers.paths)

@@ -120,7 +120,7 @@ def did_nothing(builds: List[Build], makes: List[Make]) -> bool:
     """Whether no recipe ran, except those that call a make or a ninja and change no file: such a run is evidence of nothing. Make itself may have
     changed one, by `$(file ..)`."""
     works = [work for build in builds for task in build.tasks if task.kind == "recipe" for work in task.works]
-    acts = [act.kind for make in makes for act in make.life.acts]
+    acts = [kind for make in makes for (kind, _), place in make.life.events.items() if place > make.life.starts[0][0]]
     return all(work.makes or work.ninjas for work in works) and not any(kind in CHANGES for kind in [*acts, *(kind for work in works for kind, _ in work.events)])  # guard: make-inside
 
 

@@ -3,7 +3,7 @@
 from dataclasses import dataclass
 from typing import Dict, List, Set
 
-from record.trace.courses import Course
+from record.trace.lives import Course
 
 TEXTS = {
     "serial": "make decides goals in this order, without --shuffle, and recipes do the same on the same looks: they do not go by macros that another one sets ($(eval ..)) or that a target hands down (a: V = 1), the time, how long things take, the space that is free, when a file was read last, MAKEFLAGS, the order in which make prints, the number of processors, a terminal, standard input, descriptors of a job server, or files that were opened for them before make began",

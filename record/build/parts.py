@@ -11,9 +11,8 @@ from typing import Container, Dict, List, Optional, Set, Tuple, cast
 
 from record.build.segments import Conflict, conflicts_in, courses_of, fork_of, owner
 from record.build.work import Part, Work
-from record.trace.courses import Course, Key, Segment, lucky_waits
 from record.trace.events import CHANGES, LOOKS, MADE, OUTPUT, WRITTEN
-from record.trace.lives import Life
+from record.trace.lives import Course, Key, Life, Segment, lucky_waits
 
 WORDS = 60  # signs of a command
 WHOLE = [0]  # the pieces of a process that is not cut: itself with all below it
@@ -23,7 +22,7 @@ class Parts:
     """Divides a recipe. `written`: the files that anybody changes."""
 
     def __init__(self, work: Work, written: Container[str]) -> None:
-        self.courses = sorted(courses_of(work.lives), key=lambda course: lives_of(course)[0].born)
+        self.courses = sorted(courses_of(work.lives), key=lambda course: course.first.born)
         self.inside = {id(course) for course in self.courses}
         self.roots = {id(course) for course in self.courses if id(course.parent) not in self.inside}  # those of its lines, for which make waits
         self.conflicts: List[Conflict] = conflicts_in(work.lives)
@@ -31,7 +30,7 @@ class Parts:
         self.ends: Dict[int, List[int]] = {}  # the same, sorted
         self.left: Set[int] = set()
         for course in self.courses:
-            if not self.is_waited(course) and any(matters(life, written) for life in lives_of(course)):  # guard: processes-that-are-left
+            if not self.is_waited(course) and any(matters(life, written) for life in course.lives):  # guard: processes-that-are-left
                 self.left.add(id(course))
                 self.cut_above(course)
         for one in self.conflicts:
@@ -54,7 +53,7 @@ class Parts:
     def late(self) -> Dict[Key, Tuple[str, Set[Course]]]:
         """What processes did for which the recipe has waited by luck alone: their commands, and for whom it waits so."""
         lucky = {course: (command(course), lucky_waits(course, self.roots)) for course in self.courses if not self.is_waited(course, False) and self.is_waited(course)}
-        done = [(key, found) for course, found in lucky.items() for life in lives_of(course) for key in life.events]
+        done = [(key, found) for course, found in lucky.items() for life in course.lives for key in life.events]
         return {(WRITTEN if kind == OUTPUT else kind, path): found for (kind, path), found in done if kind in CHANGES + LOOKS + OUTPUT}  # guard: what-is-written-late
 
     # ---------------------------------------------------------------- pieces
@@ -117,7 +116,7 @@ class Parts:
             for (kind, path), place in events.items():
                 work.add(WRITTEN if kind == OUTPUT else kind, path, place)
         for last in self.pieces(course) if id(course) in self.cuts else [course.at]:
-            self.parts[self.part_of((course, last))].work.lives += lives_of(course)
+            self.parts[self.part_of((course, last))].work.lives += course.lives
 
     def connect(self, course: Course) -> None:
         """Which part comes after which."""
@@ -143,11 +142,6 @@ class Parts:
         return [self.parts[at] for at in order]
 
 
-def lives_of(course: Course) -> List[Life]:
-    """The process and its threads."""
-    return cast(List[Life], course.lives)
-
-
 def matters(life: Life, written: Container[str]) -> bool:
     """Whether others may see that a process is left: it changes something, or looks at what somebody changes."""
     return any(kind in CHANGES + MADE or path in written for kind, path in life.events)
@@ -155,7 +149,7 @@ def matters(life: Life, written: Container[str]) -> bool:
 
 def command(course: Course) -> str:
     """What a process ran, or the first one below it that ran something, or the one above it."""
-    life = lives_of(course)[0]
+    life = course.first
     below = next((one for one in life.children if one.ran), life)
     ran = [up.ran[-1] for up in ((life, below) if life.ran else (below, *life.up())) if up.ran]
     text = " ".join(" ".join([os.path.basename(ran[0][0]), *ran[0][1:]]).split()) if ran else ""

@@ -1,6 +1,6 @@
 """Which processes of one recipe run beside each other and conflict.
 
-Two segments of processes (record/trace/courses.py) that nothing orders conflict where one writes, makes or removes what the other reads, writes, looks for
+Two segments of processes (record/trace/lives.py) that nothing orders conflict where one writes, makes or removes what the other reads, writes, looks for
 or uses. It is luck where a wait for any child orders them in this build alone. What a make or ninja inside the recipe orders is judged in its own build.
 
 These do not conflict: files on which somebody took a lock, and pipes with names; a look alone at what is written; a look at a name by who has listed its folder; who makes
@@ -12,11 +12,10 @@ from dataclasses import dataclass
 from functools import lru_cache
 from typing import Dict, Iterable, Iterator, List, NamedTuple, Optional, Set, Tuple
 
-from record.trace.courses import Course, Segment, before
 from record.trace.events import (
     ABSENT, BY_LIST, CREATED, ENTERED, FOLDER_REMOVED, HELD, LOCKED, MADE, MADE_BEFORE, OUTPUT, READ, REMOVED, SEEN, WRITTEN,
 )
-from record.trace.lives import Life
+from record.trace.lives import Course, Life, Segment, before
 
 MAKE, USE, LOOKED_USE = "K", "p", "q"  # a folder was made; a name below it was used, or used by who had looked for it
 KINDS = {READ: READ, SEEN: SEEN, BY_LIST: BY_LIST, ENTERED: SEEN, ABSENT: ABSENT, WRITTEN: WRITTEN, OUTPUT: OUTPUT, CREATED: CREATED, REMOVED: REMOVED,

@@ -2,15 +2,17 @@
 
 import heapq
 from dataclasses import dataclass, field
-from typing import Any, Dict, List, Optional, Protocol, Set, Tuple
+from typing import Any, Dict, List, Optional, Set, Tuple
 
 from record.build.work import Part, Tool, Work
 
 
-class Run(Protocol):
-    """What a tool said of a recipe that ran."""
+@dataclass
+class Job:
+    """A recipe that make ran."""
 
     target: str
+    pids: List[int] = field(default_factory=list)
 
 
 @dataclass(eq=False)
@@ -22,7 +24,7 @@ class Node:
     first: int
     done: int
     prerequisites: Dict[str, None] = field(default_factory=dict)  # labels of other nodes
-    jobs: List[Run] = field(default_factory=list)
+    jobs: List[Job] = field(default_factory=list)
     must: bool = False
     has_recipe: bool = False
     phony: bool = False

@@ -4,8 +4,7 @@ from dataclasses import dataclass, field
 from typing import Dict, List, Set, Tuple
 
 from record.trace.events import CHANGES
-from record.trace.courses import Course, Key
-from record.trace.lives import Life
+from record.trace.lives import Course, Key, Life
 
 
 @dataclass

@@ -2,7 +2,7 @@
 
 from typing import Any, Dict, List, Optional, Set
 
-from record.build.tasks import Build, Node, Run
+from record.build.tasks import Build, Job, Node
 from record.make.database import Base
 from record.make.owners import Make
 from record.make.words import Round
@@ -63,7 +63,7 @@ class Graph:
             if is_known:  # guard: what-unknown-rule-needs
                 self.hold_back(parts)  # guard: what-later-rule-needs
 
-    def share_jobs(self, parts: List[Node], jobs: List[Run], first: Node) -> None:
+    def share_jobs(self, parts: List[Node], jobs: List[Job], first: Node) -> None:
         """Gives each job to a rule. Where some rules with a recipe ran nothing, the k-th job is of the k-th rule or a later one: it has waited
         for what the k-th needs. Who needs the target waits for the first job, though that is of a later rule."""
         for part, job in zip(parts, jobs):

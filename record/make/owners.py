@@ -5,17 +5,18 @@ import os
 from dataclasses import dataclass, field
 from functools import cached_property
 from itertools import takewhile
-from typing import Container, Dict, Iterable, Iterator, List, Optional, Set
+from typing import Container, Dict, Iterable, Iterator, List, Optional
 
 from record import machine
 from record.build.parts import divide
+from record.build.tasks import Job
 from record.build.work import Part, Tool, Work, written_by
 from record.commands.shelltext import shell_text
 from record.commands.system import OF_SYSTEM
 from record.commands.texts import text_of
 from record.make.asked import asked_in
-from record.make.words import Job, Words, makefiles
-from record.trace.events import ENTERED, INSIDE, LISTED, READ
+from record.make.words import Words, makefiles
+from record.trace.events import ENTERED, INSIDE, READ
 from record.trace.lives import Life
 
 ONE = "-j1"  # as MAKEFLAGS has it, whatever the words of make are
@@ -30,7 +31,6 @@ class Make(Tool):
     folder: str
     work: Dict[int, Work] = field(default_factory=dict)  # by id of the job
     by_links: bool = False  # it went by links: folders have other paths than its makefiles say
-    lists: Set[str] = field(default_factory=set)  # folders that it listed by itself
     left: List[Part] = field(default_factory=list)  # processes that its own calls leave running, as `$(shell a &)`
     above: Optional["Make"] = None  # the make whose recipe calls it
 
@@ -103,7 +103,6 @@ class Owners:
         self.written = written_by(lives)
         self.has_waits = any(life.course.waited is not None for life in lives)  # a trace that was kept before waits were traced has none: then a recipe is one task
         self.jobs: Dict[int, Job] = {}  # by id of a life that make started
-        self.births: Dict[int, int] = {}  # by id of a job: when its first process was born
         by_key = {(w.pid, w.life): w for w in words}
         for life in lives:
             if life.is_make and life.number >= 0:
@@ -146,36 +145,21 @@ class Owners:
     def match_jobs(self, make: Make) -> None:
         """Make names the processes of its jobs in the order in which it starts them. Others that it starts may have had their numbers: in a
         long build numbers come again."""
-        kids = sorted((life for life in make.life.children if life.pid in make.words.jobs), key=lambda life: life.born)
-        places = only_places([pid for pid, _ in make.words.processes], [life.pid for life in kids])
-        if places is None:
-            self.match_by_number(make, kids)
-        for place, (_, started) in zip(places or (), make.words.processes):
-            self.jobs[id(kids[place])] = started
-        for life in make.life.children:
-            job = self.jobs.get(id(life))
-            if job is not None:
-                self.births[id(job)] = min(life.born, self.births.get(id(job), life.born))
-        for one in make.words.rounds:
-            births = [self.births.get(id(job), -1) for job in one.jobs]
-            if any(b < 0 for b in births):
-                self.holes.append("a recipe that ran has no process: " + one.jobs[births.index(-1)].target)
-            elif births != sorted(births):  # guard: jobs-out-of-order
-                self.holes.append("the jobs of make are not in the order of the trace: make " + make.words.args)
+        numbers = [pid for pid, _ in make.words.processes]
+        kids = sorted((life for life in make.life.children if life.pid in numbers), key=lambda life: life.born)
+        lost = set(numbers) - {life.pid for life in kids}
+        places = only_places(numbers, [life.pid for life in kids])
+        if lost:
+            self.holes.append("a recipe that ran has no process: " + next(job.target for pid, job in make.words.processes if pid in lost))
+        elif places is None:  # guard: jobs-that-do-not-fit
+            self.holes.append("a process number came again, or the jobs of make are not in the order of the trace: make " + make.words.args)
+        for place, (_, job) in zip(places or (), make.words.processes):
+            self.jobs[id(kids[place])] = job
 
     def run_at_once(self, make: Make) -> bool:
         """Whether a make ran several recipes at once."""
         lives = sorted((life for life in make.life.children if id(life) in self.jobs), key=lambda life: life.born)
         return any(second.born < first.died for first, second in zip(lives, lives[1:]))
-
-    def match_by_number(self, make: Make, kids: List[Life]) -> None:
-        """Where they do not fit, or in more than one way: the k-th process of a number is the k-th job of that number, and the record has a hole."""
-        for pid, jobs in make.words.jobs.items():
-            lives = [life for life in kids if life.pid == pid]
-            if len(lives) != len(jobs):  # guard: more-processes-than-jobs
-                self.holes.append("a recipe that ran has no process: " + jobs[0].target if not lives else "a process number came again: %d" % pid)
-            for life, job in zip(lives, jobs):
-                self.jobs[id(life)] = job
 
     # ---------------------------------------------------------------- what jobs did
     def below(self, life: Life) -> Iterable[Life]:
@@ -203,9 +187,6 @@ class Owners:
             job = self.jobs.get(id(life))
             if job is not None:
                 self.take(make.work.setdefault(id(job), Work()), life)
-        for act in make.life.acts:
-            if act.kind == LISTED:
-                make.lists.add(act.path)
         if make.words.log and any(path == make.words.log for work in make.work.values() for _, path in work.events):  # guard: recipes-that-look-into
             self.holes.append("a recipe looks into the file that keeps what its make prints: " + make.words.log)
 

@@ -7,6 +7,7 @@ from functools import lru_cache
 from pathlib import Path
 from typing import Container, Dict, Iterable, Iterator, List, Optional, Set, Tuple
 
+from record.build.tasks import Job
 from record.make.database import Base, read_base
 from record.watch.files import OWN_WORDS, Output, Start, files_in, open_file, own_outputs, read_start
 
@@ -25,14 +26,6 @@ DEFAULTS = ("GNUmakefile", "makefile", "Makefile")  # the makefiles that make lo
 BROKEN = re.compile(r" *(?:Considering target file|Pruning file|Finished prerequisites of target file|Must remake target|Failed to remake target file|Giving up on target file) '"
                     r"(?!.*'\.$)|(?:Putting|Live|Reaping \w+|Removing) child 0x(?!.*PID \d)|# (?:Files|files hash-table stats:)$")  # the last two: of a data base that has ended
 READING = re.compile(r"^Reading makefile '(.*)'((?: \([^)]*\))*)\.\.\.$")
-
-
-@dataclass
-class Job:
-    """A recipe that make ran."""
-
-    target: str
-    pids: List[int] = field(default_factory=list)
 
 
 @dataclass
@@ -82,7 +75,6 @@ class Words:
     version: str = ""
     status: Optional[int] = None
     rounds: List[Round] = field(default_factory=list)
-    jobs: Dict[int, List[Job]] = field(default_factory=dict)  # process number: its jobs, in order
     processes: List[Tuple[int, Job]] = field(default_factory=list)  # of all jobs, in order: the number and the job
     read: List[List[str]] = field(default_factory=list)  # makefiles that each start read before it made anything
     included: List[str] = field(default_factory=list)  # makefiles that recipes include while make expands them
@@ -147,7 +139,6 @@ class _Reader:
         if owner is not None:
             if owner.pids[-1:] != [pid]:  # guard: jobs-of-one-number-in-order
                 owner.pids.append(pid)
-                self.words.jobs.setdefault(pid, []).append(owner)
                 self.words.processes.append((pid, owner))
 
     def considered(self, depth: int, name: str) -> None:

@@ -21,5 +21,5 @@ def called(makes: Sequence[Make], names: Names, lives: Sequence[Life], changed: 
     files = makefiles_of(makes, names)
     apart = {id(life) for make in makes for work in make.work.values() if not work.makes for life in work.lives}
     found = {path for life in lives if id(life) not in apart and not life.is_make for kind, path in life.events if kind == READ}  # guard: files-of-who-calls-make
-    found.update(act.path for make in makes for act in make.life.acts if act.kind == READ and act.path not in files)  # guard: files-that-make-reads
+    found.update(path for make in makes for kind, path in make.life.events if kind == READ and path not in files)  # guard: files-that-make-reads
     return {path for path in found | files & changed if os.path.isfile(path) and any(is_below(path, top) for top in names.tops)}

@@ -10,12 +10,12 @@ import time
 from pathlib import Path
 from typing import Dict, Iterable, Iterator, List, Optional, Sequence, Set, Tuple
 
-from record.build.tasks import Node
+from record.build.tasks import Job, Node
 from record.folder import Record, room_of_programs
 from record.make.database import Base
 from record.make.graph import MakeBuild
 from record.make.owners import Make, makes_of
-from record.make.words import Job, Words, read_logs
+from record.make.words import Words, read_logs
 from record.orders.builds import OWN, Built, CannotTry, Plan, Room, side_by_side
 from record.orders.exploring import new_room
 from record.orders.trees import CannotCopy, differing, held_by

@@ -33,7 +33,7 @@ from record.orders.gate import Gate, Key
 from record.orders.holding import Ends
 from record.orders.processes import children_of, end
 from record.orders.trees import copy, held_by, remove
-from record.trace.courses import Address
+from record.trace.lives import Address
 from record.trace.names import mounts_below
 from record.watch.lay import BIND, LIBC, NAMES, Watch, leave, makes_of, mount
 

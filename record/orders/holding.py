@@ -16,7 +16,7 @@ from dataclasses import dataclass, field
 from record.orders.gate import Gate
 from record.orders.processes import born, children_of, parent_of, shown
 from record.orders.reported import Call, filter_of, go_on, is_reported, report
-from record.trace.courses import Address
+from record.trace.lives import Address
 
 ENDS = {"x86_64": 231, "aarch64": 94}  # by machine: the number of exit_group
 LONG, OFTEN = 10.0, 3  # seconds that one is held at most; where so many were held so long, none is any more

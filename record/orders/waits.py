@@ -1,6 +1,6 @@
 """Tries out waits that may have been luck: the project is built again in copies, in which processes are held at their end (holding.py).
 
-The last of its children for which a process waits is known (record/trace/courses.py), so one that is held until all others have ended shows by the trace
+The last of its children for which a process waits is known (record/trace/lives.py), so one that is held until all others have ended shows by the trace
 whether it is waited for. Of children that run at once one is held in a build. A wait that is known in one of the builds is known; a race of one of them is a
 race of the project, and that record counts.
 """
@@ -18,7 +18,7 @@ from record.orders.builds import OWN, Plan, Room, side_by_side
 from record.orders.exploring import say
 from record.orders.trees import remove
 from record.report import read_json
-from record.trace.courses import Child
+from record.trace.lives import Child
 
 MOST = 4  # builds, all at once: where one process has more such children at a time the others are not tried out
 

@@ -12,7 +12,7 @@ from typing import Dict, Iterable, List, Optional, Set, Tuple
 from record.build.work import Work
 from record.make.database import Base
 from record.make.owners import Owners
-from record.make.words import Round, Words
+from record.make.words import Words
 from record.trace.events import LISTED, MADE_BEFORE, READ, REMOVED, WRITTEN
 from record.trace.lives import Life
 
@@ -44,7 +44,6 @@ def settle_exists(lives: List[Life], logs: Iterable[Words]) -> Markers:
     for life in lives if found else ():
         for key in [key for key in life.events if key[1] in found]:
             looks[id(life), key[1]] = min(life.events.pop(key), looks.get((id(life), key[1]), 1 << 60))
-        life.acts = [act for act in life.acts if act.path not in found]
     return Markers(found, looks)
 
 
@@ -55,7 +54,7 @@ def credit_makes(owners: Owners, markers: Markers) -> None:
             for name in [name for name in one.nodes if name.endswith(NAME) and name not in one.must]:
                 path = next((path for path in markers.paths if is_name(name, path)), "")
                 place, folder = markers.looks.get((id(make.life), path), -1), os.path.dirname(path)
-                if place >= 0 and all(waits(one, job.target, name) for job in one.jobs if is_used(make.work.get(id(job)), folder)):  # guard: who-waits-for-rule
+                if place >= 0 and all(name in one.below(job.target) for job in one.jobs if is_used(make.work.get(id(job)), folder)):  # guard: who-waits-for-rule
                     for work in (work for above in owners.makes for work in above.work.values() if make in work.makes):
                         work.add(MADE_BEFORE, folder, place)
 
@@ -63,17 +62,6 @@ def credit_makes(owners: Owners, markers: Markers) -> None:
 def is_used(work: Optional[Work], folder: str) -> bool:
     """Whether a recipe does something in a folder."""
     return work is not None and any(path.startswith(folder + "/") for _, path in work.events)
-
-
-def waits(one: Round, target: str, name: str) -> bool:
-    """Whether a target needs another, by way of others too."""
-    seen, todo = {target}, [target]
-    while todo:
-        node = one.nodes.get(todo.pop())
-        fresh = set(node.prerequisites) - seen if node is not None else set()
-        seen |= fresh
-        todo.extend(fresh)
-    return name in seen
 
 
 def is_marker(life: Life, path: str) -> bool:

@@ -9,8 +9,7 @@ from record.commands.system import OF_SYSTEM
 from record.trace.events import (
     ABSENT, BY_LIST, CHANGES, CREATED, ENTERED, FOLDER_REMOVED, MADE, READ, REFUSED, REMOVED, SEEN, TREE_CHANGES, WRITTEN,
 )
-from record.trace.courses import Course
-from record.trace.lives import Act, Life
+from record.trace.lives import Act, Course, Life
 from record.trace.names import Found, Inode, Names
 from record.trace.proc import NUMBER, is_hidden, plain_path
 from record.trace.strace import Begun, Call, Event, Unread
@@ -25,8 +24,8 @@ KERNEL = ("/dev/", "/proc", "/sys")  # how a name begins that is a device, or th
 class Replay:
     """Plays the events of a trace in the name space and keeps what each life did."""
 
-    def __init__(self, names: Names, spool: str, real: str, folder: str, tops: List[str]) -> None:
-        self.names, self.real, self.tops = names, real, tops
+    def __init__(self, names: Names, spool: str, real: str, folder: str) -> None:
+        self.names, self.real = names, real
         self.own: Tuple[str, ...] = (spool,)  # folders of the recorder
         self.said = ""  # the one in which each make has a file for what it says
         self.silent: Set[str] = set()  # names of the files of makes that only answer
@@ -47,8 +46,6 @@ class Replay:
         self.outside: Dict[str, None] = {}  # names that changed, and of which the disk alone says what they were before
         self.fresh: Set[str] = set()  # names that were surely absent when they were made
         self.progress: List[str] = []  # folders in which CMake counts what is built
-        self.firsts: Dict[str, List[str]] = {}  # by program: the words of its first line, where it is a script
-        self.makes_by_path: Dict[str, bool] = {}  # by program: whether it is the make that the recorder knows
         self.watchers: List[str] = []  # who lists the processes that run, or waits for changes of files
         self.changes: List[Tuple[int, str, str]] = []  # names that come and go, in order
 
@@ -150,7 +147,7 @@ class Replay:
 
     # ---------------------------------------------------------------- events
     def put(self, life: Life, kind: str, path: str) -> None:
-        """An event of a life, and an act of make where a make does it. Devices and the recorder's own files have none."""
+        """An event of a life, and an act of a make or ninja. Devices and the recorder's own files have none."""
         if path.startswith(KERNEL) and DEVICES.match(path) and not self.names.is_inside(path):  # guard: devices-are-no-files
             if is_hidden(kind, path):  # guard: numbers-hole
                 self.holes.append("a file is known by the number of its descriptor alone: %s of %s" % (path, " ".join(life.argv)[:100]))
@@ -162,7 +159,7 @@ class Replay:
             return
         if kind in TREE_CHANGES and path.rstrip("/") not in self.fresh and not self.names.is_inside(path):
             self.outside[path.rstrip("/")] = None  # guard: names-outside-of-project
-        if life.is_make and life.number >= 0 or life.is_ninja and kind in (READ, ENTERED):
+        if kind in (READ, ENTERED) and (life.is_ninja or life.is_make and life.number >= 0):
             life.acts.append(Act(self.place, kind, path))
         self.keep(life, kind, path)
         if kind in CHANGES:

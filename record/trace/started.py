@@ -2,6 +2,7 @@
 
 import os
 import re
+from functools import lru_cache
 from typing import List
 
 from record import machine
@@ -11,7 +12,7 @@ from record.trace.descriptors import Opened
 from record.trace.events import READ
 from record.trace.lives import Life
 from record.trace.loader import interpreter_words
-from record.trace.names import Found
+from record.trace.names import Found, Names
 from record.trace.strace import Call, first_text, folders, is_cut, texts
 
 CHECKS = re.compile(r"\b(?:AT_EXECVE_CHECK|0x10000(?: /\* AT_\?\?\? \*/)?)$")  # flags of execveat by which nothing is run
@@ -21,6 +22,11 @@ SCRIPTS = 5  # how many scripts may be the interpreter of one another; the kerne
 
 class Started(Opened):
     """The calls that begin a program, and what follows from that."""
+
+    def __init__(self, names: Names, spool: str, real: str, folder: str) -> None:
+        super().__init__(names, spool, real, folder)
+        self.first_words = lru_cache(None)(shelltext.first_words)  # once for each program: the build has ended
+        self.is_real_make = lru_cache(None)(lambda path: path == real or machine.realpath(path) in {real, *self.covered})
 
     def on_execve(self, life: Life, call: Call, ok: bool) -> None:
         """A process begins to run another program: it reads the program, with all that the kernel reads for it, and has other words from here on."""
@@ -78,18 +84,6 @@ class Started(Opened):
         """A program did not start. Where the kernel does not know what kind of file it is, bash reads it itself, as a script."""
         self.look(life, program, False, True)
         self.look_at_interpreters(life, program)  # guard: interpreters
-
-    def first_words(self, path: str) -> List[str]:
-        """The words of a script's first line, read once: the build has ended."""
-        if path not in self.firsts:
-            self.firsts[path] = shelltext.first_words(path)
-        return self.firsts[path]
-
-    def is_real_make(self, path: str) -> bool:
-        """Whether a program is the make that the recorder knows."""
-        if path not in self.makes_by_path:
-            self.makes_by_path[path] = path == self.real or machine.realpath(path) in {self.real, *self.covered}
-        return self.makes_by_path[path]
 
     def look_at_interpreters(self, life: Life, program: str) -> None:
         """The kernel reads the interpreter of a script by itself, and that of an interpreter which is a script; so it does with the loader of a program."""

@@ -58,7 +58,7 @@ GUARDS: List[Guard] = [
         ("calls-by-their-numbers", 'return {}.get(int(name[len("syscall_"):], 16), name) if name.startswith("syscall_0x") else name', "classes.Classes.numbers_of_new_calls"),
         ("are-traced", 'return "!?fcntl," + ",".join("?" + name for name in sorted(LEFT_OUT - {"rt_sigprocmask"}))', "classes.Recorded.a_lock_that_nobody_waits_for", UNSAID),
     ),
-    *guards("trace/courses.py",
+    *guards("trace/lives.py",
         ("looks-whether-child-has-ended", "child.waited, child.is_known = (self, self.at), is_named", "courses.Orders.a_look_whether_one_has_ended"),
         ("rows-of-waits", "pass", "courses.Orders.a_row_of_waits_that_leaves_no_child"),
         ("pipelines", "if has_none or self.first.is_make or self.first.is_ninja:", "courses.Orders.a_pipeline"),

@@ -11,7 +11,7 @@ GUARDS: List[Guard] = [
         ("names-of-rules", "pass", "warm.Warm.target_in_a_search_path"),
         ("targets-in-search-paths", 'self.made = ""', "warm.Warm.target_in_a_search_path"),
         ("recipe-that-goes-on-in-next-round", "self.stack, self.children, self.found = [], {}, {}", "words.Several.recipe_that_goes_on_in_the_next_round"),
-        ("jobs-of-one-number-in-order", "if pid not in self.words.jobs:", "owners.Holes.number_of_two_jobs"),
+        ("jobs-of-one-number-in-order", "if pid not in [known for known, _ in self.words.processes]:", "owners.Holes.number_of_two_jobs"),
         ("not-whole-hole", "elif False:", "words.Lines.a_line_that_is_not_whole_is_a_hole"),
         ("one-build-each", "elif False:", "small.Makefiles.race_among_makefiles", YES),
         ("lines-that-look-like-its-own-are-hole", "if False:", "callers.Makefiles.text_with_lines_like_those_of_the_data_base"),

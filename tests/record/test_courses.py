@@ -3,7 +3,7 @@
 import unittest
 from typing import Dict, List, Tuple
 
-from record.trace.courses import Segment, before
+from record.trace.lives import Segment, before
 from record.trace.replay import Replay
 from test_replay import TOP, lives_of, played
 

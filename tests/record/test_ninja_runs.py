@@ -102,7 +102,7 @@ class Changed(unittest.TestCase):
             folder = str(project.folder.resolve())
             names = Names()
             names.walk(folder)
-            replay = Calls(names, "/no/such/spool", "/usr/bin/make", folder, [folder])
+            replay = Calls(names, "/no/such/spool", "/usr/bin/make", folder)
             for event in read_trace(self.line(text, folder) + "\n" for text in lines):
                 replay.play(event)
             kept = Kept({folder + "/build.ninja": MANIFEST})

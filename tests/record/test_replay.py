@@ -37,7 +37,7 @@ def played(*lines: str, top: str = TOP, said: str = "") -> Calls:
     folder = names.folder(top)
     folder.walked = True
     names.tops.append(top)
-    replay = Calls(names, SPOOL, MAKE, top, [top])
+    replay = Calls(names, SPOOL, MAKE, top)
     replay.said = said
     for event in read_trace(line + "\n" for line in lines):
         replay.play(event)

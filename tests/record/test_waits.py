@@ -10,7 +10,7 @@ from record.folder import Record
 from test_courses import ANY, FORK, TWO, child
 from test_replay import lives_of, played
 
-from record.trace.courses import apart
+from record.trace.lives import apart
 
 HELD = b"in which processes are held at their end"
 LUCK = " luck ("
