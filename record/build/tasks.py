@@ -62,6 +62,8 @@ class Build:
 
     make: Tool
     stage: str
+    words: str  # of the tool
+    considered: int  # so many targets it looked at
     tasks: List[Task] = field(default_factory=list)
     bits: List[int] = field(default_factory=list)
     writers: Dict[str, Set[int]] = field(default_factory=dict)
@@ -72,16 +74,6 @@ class Build:
     def folder(self) -> str:
         """Where the process works; paths are relative to it."""
         return self.make.folder
-
-    @property
-    def words(self) -> str:
-        """Its words."""
-        raise NotImplementedError
-
-    @property
-    def considered(self) -> int:
-        """How many targets it looked at."""
-        raise NotImplementedError
 
     def about(self, at: int) -> Dict[str, Any]:
         """Where the recipe of a task stands, and its first line."""

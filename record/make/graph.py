@@ -149,16 +149,8 @@ class MakeBuild(Build):
     tool = "make"
 
     def __init__(self, make: Make, graph: Graph) -> None:
-        super().__init__(make, graph.round.stage)
+        super().__init__(make, graph.round.stage, make.words.args, len(graph.round.nodes))
         self.graph = graph
-
-    @property
-    def words(self) -> str:
-        return self.make.words.args
-
-    @property
-    def considered(self) -> int:
-        return len(self.graph.round.nodes)
 
     def about(self, at: int) -> Dict[str, Any]:
         """Where the recipe of a task stands, and its first line; of a rule with two colons also which of the target's rules it is."""

@@ -1,6 +1,7 @@
 """Who did what: each process works for a recipe of each make above it. What a make itself does, or calls as it expands a recipe, is no part of that recipe: it is
 tried out in other orders."""
 
+import errno
 import os
 from dataclasses import dataclass, field
 from functools import cached_property
@@ -13,13 +14,21 @@ from record.build.tasks import Job
 from record.build.work import Part, Tool, Work, written_by
 from record.commands.shelltext import shell_text
 from record.commands.system import OF_SYSTEM
-from record.commands.texts import text_of
 from record.make.asked import asked_in
 from record.make.words import Words, makefiles
 from record.trace.events import ENTERED, INSIDE, READ
 from record.trace.lives import Life
 
 ONE = "-j1"  # as MAKEFLAGS has it, whatever the words of make are
+OF_PROCESS = ("/dev/fd/", "/dev/std", "/proc/")  # how names begin that lead each process elsewhere
+
+
+def text_of(path: str) -> str:
+    """The text of a file that a build has read; an error where it is gone, or cannot be read again: a pipe with a name, a terminal, or what `/dev/stdin`
+    leads to says nothing when the build has ended. To open it may wait for ever, or gives what is the recorder's own."""
+    if not machine.isfile(path) or os.path.normpath(path).startswith(OF_PROCESS):  # guard: what-cannot-be-read-again
+        raise OSError(errno.EINVAL, "is no plain file", path)
+    return machine.opened(path, "replace").read()
 
 
 @dataclass(eq=False)

@@ -1,6 +1,6 @@
 """Files that a build uses by two spellings, in a file system that takes these for one name (record/trace/spelling.py)."""
 
-from typing import Dict, Iterable, Iterator, List, Set, Tuple
+from typing import Dict, Iterable, List, Set
 
 from record.make.owners import Make
 from record.trace.events import TREE_CHANGES
@@ -11,31 +11,15 @@ from record.trace.spelling import key_of
 TWO = "this file system takes %s and %s for one file, and the build uses both names: write one of them everywhere"
 
 
-def used(lives: Iterable[Life]) -> Iterator[Tuple[str, str]]:
-    """What processes did, to which path."""
-    return ((kind, path.rstrip("/")) for life in lives for kind, path in life.events)
-
-
-def made(makes: Iterable[Make], names: Names) -> Iterator[str]:
-    """The targets with a recipe that makes considered."""
-    for make in makes:
-        for one in make.words.rounds:
-            recipes = one.base.recipes if one.base else {}
-            yield from (names.find(make.folder, name, True).path for name in one.nodes if name in recipes)
-
-
 def twice(names: Names, lives: Iterable[Life], makes: Iterable[Make]) -> List[str]:
-    """The holes of a build in such a file system: files with two spellings that it changes or makes."""
+    """The holes of a build in such a file system: files with two spellings that it changes, or has a rule for."""
     if not names.folds:
         return []
+    used = [(kind, path.rstrip("/")) for life in lives for kind, path in life.events]
+    rounds = [(make.folder, one, one.base) for make in makes for one in make.words.rounds if one.base is not None]
+    targets = [names.find(folder, name, True).path for folder, one, base in rounds for name in one.nodes if name in base.recipes]
     spellings: Dict[str, Set[str]] = {}
-    for path in names.before:  # guard: what
+    for path in (*names.before, *targets, *(path for _, path in used)):  # guard: what
         spellings.setdefault(key_of(path), set()).add(path)
-    changed: Set[str] = set()
-    for kind, path in used(lives):
-        spellings.setdefault(key_of(path), set()).add(path)
-        changed |= {key_of(path)} if kind in TREE_CHANGES else set()  # guard: what-changes-alone
-    for path in made(makes, names):  # guard: targets
-        spellings.setdefault(key_of(path), set()).add(path)
-        changed.add(key_of(path))
+    changed = {key_of(path) for path in (*targets, *(path for kind, path in used if kind in TREE_CHANGES))}  # guard: what-changes-alone
     return [TWO % tuple(sorted(spellings[key])[:2]) for key in sorted(changed) if len(spellings[key]) > 1]

@@ -34,17 +34,9 @@ class NinjaBuild(Build):
     tool = "ninja"
 
     def __init__(self, ninja: Ninja, stage: Stage, name: str) -> None:
-        super().__init__(ninja, name)
+        super().__init__(ninja, name, ninja.args, len(ninja.wanted() if name == "goals" else stage.manifest.edges))
         self.ninja, self.from_manifest = ninja, stage
         self.edges: List[Edge] = []  # of each task
-
-    @property
-    def words(self) -> str:
-        return self.ninja.args
-
-    @property
-    def considered(self) -> int:
-        return len(self.ninja.wanted() if self.stage == "goals" else self.from_manifest.manifest.edges)
 
     def about(self, at: int) -> Dict[str, Any]:
         edge = self.edges[at]

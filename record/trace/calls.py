@@ -205,7 +205,6 @@ class Calls(Started):
         if where[0] == "/proc" and not life.is_make:  # guard: listed-said
             self.watchers.append(" ".join(life.argv)[:100])
         else:
-            life.listed.update(() if life.is_make else where[:1])
             self.put(life, LISTED, where[0])
 
     def on_mkdir(self, life: Life, call: Call, ok: bool) -> None:

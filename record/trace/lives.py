@@ -56,13 +56,11 @@ class Life:
     cut: bool = False
     events: Dict[Key, int] = field(default_factory=dict)
     changed: Dict[str, int] = field(default_factory=dict)  # names: where it last changed what stands there
-    listed: Set[str] = field(default_factory=set)  # folders
     acts: List[Act] = field(default_factory=list)
     starts: List[Tuple[int, str]] = field(default_factory=list)  # where make began (again), and its folder
     is_make: bool = False
     is_ninja: bool = False
     program: str = ""  # the file that runs
-    is_query: bool = False
     number: int = -1  # which life of this number among the makes with words
     adopted: bool = False
     has_failed: bool = False  # when it ended

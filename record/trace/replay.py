@@ -7,7 +7,7 @@ from typing import Dict, List, Set, Tuple
 from record.commands import shelltext
 from record.commands.system import OF_SYSTEM
 from record.trace.events import (
-    ABSENT, BY_LIST, CHANGES, CREATED, ENTERED, FOLDER_REMOVED, MADE, READ, REFUSED, REMOVED, SEEN, TREE_CHANGES, WRITTEN,
+    ABSENT, BY_LIST, CHANGES, CREATED, ENTERED, FOLDER_REMOVED, LISTED, MADE, READ, REFUSED, REMOVED, SEEN, TREE_CHANGES, WRITTEN,
 )
 from record.trace.lives import Act, Course, Life
 from record.trace.names import Found, Inode, Names
@@ -214,7 +214,7 @@ class Replay:
 
     def put_look(self, life: Life, found: Found, ok: bool, kind: str) -> None:
         """A look at what was found: an event of this kind where something is there (`ok`), else that it is absent, and the folder on the way too."""
-        if kind == SEEN and os.path.dirname(found.path) in life.listed:  # guard: looks-by-list
+        if kind == SEEN and not life.is_make and (LISTED, os.path.dirname(found.path)) in life.events:  # guard: looks-by-list
             kind = BY_LIST
         if ok and found.inode is None and found.folder is not None and found.folder.walked:
             found.inode = Inode("f")

@@ -1,23 +1,46 @@
 """What it means that a process begins to run a program: who reads its text, whether it is a make, and which files count for it."""
 
+import filecmp
 import os
 import re
+import struct
 from functools import lru_cache
+from pathlib import Path
 from typing import List
 
 from record import machine
 from record.commands import shelltext
-from record.commands.copies import is_other_make
 from record.trace.descriptors import Opened
 from record.trace.events import READ
 from record.trace.lives import Life
-from record.trace.loader import interpreter_words
 from record.trace.names import Found, Names
 from record.trace.strace import Call, first_text, folders, is_cut, texts
+from record.watch.elf import NotElf
+from record.watch.elf import Program as Elf
 
 CHECKS = re.compile(r"\b(?:AT_EXECVE_CHECK|0x10000(?: /\* AT_\?\?\? \*/)?)$")  # flags of execveat by which nothing is run
 OF_MAKE = re.compile(r"(\d+)\.(\d+)\.make$")  # the file for what a make says
 SCRIPTS = 5  # how many scripts may be the interpreter of one another; the kernel allows no more
+MAKES = ("make", "gmake", "remake")
+
+
+@machine.asked
+def loader_of(path: str) -> List[str]:
+    """The dynamic loader of a binary file, as it is spelled there."""
+    try:
+        return Elf(Path(path).read_bytes()).loader()
+    except (NotElf, OSError, struct.error):
+        return []
+
+
+@machine.asked
+def is_other_make(path: str, real: str) -> bool:
+    """Whether a program is a make beside the one that the recorder knows: a copy of it under another name, or another of its name."""
+    try:
+        is_named = os.path.basename(path) in MAKES and not shelltext.first_words(path)  # guard: scripts-are-none
+        return is_named or os.path.getsize(path) == os.path.getsize(real) and filecmp.cmp(path, real, shallow=False)  # guard: copies
+    except OSError:
+        return False
 
 
 class Started(Opened):
@@ -26,6 +49,7 @@ class Started(Opened):
     def __init__(self, names: Names, spool: str, real: str, folder: str) -> None:
         super().__init__(names, spool, real, folder)
         self.first_words = lru_cache(None)(shelltext.first_words)  # once for each program: the build has ended
+        self.loader_of, self.is_other_make = lru_cache(None)(loader_of), lru_cache(None)(is_other_make)
         self.is_real_make = lru_cache(None)(lambda path: path == real or machine.realpath(path) in {real, *self.covered})
 
     def on_execve(self, life: Life, call: Call, ok: bool) -> None:
@@ -46,7 +70,7 @@ class Started(Opened):
         self.note_rights(life, found.path)
         is_real = self.is_real_make(found.path)
         life.is_make = is_real or life.is_make and life.number >= 0
-        if is_real or is_other_make(found.path, self.real):
+        if is_real or self.is_other_make(found.path, self.real):
             self.unheard[id(life)] = " ".join(life.argv)[:200]
         self.look(life, words[0], True, True, READ)
         self.look_at_interpreters(life, words[0])  # guard: interpreters-are-read
@@ -70,8 +94,8 @@ class Started(Opened):
         if match is None or not ok or int(match[1]) != life.pid:  # guard: file-of-another-make
             return
         self.unheard.pop(id(life), None)
-        life.is_make, life.is_query = True, name in self.silent  # guard: make-whatever-its-program-is-called
-        if not life.is_query:
+        life.is_make = True  # guard: make-whatever-its-program-is-called
+        if name not in self.silent:
             life.number = int(match[2])
             life.starts.append((life.begun, life.folder))
 
@@ -89,7 +113,7 @@ class Started(Opened):
         """The kernel reads the interpreter of a script by itself, and that of an interpreter which is a script; so it does with the loader of a program."""
         for _ in range(SCRIPTS):
             path = self.names.find(life.folder, program, True).path
-            words = interpreter_words(path) if self.names.is_inside(path) else self.first_words(path)  # guard: loaders-are-read
+            words = self.first_words(path) or (self.loader_of(path) if self.names.is_inside(path) else [])  # guard: loaders-are-read
             if not words:
                 return
             program = words[0]

@@ -1,10 +1,11 @@
 """Programs in ELF, as far as a make needs that: whether it shows its names to a library, and a copy that loads one more library."""
 
+import os
 import struct
 from dataclasses import dataclass
 from typing import Dict, List, Sequence, Tuple
 
-LOAD, DYNAMIC, NOTE, PROPERTY = 1, 2, 4, 0x6474E553  # kinds of segments
+LOAD, DYNAMIC, LOADER, NOTE, PROPERTY = 1, 2, 3, 4, 0x6474E553  # kinds of segments
 END, NEEDED, STRINGS, SIZE = 0, 1, 5, 10  # tags of the dynamic section
 READ_WRITE = 6
 PAGE = 1 << 16  # a size that each kind of machine takes
@@ -79,6 +80,10 @@ class Program:
         except (KeyError, StopIteration):
             raise NotElf("its names cannot be found") from None
         return self.data[at:at + size]
+
+    def loader(self) -> List[str]:
+        """The program that the kernel starts in its place, as it is spelled there."""
+        return [os.fsdecode(self.data[one.offset:one.offset + one.size].rstrip(b"\0")) for one in self.segments if one.kind == LOADER][:1]
 
     def shows(self, names: Sequence[str]) -> bool:
         """Whether it shows all these names; one may stand at the end of a longer one."""

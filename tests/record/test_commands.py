@@ -4,7 +4,7 @@ import os
 import tempfile
 import unittest
 
-from record.commands.texts import is_plain, text_of
+from record.make.owners import text_of
 from test_small import Small, makefiles
 
 # Two recipes that make a folder, and the first may show whether it was there.
@@ -28,5 +28,4 @@ class Texts(unittest.TestCase):
         with tempfile.TemporaryDirectory() as room:
             os.mkfifo(room + "/pipe")
             for path in (room + "/pipe", room, room + "/no", "/dev/stdin", "/dev/fd/0", "/proc/self/status", "/x/../dev/stdin"):
-                self.assertFalse(is_plain(path), path)
-            self.assertRaises(OSError, text_of, room + "/no")
+                self.assertRaises(OSError, text_of, path)
