@@ -97,8 +97,6 @@ class Names:
     def __init__(self) -> None:
         self.root = Inode("d")
         self.wheres: Dict[str, Where] = {}  # by spelling; they hold until a folder or a link comes or goes
-        self.spots: Dict[Tuple[str, str], Tuple[Where, str, str]] = {}  # by folder and path: the last name, where it is, and its real path
-        self.ends: Dict[str, Found] = {}  # by spelling, where it ends in a link: what was there; they hold as long
         self.before: Dict[str, str] = {}
         self.tops: List[str] = []
         self.above = {"/tmp", "/var/tmp"}  # folders that are there before the build: those of the system, and those above the tops  # guard: those-of-system
@@ -232,8 +230,6 @@ class Names:
         """A node gets or loses a name: where it is a folder or a link, spellings lead elsewhere."""
         if changed is not None and changed.kind != "f":
             self.wheres.clear()
-            self.spots.clear()
-            self.ends.clear()
 
     def ask(self, folder: Inode, name: str, path: str) -> Optional[Inode]:
         """What the disk has under a name, now in the model."""
@@ -248,25 +244,19 @@ class Names:
 
     def find(self, base: str, path: str, follow: bool) -> Found:
         """Follows a path from a folder; `follow`: the last name too, where it is a link."""
-        spot = self.spots.get((base, path))
-        if spot is None:
-            whole = path if path.startswith("/") else join(base, path)
-            spelled, _, name = whole.rpartition("/")
-            if name in ("", ".", ".."):
-                return self.walk_along(whole, follow or path.endswith("/"))
-            where = self.wheres.get(spelled) or self.where(spelled)
-            spot = (where, name, join(where.path, name))
-            if spelled in self.wheres:
-                self.spots[base, path] = spot
-        where, name, here = spot
-        node = where.node
+        whole = path if path.startswith("/") else join(base, path)
+        spelled, _, name = whole.rpartition("/")
+        if name in ("", ".", ".."):
+            return self.walk_along(whole, follow or path.endswith("/"))
+        where = self.wheres.get(spelled) or self.where(spelled)
+        node, here = where.node, join(where.path, name)
         if node is None:
             return Found(here, None, None, "", where.links, where.missing)
         child = node.entries.get(name)
         if child is None and not node.walked:
             child = self.ask_once(where, node, name, here)
         if child is not None and follow and child.kind == "l":
-            return self.end(path if path.startswith("/") else join(base, path))
+            return self.walk_along(whole, True)
         return Found(here, child, node, name, where.links, "" if child else here)
 
     def where(self, spelled: str) -> Where:
@@ -277,17 +267,6 @@ class Names:
         if node is not None or self.walk_along(where.missing, False).inode is None:
             self.wheres[spelled] = where
         return where
-
-    def end(self, whole: str) -> Found:
-        """Where a path leads that ends in a link. The way is kept where something is there."""
-        known = self.ends.get(whole)
-        child = known.folder.entries.get(known.name) if known is not None and known.folder is not None else None
-        if known is None or child is None:
-            known = self.walk_along(whole, True)
-            child = known.inode
-        if child is not None and known.folder is not None:
-            self.ends[whole] = known
-        return Found(known.path, child, known.folder, known.name, known.links, known.missing)
 
     def ask_once(self, where: Where, folder: Inode, name: str, path: str) -> Optional[Inode]:
         """What the disk has under a name of a folder that was not walked; it is asked once for a name that is absent."""
