@@ -259,8 +259,8 @@ def judge_record(out: Path, race: str) -> Tuple[int, List[Judged]]:
     return int(any(j.verdict.races for j in judged) or bool(whatever(orders))), judged
 
 
-def attempt(options: argparse.Namespace, words: List[str], tools: Dict[str, str], out: Path, is_last: bool = False) -> Tuple[Record, bool]:
-    """One recorded build, and whether it failed in a way that another may not: then it is undone, except after the last one."""
+def attempt(options: argparse.Namespace, words: List[str], tools: Dict[str, str], out: Path, may_undo: bool = False) -> Tuple[Record, bool]:
+    """One recorded build, and whether it failed in a way that another may not, and was undone."""
     real, folder = shutil.which("make") or "make", os.path.realpath(".")
     before, after = (machine.Answers(), machine.Answers()) if options.keep_trace else (None, None)
     tree = options.tree or tree_of(folder)
@@ -281,10 +281,9 @@ def attempt(options: argparse.Namespace, words: List[str], tools: Dict[str, str]
         if status != 1 or not any(stage.jobs for ninja in found.ninjas for stage in ninja.stages):
             return record, False
         record.hints += hints(found.ninjas, names)
-        changed = undo(names, found.lives, kept) if words != options.words and not is_last else []
-        if changed:
-            record.notes.append("the build that failed changed %s, so it is not recorded again" % changed[0])
-        return record, words != options.words and not changed
+        changed = undo(names, found.lives, kept) if may_undo else []
+        record.notes += ["the build that failed changed %s, so it is not recorded again" % path for path in changed]
+        return record, may_undo and not changed
     finally:
         shutil.rmtree(room, ignore_errors=True)
         watch.remove()
@@ -297,7 +296,7 @@ def record_in_order(options: argparse.Namespace, tools: Dict[str, str], first: O
     own = argparse.Namespace(**{**vars(options), "tree": first, "expected": 0.0, "held": plan.ends})
     if not plan.ends:
         own.gate, own.missing, own.footprints, own.keep_trace = str(place / "gate"), False, False, False
-    record = attempt(own, words, tools, place / "record", True)[0]
+    record = attempt(own, words, tools, place / "record")[0]
     (place / "kept").write_bytes(pickle.dumps(record))
     return record.status
 
@@ -335,12 +334,13 @@ def prepared(options: argparse.Namespace) -> List[str]:
 
 def record_serial(options: argparse.Namespace, tools: Dict[str, str], out: Path) -> Record:
     """The record: of the serial build, or, where ninja failed in it, of one with several commands at once."""
-    record, is_again = attempt(options, with_jobs(options.words, 1), tools, out)
+    serial = with_jobs(options.words, 1)
+    record, is_again = attempt(options, serial, tools, out, serial != options.words)
     found, number = record.hints, 0
-    while is_again and number < TRIES:  # guard: at-most-three-recordings
+    while is_again:
         number += 1
         print("race-record: the serial build failed; recording again with -j%d (%d of %d)" % (JOBS, number, TRIES), file=sys.stderr, flush=True)
-        record, is_again = attempt(options, with_jobs(options.words, JOBS), tools, out, number == TRIES)  # guard: last-build-stays
+        record, is_again = attempt(options, with_jobs(options.words, JOBS), tools, out, number < TRIES)  # guard: last-build-stays
         record.notes.append(SERIAL_FAILED + "; this is build %d with -j%d" % (number, JOBS))
     record.hints = found or record.hints or ([by_hand(options.words)] if record.status != 0 else [])  # guard: hint-where-no-better-one-is-known
     rewrite(out, record)

@@ -6,6 +6,8 @@ The graph of ninja is read from its manifest, so a record of commands side by si
 import os
 import re
 import shlex
+from contextlib import suppress
+from functools import lru_cache, partial
 from pathlib import Path
 from typing import TYPE_CHECKING, Dict, List, Set
 
@@ -15,7 +17,7 @@ from record.trace.names import Names
 
 if TYPE_CHECKING:
     from record.trace.lives import Life
-    from record.ninja.manifest import Edge, Manifest
+    from record.ninja.manifest import Manifest
     from record.ninja.runs import Ninja
 
 TRIES = 3
@@ -26,19 +28,19 @@ HINTS = 5
 def hints(ninjas: "List[Ninja]", names: Names) -> List[str]:
     """Who looks for what another statement makes, and does not wait for it: the files that were absent first."""
     found: Dict[str, int] = {}
-    for ninja in ninjas:
-        for stage in ninja.stages:
-            below: Dict[int, Set[int]] = {}
-            made = {names.find(ninja.folder, path, True).path: edge for edge in stage.manifest.edges if not edge.is_phony for path in edge.makes()}
-            for job in stage.jobs:
-                if job.edge is None:
-                    continue
-                for kind, path in job.work.events:
-                    maker = made.get(path)
-                    if maker is not None and kind in "RSN" and is_loose(stage.manifest, maker, job.edge, below):
-                        text = "%s looks for %s, which %s makes, and does not wait for it" % (job.edge.label, os.path.relpath(path, ninja.folder), maker.label)
-                        found[text] = min(found.get(text, 2), 0 if kind == "N" else 1)  # guard: absent-files-first
+    for folder, stage in ((ninja.folder, stage) for ninja in ninjas for stage in ninja.stages):
+        below = lru_cache(maxsize=None)(partial(below_statement, stage.manifest))
+        made = {names.find(folder, path, True).path: edge for edge in stage.manifest.edges if not edge.is_phony for path in edge.makes()}
+        for kind, path, edge in ((kind, path, job.edge) for job in stage.jobs if job.edge is not None for kind, path in job.work.events if kind in "RSN" and path in made):
+            if edge.number not in below(made[path].number) and made[path].number not in below(edge.number):  # guard: none-where-it-waits
+                text = "%s looks for %s, which %s makes, and does not wait for it" % (edge.label, os.path.relpath(path, folder), made[path].label)
+                found[text] = min(found.get(text, 2), 0 if kind == "N" else 1)  # guard: absent-files-first
     return sorted(found, key=lambda text: (found[text], text))[:HINTS]
+
+
+def below_statement(manifest: "Manifest", number: int) -> Set[int]:
+    """The numbers of a statement, and of all that it needs."""
+    return manifest.below([manifest.edges[number]])
 
 
 def by_hand(words: List[str]) -> str:
@@ -47,34 +49,15 @@ def by_hand(words: List[str]) -> str:
     return "if `%s` fails without race-record too, repair that first; if not, report it" % shlex.join([*words, "-j1"] if is_make else with_jobs(words, 1))
 
 
-def is_loose(manifest: "Manifest", first: "Edge", second: "Edge", below: Dict[int, Set[int]]) -> bool:
-    """Whether nothing orders two statements; `below` keeps what was worked out."""
-    for edge in (first, second):
-        if edge.number not in below:
-            below[edge.number] = manifest.below([edge])
-    return first is not second and first.number not in below[second.number] and second.number not in below[first.number]  # guard: none-where-it-waits
-
-
 def undo(names: Names, lives: "List[Life]", kept: Kept) -> List[str]:
-    """Takes away what a build has made, so that the tree is as it was; the names that cannot be set right again."""
-    made: Set[str] = set()
-    lost: Set[str] = set()
-    for life in lives:
-        for kind, path in life.events:
-            path = path.rstrip("/")
-            if not any(path.startswith(top.rstrip("/") + "/") for top in names.tops):
-                continue
-            if kind in "CWMT" and path not in names.before:
-                made.add(path)
-            elif kind in "WDX" and path in names.before and os.path.basename(path) not in OWN:  # guard: words-where-nothing-was-undone
-                lost.add(path)
-    if lost:
-        return sorted(lost)
-    for path in sorted(made, key=lambda name: -name.count("/")):
-        if os.path.islink(path) or os.path.isfile(path):
-            os.unlink(path)
-        elif os.path.isdir(path) and not os.listdir(path):
-            os.rmdir(path)
+    """Takes away what a build has made, so that the tree is as it was; or names a file that cannot be set right again."""
+    events = {(kind, path.rstrip("/")) for life in lives for kind, path in life.events if names.is_inside(path)}
+    for kind, path in events:
+        if kind in "WDX" and path in names.before and os.path.basename(path) not in OWN:  # guard: words-where-nothing-was-undone
+            return [path]
+    for path in sorted({path for kind, path in events if kind in "CWMT"} - names.before.keys(), key=len, reverse=True):
+        with suppress(OSError):  # it is gone, or holds what others made
+            os.rmdir(path) if os.path.isdir(path) and not os.path.islink(path) else os.unlink(path)
     for path, text in kept.texts.items():
         if os.path.basename(path) in OWN:
             Path(path).write_bytes(text.encode("utf-8", "surrogateescape"))

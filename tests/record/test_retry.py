@@ -51,8 +51,8 @@ class Words(unittest.TestCase):
                               "bad/meson-info/meson-info.json": "[1]"}) as project:
             base = os.path.realpath(project.folder)
             self.assertEqual(["/usr/share", "/usr", ""], [source_of(base + "/" + name) for name in ("b", "m", "bad")])
-            words = ["x", "-C", base + "/b", "-C" + base + "/none", "--directory", "/usr", "--directory=/bin/..", "--build", "/"]
-            self.assertEqual([base + "/b", base + "/none", "/usr", "/", "/", os.path.realpath(".")], named_folders(words))
+            words = ["x", "-C", base + "/b", "-C" + base + "/none", "--directory", "/usr", "--directory=" + base, "--build", "/"]
+            self.assertEqual([base + "/b", base + "/none", "/usr", base, "/", os.path.realpath(".")], named_folders(words))
             self.assertEqual([os.path.realpath("."), base, "/usr/share"], tops_of(["ninja", "-C", base + "/b"], [base]))
 
     def test_options_of_ninja(self) -> None:
