@@ -9,11 +9,11 @@ import json
 import shutil
 from dataclasses import asdict, dataclass
 from pathlib import Path
-from typing import Sequence
+from typing import Dict, Sequence
 
 from record import machine
 from record.folder import Record
-from record.ninja.log import Kept
+from record.ninja.log import kept_texts
 from record.trace.names import Names
 from record.watch.files import keep_files
 
@@ -30,7 +30,7 @@ class Facts:
     place: str  # its name while the build ran
     real: str  # the make
     names: Names  # the tree before the build
-    kept: Kept  # what of ninja was there before
+    kept: Dict[str, str]  # what of ninja was there before
     said: Path = Path("/nowhere")  # the folder of what makes said
     said_place: str = ""  # its name while the build ran
     covered: Sequence[str] = ()  # the makes over which copies with the library lay
@@ -47,11 +47,11 @@ class Facts:
         (folder / "facts.json").write_text(json.dumps(about, indent=1) + "\n", encoding="utf-8")
 
 
-def first_tree(tops: Sequence[str], linked: Sequence[str]) -> "tuple[Names, Kept]":
+def first_tree(tops: Sequence[str], linked: Sequence[str]) -> "tuple[Names, Dict[str, str]]":
     """The tree below some folders, and what of ninja is in it. `linked`: copies of files that have names elsewhere too."""
     names = Names()
     for top in tops:
         names.walk(top)
     for path in linked:
         names.share(path)
-    return names, Kept.of(names)
+    return names, kept_texts(names)

@@ -169,10 +169,8 @@ class Imported:
         """What ninja itself finds."""
         record = self.record
         record.tools["ninja"] = ninja_versions(self.ninjas)
-        record.missingdeps, beyond = beside(self.ninjas, self.builds, self.names)
-        for one in beyond if not record.warm and record.status == 0 else []:  # guard: what-missingdeps-finds
-            record.holes.append("ninja -t missingdeps finds that %s reads %s, and the record has no such race" % (one.user, one.path))
-        record.notes += ["ninja -t missingdeps, of earlier builds: %s reads %s, and waits for nobody who makes it" % (m.user, m.path) for m in beyond if record.warm]  # guard: earlier-build
+        record.missingdeps, beyond = beside(self.ninjas, self.builds, self.names) if not record.warm and record.status == 0 else (0, [])  # guard: what-missingdeps-finds
+        record.holes += ["ninja -t missingdeps finds that %s reads %s, and the record has no such race" % one for one in beyond]
 
 
 def imported(record: Record, facts: Facts, warm: bool, out: str = "") -> Imported:

@@ -1,10 +1,12 @@
-"""The reader of build.ninja: build statements with what they ask for, what they make, and their commands, as ninja has them.
+"""The reader of build.ninja: build statements with what they ask for, what they make, and their commands, as ninja has them. And of dyndep files, which say
+while ninja runs what a statement needs and makes besides.
 
 Values of rules are worked out when they are asked for, all others where they stand: so does ninja.
 """
 
 import os
 import re
+from collections import ChainMap
 from dataclasses import dataclass, field
 from functools import cached_property
 from typing import Callable, Dict, Iterator, List, Optional, Set, Tuple
@@ -55,21 +57,16 @@ def quoted(path: str) -> str:
     return path if PLAIN.match(path) else "'" + path.replace("'", "'\\''") + "'"
 
 
-@dataclass(eq=False)
 class Scope:
-    """Variables and rules of one file, or of one build statement."""
+    """Variables and rules of one file, or of one build statement, and of those around it."""
 
-    parent: Optional["Scope"] = None
-    values: Dict[str, str] = field(default_factory=dict)
-    rules: Dict[str, Dict[str, str]] = field(default_factory=dict)
+    def __init__(self, parent: "Optional[Scope]" = None) -> None:
+        self.values: ChainMap[str, str] = parent.values.new_child() if parent is not None else ChainMap()
+        self.rules: ChainMap[str, Dict[str, str]] = parent.rules.new_child() if parent is not None else ChainMap({"phony": {}})
 
     def value(self, name: str) -> str:
         """What a variable holds; nothing where nobody sets it."""
-        return self.values[name] if name in self.values else self.parent.value(name) if self.parent is not None else ""
-
-    def rule(self, name: str) -> Optional[Dict[str, str]]:
-        """The bindings of a rule, not yet worked out."""
-        return self.rules[name] if name in self.rules else self.parent.rule(name) if self.parent is not None else None
+        return self.values.get(name, "")
 
 
 @dataclass(eq=False)
@@ -108,7 +105,7 @@ class Edge:
         if name in ("in", "in_newline", "out"):
             paths = self.outputs if name == "out" else self.inputs
             return ("\n" if name == "in_newline" else " ").join(quoted(p) if escape else p for p in paths)
-        if name in self.scope.values:
+        if name in self.scope.values.maps[0]:
             return self.scope.values[name]
         if name in self.bindings:
             if name in busy:
@@ -181,7 +178,7 @@ class Manifest:
     defaults: List[str] = field(default_factory=list)
     files: List[str] = field(default_factory=list)
     makers: Dict[str, Edge] = field(default_factory=dict)  # output: statement
-    top: Scope = field(default_factory=lambda: Scope(rules={"phony": {}}))
+    top: Scope = field(default_factory=Scope)
 
     def add_output(self, edge: Edge, path: str) -> bool:
         """Notes who makes a path; whether nobody did before."""
@@ -299,7 +296,7 @@ class Reader:
         for key, value in block:
             own.values[key] = evaluate(value, scope.value)
         rule, parts = split_build(text)
-        bindings = scope.rule(rule)
+        bindings = scope.rules.get(rule)
         if bindings is None:
             raise Unreadable("unknown rule " + rule)
         edge = Edge(len(manifest.edges), rule, own, bindings, file, number)
@@ -338,3 +335,22 @@ def read_manifest(folder: str, name: str, text_of: Callable[[str], str]) -> Mani
     except OSError as fault:
         raise Unreadable("%s: %s" % (fault.filename or name, fault.strerror)) from None
     return manifest
+
+
+def read_dyndep(text: str) -> List[Found]:
+    """The statements of a dyndep file."""
+    top = Scope()
+    found: List[Found] = []
+    for _, line in logical_lines(text):
+        if line.startswith("build "):
+            _, parts = split_build(line[len("build "):])
+            words = [(section, canonical(evaluate(word, top.value))) for section, word in parts]
+            first = [w for s, w in words if s == "outputs"]
+            found.append(Found(first[0], [w for s, w in words if s == "implicit_outputs"], [w for s, w in words if s == "implicit"]))
+        elif line.startswith(" ") and found:
+            key, value = Reader.let(line)
+            found[-1].restat = found[-1].restat or key == "restat" and bool(value)
+        elif LET.fullmatch(line):
+            key, value = Reader.let(line)
+            top.values[key] = evaluate(value, top.value)
+    return found

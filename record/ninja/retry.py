@@ -12,7 +12,7 @@ from pathlib import Path
 from typing import TYPE_CHECKING, Dict, List, Set
 
 from record.command import with_jobs
-from record.ninja.log import OWN, Kept
+from record.ninja.log import OWN
 from record.trace.names import Names
 
 if TYPE_CHECKING:
@@ -49,7 +49,7 @@ def by_hand(words: List[str]) -> str:
     return "if `%s` fails without race-record too, repair that first; if not, report it" % shlex.join([*words, "-j1"] if is_make else with_jobs(words, 1))
 
 
-def undo(names: Names, lives: "List[Life]", kept: Kept) -> List[str]:
+def undo(names: Names, lives: "List[Life]", kept: Dict[str, str]) -> List[str]:
     """Takes away what a build has made, so that the tree is as it was; or names a file that cannot be set right again."""
     events = {(kind, path.rstrip("/")) for life in lives for kind, path in life.events if names.is_inside(path)}
     for kind, path in events:
@@ -58,7 +58,7 @@ def undo(names: Names, lives: "List[Life]", kept: Kept) -> List[str]:
     for path in sorted({path for kind, path in events if kind in "CWMT"} - names.before.keys(), key=len, reverse=True):
         with suppress(OSError):  # it is gone, or holds what others made
             os.rmdir(path) if os.path.isdir(path) and not os.path.islink(path) else os.unlink(path)
-    for path, text in kept.texts.items():
+    for path, text in kept.items():
         if os.path.basename(path) in OWN:
             Path(path).write_bytes(text.encode("utf-8", "surrogateescape"))
     return []

@@ -11,9 +11,8 @@ from record import machine
 from record.build.work import Tool, Work
 from record.commands import shelltext
 from record.make.owners import Owners
-from record.ninja.dyndep import read_dyndep
-from record.ninja.log import Kept, ends, new_outputs, text_of
-from record.ninja.manifest import Edge, Manifest, Unreadable, canonical, read_manifest
+from record.ninja.log import new_outputs, text_of
+from record.ninja.manifest import Edge, Manifest, Unreadable, canonical, read_dyndep, read_manifest
 from record.trace.lives import Life
 from record.trace.names import Names
 
@@ -110,7 +109,7 @@ def is_tried(ninja: Ninja) -> bool:
 class Runs:
     """Finds the ninjas of a trace, reads their manifests, and gives each process to a statement."""
 
-    def __init__(self, lives: List[Life], owners: Owners, names: Names, kept: Kept, has_ended: bool) -> None:
+    def __init__(self, lives: List[Life], owners: Owners, names: Names, kept: Dict[str, str], has_ended: bool) -> None:
         self.lives, self.owners, self.names, self.kept = lives, owners, names, kept
         self.has_ended = has_ended  # well: else the log says nothing of what failed
         self.holes: List[str] = []
@@ -199,8 +198,8 @@ class Runs:
             first, last = self.changes(path)
             if last < place:  # guard: manifest-that-changed-since
                 return text_of(path)
-            if path in self.kept.texts and first > place:  # guard: manifest-that-changed-before
-                return self.kept.texts[path]
+            if path in self.kept and first > place:  # guard: manifest-that-changed-before
+                return self.kept[path]
             raise Unreadable("nobody kept %s as it was when ninja read it" % path)
 
         return text
@@ -251,7 +250,7 @@ class Runs:
             if life.is_ninja and "-t" in life.argv and LOG_TOOLS & set(life.argv):
                 return None
         try:
-            return new_outputs(self.kept.texts.get(log, ""), text_of(log))
+            return new_outputs(self.kept.get(log, ""), text_of(log))
         except OSError:
             if self.has_ended:
                 self.holes.append("ninja left no log: " + log)  # guard: no-log
@@ -282,10 +281,8 @@ class Runs:
 
     def break_tie(self, text: str, jobs: List[Job], edges: List[Edge], logged: Optional[List[str]]) -> None:
         """Statements with one command: the log names them in the order in which they ended."""
-        place = ends(logged or [])
-        found = sorted((e for e in edges if place.get(e.label, (0, 0))[1] == 1), key=lambda e: place[e.label])
-        if len(jobs) == len(edges) == 1:
-            found = edges
+        log = logged or []
+        found = sorted((edge for edge in edges if log.count(edge.label) == 1), key=lambda edge: log.index(edge.label))
         if len(found) != len(jobs):  # guard: log-must-say
             self.holes.append("several build statements have one command, and the log of ninja does not say which ran: " + text[:200])
             return

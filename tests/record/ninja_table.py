@@ -115,7 +115,6 @@ CASES = [
     Case("warm-made-again", RACE, sh("g", "s", "cp s g") + sh("a", "s", USE), ["WARM", "RACE  g"], setup="touch -d 2001-01-01 s; ninja -j1 > /dev/null; sleep 0.1; touch s", files={"s": "1"}),
     Case("warm-by-log-of-headers", RACE, CC + sh("b/g.h", "s", "cp s $out") + "build a.o: cc a.c\n", ["WARM", "RACE  b/g.h"],
          setup="touch -d 2001-01-01 s a.c; ninja -j1 b/g.h a.o > /dev/null; sleep 0.1; touch s", files={"a.c": "#include \"g.h\"\nint a;\n", "s": ""}),
-    Case("warm-beside-missingdeps", NONE, CC + sh("b/g.h", "", "echo > $out") + "build a.o: cc a.c\n", ["WARM", "of earlier builds: a.o reads b/g.h"], setup="ninja -j1 > /dev/null; rm a.o", files={"a.c": "#include \"g.h\"\nint a;\n"}, is_new=True),
     Case("through-what-is-clean", SAFE, sh("x", "s", "cat s > x") + sh("y", "|| x", "touch y") + sh("z", "s || y", "cat x > z"), ["WARM"],
          setup="touch -d 2001-01-01 s; ninja -j1 > /dev/null; sleep 0.1; touch s", files={"s": ""}, options=["--warm"]),
     Case("part", SAFE, GEN + sh("a", "", USE) + sh("b", "g", "cat g > b"), ["recipes that nothing asked for are not judged", "(1, such as a)"], words="ninja b"),

@@ -9,8 +9,7 @@ from pathlib import Path
 from typing import Dict, List, Set
 
 import support
-from record.ninja.dyndep import read_dyndep
-from record.ninja.manifest import Edge, Manifest, Unreadable, read_manifest
+from record.ninja.manifest import Edge, Manifest, Unreadable, read_dyndep, read_manifest
 
 RULES = "rule cc\n  command = cc $flags -c $in -o $out\n  depfile = $out.d\nrule cp\n  command = cp $in $out\n"
 MANIFESTS: Dict[str, Dict[str, str]] = {

@@ -7,7 +7,6 @@ import support
 from record.build.assumptions import Assumptions
 from record.make.owners import Owners
 from record.ninja.build import NinjaBuilder
-from record.ninja.log import Kept
 from record.ninja.runs import Runs
 from record.trace.calls import Calls
 from record.trace.lives import Act, Life
@@ -35,7 +34,7 @@ class Holes(unittest.TestCase):
                 life.events[("W", "%s/f%d" % (folder, number))] = born + 1
                 ninja.children.append(life)
             self.lives, self.names = [ninja, *ninja.children], names
-            return Runs(self.lives, Owners([], []), names, Kept(), True)
+            return Runs(self.lives, Owners([], []), names, {}, True)
 
     def holes(self, runs: Runs, made: str = "") -> List[str]:
         """The holes of the build of the only stage; `made` is a folder that ninja made."""
@@ -105,7 +104,7 @@ class Changed(unittest.TestCase):
             replay = Calls(names, "/no/such/spool", "/usr/bin/make", folder)
             for event in read_trace(self.line(text, folder) + "\n" for text in lines):
                 replay.play(event)
-            kept = Kept({folder + "/build.ninja": MANIFEST})
+            kept = {folder + "/build.ninja": MANIFEST}
             return [hole.replace(folder + "/", "") for hole in Runs(replay.all, Owners(replay.all, []), names, kept, False).holes]
 
     @staticmethod

@@ -7,7 +7,6 @@ from typing import List, Set, Tuple
 import support  # noqa: F401
 from record.facts import Facts
 from record.importing import replay_trace
-from record.ninja.log import Kept
 from record.trace.calls import Calls
 from record.trace.lives import Life
 from record.trace.names import Names
@@ -289,5 +288,5 @@ class Traces(unittest.TestCase):
                 names = Names()
                 names.walk(top)
                 sift(project.folder / "trace", [top], project.folder / "sifted")
-                replay = replay_trace(Facts(project.folder, str(project.folder), "/bin/make", names, Kept()), top)
+                replay = replay_trace(Facts(project.folder, str(project.folder), "/bin/make", names, {}), top)
                 self.assertEqual(wanted, any(("N", "/usr/race-test") in life.events for life in replay.all), target)

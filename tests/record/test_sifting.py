@@ -10,7 +10,6 @@ from typing import List
 import support  # noqa: F401
 from record.facts import Facts
 from record.importing import replay_trace
-from record.ninja.log import Kept
 from record.trace.names import Inode, Names
 from record.trace.sifting import PIECE, Skip, pieces, sift, skipping
 from record.trace.strace import read_trace
@@ -118,7 +117,7 @@ class Skips(unittest.TestCase):
             names.put(names.folder("/w"), "link", Inode("l", "/usr/lib"))
             (Path(room) / "trace").write_text("\n".join(lines) + "\n")
             sift(Path(room) / "trace", ["/w"], Path(room) / "sifted")
-            self.assertEqual(["who looks at /usr/lib/x is not known, and it changed"], replay_trace(Facts(Path(room), room, "/usr/bin/make", names, Kept()), "/w").holes)
+            self.assertEqual(["who looks at /usr/lib/x is not known, and it changed"], replay_trace(Facts(Path(room), room, "/usr/bin/make", names, {}), "/w").holes)
 
     def test_trace_that_is_still_written(self) -> None:
         with tempfile.TemporaryDirectory() as room, open(Path(room) / "trace", "w") as file:
