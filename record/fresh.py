@@ -147,11 +147,11 @@ def of_archive(archive: str, folder: str, copy: str, setup: str) -> FirstTree:
 
 
 def copy_work_tree(top: str, copy: str, out: Set[str]) -> List[str]:
-    """Copies what git tracks, and new files that are not ignored, except what is to stay out; their paths. Its own folder too, with the objects as further names of the same files."""
+    """Copies what git tracks, new files that are not ignored, and git's own folder, except what is to stay out; their paths."""
     os.mkdir(copy)
     names = git(top, "ls-files", "-z", "--recurse-submodules") + git(top, "ls-files", "-z", "--others", "--exclude-standard")
     files, copier = [], Copier()
-    for name in dict.fromkeys(filter(None, names.split("\0"))):
+    for name in dict.fromkeys([".git", *filter(None, names.split("\0"))]):
         source, target = os.path.join(top, name), os.path.join(copy, name)
         if not out.isdisjoint([source.rstrip("/"), *map(str, Path(source).parents)]) or not os.path.lexists(source):
             continue
@@ -163,23 +163,9 @@ def copy_work_tree(top: str, copy: str, out: Set[str]) -> List[str]:
         else:
             copier.copy(source, target)
         files.append(source)
-    own = os.path.join(top, ".git")
-    if os.path.isdir(own):
-        shutil.copytree(own, os.path.join(copy, ".git"), symlinks=True, copy_function=copy_object, ignore=without(out))
-    elif os.path.exists(own):
-        shutil.copy2(own, os.path.join(copy, ".git"))
     for place, _, _ in os.walk(copy, topdown=False):
         shutil.copystat(os.path.join(top, os.path.relpath(place, copy)), place)
     return files
-
-
-def copy_object(source: str, target: str) -> str:
-    """Copies a file of git's; an object, which git never changes, gets one more name where that is possible."""
-    if "/.git/objects/" in source:
-        with suppress(OSError):
-            os.link(source, target)
-            return target
-    return str(shutil.copy2(source, target))
 
 
 def clean(tree: FirstTree, words: List[str]) -> FirstTree:
