@@ -7,8 +7,7 @@ as `./configure && make` does, all of it is there and up to date when make begin
 
 import os
 import re
-from dataclasses import dataclass, field
-from typing import Dict, Iterator, List, Optional, Set, Tuple
+from typing import Iterator, Set, Tuple
 
 from record import machine
 from record.make.owners import Owners
@@ -22,64 +21,52 @@ SOURCES = re.compile(r"^srcdir='([^'\n]*)'$", re.M)
 STAMP = re.compile(r"stamp-h\d*")  # what automake lets config.status leave beside a header
 
 
-@dataclass
-class Status:
-    """One `config.status`."""
-
-    path: str
-    made: Set[str] = field(default_factory=set)  # what it makes, their stamps, and what all of these and it itself are made of
-    stamps: Set[str] = field(default_factory=set)
-
-
 def find_configured(owners: Owners, names: Names) -> Set[str]:
-    """What configuring made, as a recorded build shows it. Stamps that were absent when make began are of a recipe of make alone. A target whose recipe ran
+    """What configuring made, as a recorded build shows it: nobody changes any of it, or the command makes the `config.status` itself, and nobody changes any of
+    it once the first make begins that reads a makefile of it. Stamps that were absent when make began are of a recipe of make alone. A target whose recipe ran
     counts where the first make of it began before configure ran: one that makes a template is judged as any other."""
     written, makes = owners.written, sorted(owners.makes, key=lambda make: -make.life.born)
     read = [(make.life.born, {names.find(make.folder, name, True).path for name in makefiles(make.words)}) for make in makes]
     there = {path for path, kind in names.before.items() if kind == "f"} | written.keys()
-    made: Set[str] = set()
-    for status in filter(None, (status_of(path) for path in sorted(there) if os.path.basename(path) == STATUS)):
-        readers = [born for born, paths in read if not paths.isdisjoint(status.made)]  # guard: makefile-that-is-read
-        fresh = {path for path in (status.stamps & written.keys()) - names.before.keys() if written[path][0] > min(readers, default=0)}  # guard: stamps-of-command
-        status.made -= fresh  # guard: stamps-that-recipes-make
-        made |= status.made if is_configured(status, written, readers) else set()
+    found: Set[str] = set()
+    for status in sorted(path for path in there if os.path.basename(path) == STATUS):
+        made, stamps = made_by(status)
+        readers = [born for born, paths in read if not paths.isdisjoint(made)]  # guard: makefile-that-is-read
+        fresh = {path for path in (stamps & written.keys()) - names.before.keys() if written[path][0] > min(readers, default=0)}  # guard: stamps-of-command
+        made -= fresh  # guard: stamps-that-recipes-make
+        places = [written[path][1] for path in made if path in written]
+        found |= made if readers and (not places or status in written and max(places) < min(readers)) else set()  # guard: what-build-changes
     ran = {names.find(make.folder, job.target, True).path: make.life.born for make in makes for one in make.words.rounds for job in one.jobs}
-    return {path for path in made if path not in written or ran.get(path, written[path][1]) >= written[path][1]}  # guard: what-it-made
+    return {path for path in found if path not in written or ran.get(path, written[path][1]) >= written[path][1]}  # guard: what-it-made
 
 
-def is_configured(status: Status, written: Dict[str, Tuple[int, int]], readers: List[int]) -> bool:
-    """Whether what a `config.status` says is there when the first make begins that reads a makefile of it: nobody changes any of it, or the command makes
-    the `config.status` itself, and nobody changes any of it later."""
-    places = [written[path][1] for path in status.made if path in written]
-    return bool(readers) and (not places or status.path in written and max(places) < min(readers))  # guard: what-build-changes
-
-
-def status_of(path: str) -> Optional[Status]:
-    """What a `config.status` says of itself; nothing where its text is not of autoconf."""
+def made_by(status: str) -> Tuple[Set[str], Set[str]]:
+    """What a `config.status` says that it makes, with the stamps of that, and what all of these and it itself are made of; and the stamps. Nothing where its
+    text is not of autoconf."""
     try:
-        text = machine.opened(path).read()
+        text = machine.opened(status).read()
     except OSError:
-        return None
+        return set(), set()
     found = SOURCES.search(text)
     if text.split("\n", 2)[1:2] != [WRITTEN] or not found:  # guard: texts-of-autoconf
-        return None
-    folder = os.path.dirname(path)
+        return set(), set()
+    folder = os.path.dirname(status)
     sources = os.path.join(folder, found.group(1))
-    status = Status(path, {path, *(machine.realpath(os.path.join(sources, name)) for name in ("configure", "aclocal.m4"))})
+    all_stamps: Set[str] = set()
+    made = {status, *(machine.realpath(os.path.join(sources, name)) for name in ("configure", "aclocal.m4"))}
     for kind, words in LISTS.findall(text):
         for name, *templates in (word.split(":") for word in words.split()):
-            made = machine.realpath(os.path.join(folder, name))
+            path = machine.realpath(os.path.join(folder, name))
             if kind != "commands" or name == "libtool":  # others are names of commands, and need not be files  # guard: names-of-commands
-                status.made.add(made)  # guard: names-that-it-says
+                made.add(path)  # guard: names-that-it-says
             if kind in ("files", "headers"):
-                status.made.update(machine.realpath(os.path.join(sources, one)) for one in templates or [name + ".in"])
+                made.update(machine.realpath(os.path.join(sources, one)) for one in templates or [name + ".in"])
             if kind == "headers":
-                status.stamps.update(stamps(os.path.dirname(made)))
-    status.made |= status.stamps
-    return status
+                all_stamps.update(stamps_in(os.path.dirname(path)))
+    return made | all_stamps, all_stamps
 
 
-def stamps(folder: str) -> Iterator[str]:
+def stamps_in(folder: str) -> Iterator[str]:
     """The stamps of headers in a folder."""
     try:
         yield from (os.path.join(folder, name) for name in machine.listdir(folder) if STAMP.fullmatch(name))

@@ -130,12 +130,12 @@ def made_unseen(makes: List[Make], ninjas: List[Ninja], names: Names, now: Dict[
     found = {target.path for target in targets_of(makes, names) if target.is_idle}
     for ninja in ninjas:
         found |= outputs_of(ninja, names) - made_by(ninja, names)
-    return sorted(path for path in found if path not in now and machine.isfile(path) and any(is_below(path, top) for top in names.tops))  # guard: target-that-something-else-makes
+    return sorted(path for path in found if path not in now and machine.isfile(path) and names.is_inside(path))  # guard: target-that-something-else-makes
 
 
 def is_beyond(path: str, names: Names) -> bool:
     """Whether a file is there outside of the project: the tree before the build does not say so."""
-    return not any(is_below(path, top) for top in names.tops) and machine.isfile(path)
+    return not names.is_inside(path) and machine.isfile(path)
 
 
 def left_folders(build: Build, names: Names) -> Iterator[str]:
