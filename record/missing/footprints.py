@@ -59,7 +59,7 @@ class Footprints:
 
     def is_inside(self, path: str) -> bool:
         """Whether a name is in the project, and not in the record."""
-        return any(is_below(path, top) for top in self.names.tops) and not is_below(path, self.out)
+        return self.names.is_inside(path) and not is_below(path, self.out)
 
     def take(self, at: int, kind: str, path: str) -> None:
         """One event."""

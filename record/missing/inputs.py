@@ -9,7 +9,7 @@ import re
 import subprocess
 from dataclasses import dataclass, field, replace
 from pathlib import Path
-from typing import Any, Dict, Iterator, List, Set, Tuple
+from typing import Any, Dict, Iterator, List, Sequence, Set, Tuple
 
 from record.build.assumptions import Assumptions
 from record.build.tasks import Build
@@ -19,9 +19,10 @@ from record.folder import Record
 from record.judge import ended, unshown
 from record.make.graph import MakeBuild
 from record.make.owners import Make
-from record.missing.called import called, makefiles_of
+from record.make.words import makefiles
 from record.missing.later import ANOTHER, another, look_ahead
 from record.missing.old_tree import KEPT, OldTree
+from record.trace.events import READ
 from record.trace.lives import Life
 from record.trace.names import Names
 
@@ -78,6 +79,21 @@ def made_elsewhere(rounds: List[MakeBuild], names: Names, changed: Set[str]) -> 
     return {node.path for build in rounds for node in build.graph.nodes.values() if node.has_recipe and not node.jobs and not node.phony
             and node.path in changed and node.path not in names.before
             and (build.folder, node.name, *build.graph.base.recipes.get(node.name, ())) not in ran}
+
+
+def makefiles_of(makes: Sequence[Make], names: Names) -> Set[str]:
+    """All makefiles that some makes read."""
+    return {names.find(make.folder, name, True).path for make in makes for name in makefiles(make.words)}
+
+
+def called(makes: Sequence[Make], names: Names, lives: Sequence[Life], changed: Set[str]) -> Set[str]:
+    """What decides on macros before recipes run, as far as it is there: what processes read that work for no recipe, or for one that calls a make itself, or that
+    make itself calls; and makefiles that the build makes."""
+    files = makefiles_of(makes, names)
+    apart = {id(life) for make in makes for work in make.work.values() if not work.makes for life in work.lives}
+    found = {path for life in lives if id(life) not in apart and not life.is_make for kind, path in life.events if kind == READ}  # guard: files-of-who-calls-make
+    found.update(path for make in makes for kind, path in make.life.events if kind == READ and path not in files)  # guard: files-that-make-reads
+    return {path for path in found | files & changed if os.path.isfile(path) and names.is_inside(path)}
 
 
 def write_old_tree(folder: Path, tree: OldTree) -> int:

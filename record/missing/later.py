@@ -10,7 +10,7 @@ import time
 from pathlib import Path
 from typing import Dict, Iterable, Iterator, List, Optional, Sequence, Set, Tuple
 
-from record.build.tasks import Job, Node
+from record.build.tasks import Job
 from record.folder import Record, room_of_programs
 from record.make.database import Base
 from record.make.graph import MakeBuild
@@ -167,34 +167,24 @@ def look_ahead(record: Record, makes: Sequence[Make], names: Names, changed: Set
 
 # ---------------------------------------------------------------- what make finds otherwise, with no edit at all
 def another(build: MakeBuild, later: Knows, names: Names) -> Iterator[str]:
-    """Why a later build is another one."""
-    for node in build.graph.nodes.values():
-        if node.rule == 0 and node.name in later.nodes:
-            yield from other_recipe(node, build.graph.base, later.base)
-            yield from other_prerequisites(node, build, later, names)
-
-
-def other_recipe(node: Node, first: Base, later: Base) -> Iterator[str]:
-    """Where the recipe of a target has another text, or that of another implicit rule was found."""
-    name = node.name
-    is_moved = name in first.implicit and first.places.get(name) != later.places.get(name)  # guard: another-rule
-    if node.jobs and (is_moved or first.recipes.get(name, []) != later.recipes.get(name, [])):  # guard: another-recipe
-        yield "the recipe of %s is another one" % name
-
-
-def other_prerequisites(node: Node, build: MakeBuild, later: Knows, names: Names) -> Iterator[str]:
-    """Where make finds another file for a target, or that needs more or less, and it makes a difference."""
-    name, base, vpath = node.name, build.graph.base, build.graph.round.vpath
-    then, now = (needs(name, one) for one in (base, later.base))
-    if vpath.get(name) != later.vpath.get(name):  # guard: another-file
-        yield "make finds %s for %s" % (later.vpath.get(name, name), name)
-    gone = [one for one in then if one not in now and base.recipes.get(one)]
-    for one in gone[:1]:  # guard: what-is-needed-no-more
-        yield "%s does not need %s any more" % (name, one)
-    met = {*then, *build.graph.round.nodes}
-    new = {one: names.find(build.folder, one, False).path for one in now if one not in met and later.base.recipes.get(one)}
-    for one in [one for one, path in new.items() if path in names.before or not os.path.lexists(path)][:1]:  # else another make has made it  # guard: what-is-needed-too
-        yield "%s needs %s too" % (name, one)
+    """Why a later build is another one: the recipe of a target has another text, or that of another implicit rule was found; make finds another file for
+    it; or it needs more or less, and that makes a difference."""
+    base, vpath = build.graph.base, build.graph.round.vpath
+    for node in (node for node in build.graph.nodes.values() if node.rule == 0 and node.name in later.nodes):
+        name = node.name
+        is_moved = name in base.implicit and base.places.get(name) != later.base.places.get(name)  # guard: another-rule
+        if node.jobs and (is_moved or base.recipes.get(name, []) != later.base.recipes.get(name, [])):  # guard: another-recipe
+            yield "the recipe of %s is another one" % name
+        if vpath.get(name) != later.vpath.get(name):  # guard: another-file
+            yield "make finds %s for %s" % (later.vpath.get(name, name), name)
+        then, now = (needs(name, one) for one in (base, later.base))
+        gone = [one for one in then if one not in now and base.recipes.get(one)]
+        for one in gone[:1]:  # guard: what-is-needed-no-more
+            yield "%s does not need %s any more" % (name, one)
+        met = {*then, *build.graph.round.nodes}
+        new = {one: names.find(build.folder, one, False).path for one in now if one not in met and later.base.recipes.get(one)}
+        for one in [one for one, path in new.items() if path in names.before or not os.path.lexists(path)][:1]:  # else another make has made it  # guard: what-is-needed-too
+            yield "%s needs %s too" % (name, one)
 
 
 def needs(name: str, base: Base) -> List[str]:

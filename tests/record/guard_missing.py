@@ -5,10 +5,6 @@ from typing import List
 from guard import LOST_HOLE, Guard, guards
 
 GUARDS: List[Guard] = [
-    *guards("missing/called.py",
-        ("files-of-who-calls-make", "found = set()", "later.Later.premise_a_caller"),
-        ("files-that-make-reads", "pass", "later.Later.premise_a_file_that_make_reads"),
-    ),
     *guards("missing/footprints.py",
         ("what-recipe-removes-later", "pass", "later.Later.removed_a_file"),
         ("what-later-recipes-make", "found = set()", "missing.Table.alone_a_file_that_a_later_recipe_makes"),
@@ -19,6 +15,8 @@ GUARDS: List[Guard] = [
         ("temporaries-of-others", "pass", "later.Later.temporary_of_a_caller"),
     ),
     *guards("missing/inputs.py",
+        ("files-of-who-calls-make", "found = set()", "later.Later.premise_a_caller"),
+        ("files-that-make-reads", "pass", "later.Later.premise_a_file_that_make_reads"),
         ("recipes-that-do-not-run-again", "pass", "later.Later.hole_time_that_has_not_come", LOST_HOLE),
         ("what-another-recipe-made", 'for kind, paths in (("called", called(makes, names, lives, changed)),):', "later.Later.premise_another_recipe"),
         ("lines-that-do-not-help", "last = [replace(last[0], add=file)]", "missing.Verdicts.line_that_does_not_help"),
