@@ -40,10 +40,8 @@ class NinjaBuild(Build):
 
     def about(self, at: int) -> Dict[str, Any]:
         edge = self.edges[at]
-        pool = edge.value("pool")
-        depth = "1" if pool == "console" else self.from_manifest.manifest.pools.get(pool, "")
         has_run = self.tasks[at].kind == "recipe"
-        return {"file": edge.file, "line": edge.line, "recipe": edge.command[:TEXT_LIMIT], "rule": edge.rule, "pool": pool, "depth": depth,
+        return {"file": edge.file, "line": edge.line, "recipe": edge.command[:TEXT_LIMIT], "rule": edge.rule, "pool": edge.value("pool"),
                 "sum": command_sum(edge.command) if has_run else "", "owner": owner_of(edge, self.from_manifest.manifest)}
 
 

@@ -10,7 +10,7 @@ from record.build.tasks import Build
 from record.make.owners import Owners
 from record.ninja.build import NinjaBuild, NinjaBuilder
 from record.ninja.manifest import Unreadable
-from record.ninja.runs import Ninja, Runs, removed_names
+from record.ninja.runs import Ninja, Runs
 from record.trace.lives import Life
 from record.trace.names import Names
 from record.trace.snapshots import Past
@@ -32,7 +32,7 @@ def import_ninjas(ninjas: List[Ninja], lives: List[Life], names: Names, assumed:
     """A build for each stage of a ninja in which commands ran, and the holes. `past`: which names were there when it began."""
     holes: List[str] = []
     builds: List[Build] = []
-    removed = removed_names(lives) if ninjas else set()
+    removed = {path for life in lives for kind, path in life.events if kind in "XD"} if ninjas else set()
     stages = [(stage, ninja, number) for ninja in ninjas for number, stage in enumerate(ninja.stages) if stage.jobs and stage.is_read]
     for stage, ninja, number in sorted(stages, key=lambda found: found[0].opened):
         builder = NinjaBuilder(ninja, number, past.until(stage.opened), removed, names, assumed)  # guard: folders-that-were-there-when-it-began

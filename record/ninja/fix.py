@@ -80,10 +80,6 @@ def owner(labels: Dict[str, Any], label: str) -> Owner:
 
 
 def pool_text(labels: Dict[str, Any], first: str, second: str) -> str:
-    """Where both are in one pool, what that pool promises."""
-    one, two = labels.get(first, {}), labels.get(second, {})
-    if not one.get("pool") or one.get("pool") != two.get("pool"):  # guard: pools-are-named
-        return ""
-    if one.get("depth") == "1":
-        return "both are in the pool %s, which runs one at a time, in an order that nothing promises" % one["pool"]
-    return "both are in the pool %s of depth %s" % (one["pool"], one.get("depth"))
+    """Where both are in one pool, which may be of one at a time: it promises nothing."""
+    pool = labels.get(first, {}).get("pool")
+    return "both are in the pool %s, in an order that nothing promises" % pool if pool and pool == labels.get(second, {}).get("pool") else ""  # guard: pools-are-named

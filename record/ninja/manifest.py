@@ -174,7 +174,6 @@ class Manifest:
 
     folder: str
     edges: List[Edge] = field(default_factory=list)
-    pools: Dict[str, str] = field(default_factory=dict)  # name: depth
     defaults: List[str] = field(default_factory=list)
     files: List[str] = field(default_factory=list)
     makers: Dict[str, Edge] = field(default_factory=dict)  # output: statement
@@ -278,8 +277,6 @@ class Reader:
             scope.values[key] = evaluate(value, scope.value)
         elif word == "rule":
             scope.rules[rest.strip(" ")] = dict(block)
-        elif word == "pool":
-            self.manifest.pools[rest.strip(" ")] = evaluate(dict(block).get("depth", ""), scope.value)
         elif word == "default":
             self.manifest.defaults += [canonical(evaluate(w, scope.value)) for _, w in tokens(rest) if w]
         elif word in ("include", "subninja"):
@@ -287,7 +284,7 @@ class Reader:
                 self.read(evaluate(path, scope.value), scope if word == "include" else Scope(scope))
         elif word == "build":
             self.edge(file, number, rest, block, scope)
-        else:
+        elif word != "pool":
             raise Unreadable("no statement of ninja: " + text[:80])
 
     def edge(self, file: str, number: int, text: str, block: List[Tuple[str, str]], scope: Scope) -> None:

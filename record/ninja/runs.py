@@ -5,7 +5,8 @@ import os
 import re
 from collections import Counter
 from dataclasses import dataclass, field
-from typing import Callable, Dict, List, Optional, Set, Tuple
+from functools import partial
+from typing import Dict, List, Optional, Set, Tuple
 
 from record import machine
 from record.build.work import Tool, Work
@@ -58,7 +59,6 @@ class Ninja(Tool):
     goals: List[str]
     stages: List[Stage] = field(default_factory=list)
     log: str = ""
-    logged: Optional[List[str]] = None  # the outputs that were added to its log, if that is known
     is_tried: bool = False  # by CMake, in a folder of its own that is gone
 
     @property
@@ -171,8 +171,8 @@ class Runs:
         stage = Stage(start, Manifest(ninja.folder), jobs)
         ninja.stages.append(stage)
         try:
-            stage.manifest = read_manifest(ninja.folder, ninja.file, self.texts_at(start))
-            self.read_dyndeps(stage.manifest, self.reads(ninja.life, start, end))  # guard: what-dyndep-file-adds
+            stage.manifest = read_manifest(ninja.folder, ninja.file, partial(self.text_at, start))
+            self.read_dyndeps(stage.manifest, {act.path: act.place for act in ninja.life.acts if act.kind == "R" and start <= act.place < end})  # guard: what-dyndep-file-adds
         except Unreadable as fault:
             stage.is_read = False
             ninja.is_tried = is_tried(ninja)  # guard: manifest-that-is-gone
@@ -190,32 +190,19 @@ class Runs:
         return Job(life, first[2])
 
     # ---------------------------------------------------------------- manifests
-    def texts_at(self, place: int) -> Callable[[str], str]:
-        """Gives files as they were at a place of the trace."""
-
-        def text(path: str) -> str:
-            path = self.names.find("/", path, True).path
-            first, last = self.changes(path)
-            if last < place:  # guard: manifest-that-changed-since
-                return text_of(path)
-            if path in self.kept and first > place:  # guard: manifest-that-changed-before
-                return self.kept[path]
-            raise Unreadable("nobody kept %s as it was when ninja read it" % path)
-
-        return text
-
-    def changes(self, path: str) -> Tuple[int, int]:
-        """Where in the trace a file was first changed, and where last."""
-        firsts = [life.events.get((kind, path), NEVER) for life in self.lives for kind in "WCD"]
-        return min(firsts, default=NEVER), max((life.changed.get(path, -1) for life in self.lives), default=-1)  # guard: manifest-that-one-process-changed-twice
-
-    @staticmethod
-    def reads(life: Life, start: int, end: int) -> Dict[str, int]:
-        """Where a process last opened each file in a part of the trace."""
-        return {act.path: act.place for act in life.acts if act.kind == "R" and start <= act.place < end}
+    def text_at(self, place: int, path: str) -> str:
+        """A file as it was at a place of the trace."""
+        path = self.names.find("/", path, True).path
+        first = min((life.events.get((kind, path), NEVER) for life in self.lives for kind in "WCD"), default=NEVER)
+        last = max((life.changed.get(path, -1) for life in self.lives), default=-1)  # guard: manifest-that-one-process-changed-twice
+        if last < place:  # guard: manifest-that-changed-since
+            return text_of(path)
+        if path in self.kept and first > place:  # guard: manifest-that-changed-before
+            return self.kept[path]
+        raise Unreadable("nobody kept %s as it was when ninja read it" % path)
 
     def read_dyndeps(self, manifest: Manifest, reads: Dict[str, int]) -> None:
-        """Adds what dyndep files say, as they were when ninja read them."""
+        """Adds what dyndep files say, as they were when ninja read them. `reads`: where it opened each file last."""
         for edge in manifest.edges:
             name = "" if edge.is_phony else edge.path("dyndep")
             path = os.path.join(manifest.folder, name)
@@ -223,7 +210,7 @@ class Runs:
             if not name or real not in reads and not machine.isfile(path):
                 continue
             try:
-                for one in read_dyndep(self.texts_at(reads.get(real, NEVER - 1))(path)):  # guard: dyndep-file-that-changed-since
+                for one in read_dyndep(self.text_at(reads.get(real, NEVER - 1), path)):  # guard: dyndep-file-that-changed-since
                     if manifest.makers.get(one.output) is edge:  # guard: dyndep-file-adds-to-its-statement-alone
                         manifest.add_found(edge, one)
             except Unreadable as fault:
@@ -237,7 +224,6 @@ class Runs:
             return
         logged = self.logged(ninjas, log)
         for ninja in ninjas:
-            ninja.logged = logged
             for stage in ninja.stages:
                 if stage.is_read:
                     self.attribute_stage(stage, logged)
@@ -306,8 +292,3 @@ class Runs:
             self.holes.append("the log of ninja names %s, and no process of the trace made it" % path)
         for path in sorted((ran - counted).keys())[:3]:  # guard: line-of-log-less
             self.holes.append("a command ran for %s, and the log of ninja does not name it" % path)
-
-
-def removed_names(lives: List[Life]) -> Set[str]:
-    """Names that some process removed."""
-    return {path for life in lives for kind, path in life.events if kind in "XD"}

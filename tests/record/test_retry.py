@@ -142,6 +142,6 @@ class Fixes(unittest.TestCase):
         self.assertEqual("build a: .. || g", self.fix("rule r\n  command = x\nbuild a: r\nbuild g: r\n", "g", "a"))
 
     def test_pools(self) -> None:
-        labels = {"a": {"pool": "p", "depth": "1"}, "b": {"pool": "p", "depth": "1"}, "c": {"pool": ""}, "d": {"pool": ""}}
-        self.assertIn("one at a time", pool_text(labels, "a", "b"))
+        labels = {"a": {"pool": "p"}, "b": {"pool": "p"}, "c": {"pool": ""}, "d": {"pool": ""}}
+        self.assertIn("in the pool p", pool_text(labels, "a", "b"))
         self.assertEqual("", pool_text(labels, "c", "d") + pool_text(labels, "a", "c"))

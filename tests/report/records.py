@@ -63,7 +63,7 @@ def of_ninja(folder: Path, is_fixed: bool = False) -> Path:
     about = json.loads(path.read_text(encoding="utf-8"))
     targets = {"build/keywords.h": "words", "main.o": "shell", "lex.o": "lexer", "shell": "shell"}
     for label, it in about["labels"].items():
-        it.update(file="build.ninja", owner={"by": "cmake", "target": targets[label]}, rule="r", pool="", depth="", sum="")
+        it.update(file="build.ninja", owner={"by": "cmake", "target": targets[label]}, rule="r", pool="", sum="")
     path.write_text(json.dumps({**about, "tool": "ninja"}), encoding="utf-8")
     return record
 
