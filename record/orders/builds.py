@@ -19,12 +19,10 @@ import socket
 import struct
 import subprocess
 import time
-from collections.abc import Callable, Mapping, Sequence
-from contextlib import nullcontext
+from collections.abc import Callable, Iterator, Mapping, Sequence
+from contextlib import contextmanager
 from dataclasses import dataclass, field
-from functools import partial
 from pathlib import Path
-from threading import Thread
 from typing import ContextManager, Optional
 
 from record.command import with_jobs
@@ -195,37 +193,51 @@ class Room:
         for number, tree in enumerate(self.trees(plan)):
             copy(self.fresh(number), tree)
         gate = gate or (Ends(place, {}, ends=plan.ends) if plan.ends else Gate(place, plan.places, plan.after, plan.is_flipped))
-        began, before = time.monotonic(), {*children_of(os.getpid())}
-        read, output = os.pipe()  # and no file, which a recipe could empty (`> /dev/stdout`)
-        said: list[bytes] = []
-        keeping = Thread(target=lambda: said.extend(iter(partial(os.read, read, 1 << 16), b"")), daemon=True)
-        with gate.listen() as listener:
+        began = time.monotonic()
+        with gate.listen() as listener, output_to(place / "output") as output:
+            before = {*children_of(os.getpid())}
             with in_one_step() as heard:
-                pid = in_child(partial(self.build_in_place, plan, gate, listener, output), heard)
-            os.close(output)
-            keeping.start()
+                pid = os.fork()
+                if pid == 0:
+                    listener.close()  # guard: builds-that-are-left
+                    self.become(plan, gate, output, heard)
+            ended: list[int] = []
+
+            def has_ended() -> bool:
+                if not ended and os.waitpid(pid, os.WNOHANG)[0]:
+                    ended.append(1)
+                return bool(ended)
+
             try:
-                has_ended = gate.serve(pid, listener, self.limit)
+                found = gate.serve(pid, listener, has_ended, self.limit)
             finally:
                 for one in {*children_of(os.getpid())} - before:  # and what outlived its parent
                     end(one)
-        keeping.join(ENDING)
-        status = os.WEXITSTATUS(os.waitpid(pid, 0)[1])
-        return Built(plan, status if has_ended else None, time.monotonic() - began, gate.began, b"".join(said).decode(errors="replace"), [*map(held_by, self.trees(plan))])
+        try:
+            status = int((place / "status").read_text()) if found else None
+        except (OSError, ValueError):
+            status = 1
+        return Built(plan, status, time.monotonic() - began, gate.began, (place / "output").read_text(errors="replace"), [held_by(tree) for tree in self.trees(plan)])
 
-    def build_in_place(self, plan: Plan, gate: Gate, listener: socket.socket, output: int) -> int:
-        """Builds in this process; the status."""
-        listener.close()  # guard: builds-that-are-left
+    def become(self, plan: Plan, gate: Gate, output: int, heard: Callable[[], ContextManager[object]]) -> None:
+        """Builds in a process of its own, and ends it."""
+        try:
+            with heard():
+                self.build_in_place(plan, gate, output)
+        except BaseException as fault:
+            os.write(2, ("race-record: %s\n" % fault).encode(errors="replace"))
+        finally:
+            os._exit(0)
+
+    def build_in_place(self, plan: Plan, gate: Gate, output: int) -> None:
+        """Builds in this process, and writes the status."""
         os.setsid()
         for stream, file in ((0, os.open(os.devnull, os.O_RDONLY)), (1, output), (2, output)):
             os.dup2(file, stream)
-        try:
-            self.enter(plan)
-            gate.enter()
-            return self.record(self.place(plan), plan) if plan.is_recorded else self.build(plan)
-        except Exception as fault:
-            os.write(2, ("race-record: %s\n" % fault).encode(errors="replace"))
-            return 1
+        self.enter(plan)
+        gate.enter()
+        status = self.record(self.place(plan), plan) if plan.is_recorded else self.build(plan)
+        (self.place(plan) / "status").write_text(str(status))
 
     def environment(self) -> dict[str, str]:
         """The environment of a build."""
@@ -240,6 +252,22 @@ class Room:
         env = self.environment()
         words, env = with_many(self.words, env, plan.jobs)
         return subprocess.run([*self.setup, *(SLOWLY if plan.is_slow else ()), *words], env=watch.environment(env), preexec_fn=watch.lay, check=False).returncode
+
+
+@contextmanager
+def output_to(file: Path) -> Iterator[int]:
+    """A pipe that leads into a file: a recipe cannot empty it, as it could a file (`> /dev/stdout`)."""
+    read, write = os.pipe()
+    with open(file, "wb") as kept, subprocess.Popen(["cat"], stdin=read, stdout=kept) as cat:
+        os.close(read)
+        try:
+            yield write
+        finally:
+            os.close(write)
+            try:
+                cat.wait(ENDING)
+            except subprocess.TimeoutExpired:  # a process that outlives the build has it
+                cat.kill()
 
 
 def with_many(words: Sequence[str], env: Mapping[str, str], jobs: int) -> tuple[list[str], dict[str, str]]:
@@ -270,9 +298,10 @@ class Running:
         """Begins builds."""
         for plan in plans:
             self.room.place(plan).mkdir()
-            (self.room.place(plan) / "built").write_bytes(pickle.dumps("no end of a build"))
             with in_one_step() as heard:
-                self.children[plan.name] = in_child(partial(work, self.room, plan), heard)
+                pid = self.children[plan.name] = os.fork()
+                if pid == 0:
+                    work(self.room, plan, heard)
 
     def result(self, name: str) -> Built:
         """Waits for a build."""
@@ -301,19 +330,22 @@ def side_by_side(room: Room, plans: Sequence[Plan]) -> list[Built]:
         return [running.result(plan.name) for plan in plans]
 
 
-def work(room: Room, plan: Plan) -> int:
-    """Makes a build in this process, and writes what it came to. An interrupt is for the recorded build, which may go on all the same."""
-    if signal.getsignal(signal.SIGINT) is not signal.SIG_IGN:
-        signal.signal(signal.SIGINT, lambda *_: None)
-    os.dup2(os.open(os.devnull, os.O_WRONLY), 2)  # where a signal ends it, Python may have something to say
-    LIBC.prctl(WITH_PARENT, signal.SIGTERM)
-    LIBC.prctl(TAKES_LEFT, 1)
+def work(room: Room, plan: Plan, heard: Callable[[], ContextManager[object]]) -> None:
+    """Makes a build, writes what it came to, and ends this process. An interrupt is for the recorded build, which may go on all the same."""
+    found: object = "no end of a build"
     try:
-        found: object = room.run(plan)
-    except Exception as fault:
+        if signal.getsignal(signal.SIGINT) is not signal.SIG_IGN:
+            signal.signal(signal.SIGINT, lambda *_: None)
+        os.dup2(os.open(os.devnull, os.O_WRONLY), 2)  # where a signal ends it, Python may have something to say
+        LIBC.prctl(WITH_PARENT, signal.SIGTERM)
+        LIBC.prctl(TAKES_LEFT, 1)
+        with heard():
+            found = room.run(plan)
+    except BaseException as fault:
         found = "%s: %s" % (type(fault).__name__, fault)
-    (room.place(plan) / "built").write_bytes(pickle.dumps(found))
-    return 0
+    finally:
+        (room.place(plan) / "built").write_bytes(pickle.dumps(found))
+        os._exit(0)
 
 
 def have_own_ports() -> bool:
@@ -325,19 +357,12 @@ def have_own_ports() -> bool:
     return True
 
 
-def in_child(work: Callable[[], int], heard: Callable[[], ContextManager[object]] = nullcontext) -> int:
-    """Does something in a child of this process, which ends with what that gives; its number. `heard`: where it hears signals."""
-    child = os.fork()
-    if child == 0:
-        status = 1
-        try:
-            with heard():
-                status = work()
-        finally:
-            os._exit(status if status >= 0 else 128 - status)
-    return child
-
-
 def is_child_able(try_out: Callable[[], bool]) -> bool:
     """Whether a child of this process can do something."""
-    return os.waitpid(in_child(lambda: 0 if try_out() else 1), 0)[1] == 0
+    child = os.fork()
+    if child == 0:
+        try:
+            os._exit(0 if try_out() else 1)
+        except OSError:
+            os._exit(1)
+    return os.waitpid(child, 0)[1] == 0

@@ -65,6 +65,7 @@ class Gate:
     read: dict[Path, int] = field(default_factory=dict)  # how much was read of the file of each make
     come_from: dict[int, tuple[int, str, Key, str]] = field(default_factory=dict)  # by process that waits: its make or ninja, the target or the sum, the recipe around that, and where it works
     born: dict[int, tuple[int, int]] = field(default_factory=dict)  # by process that waits: when it began
+    since: float = 0.0  # when something happened last
     stalled: Stalled = field(default_factory=Stalled)
     choose: selectors.BaseSelector = field(init=False, repr=False)  # by descriptor: what is done when it is ready
 
@@ -156,7 +157,14 @@ class Gate:
             self.counts[(*key[:-1], (*key[-1][:2], 0))] = key[-1][2]
         self.owners[pid] = self.open[make, name]
         wait_for_tick()
-        self.hear_end(pid, lambda: None if pid in self.targets else self.note_end(make, name))  # of a ninja the recipe has ended then
+        end = os.pidfd_open(pid)
+
+        def hear_end() -> None:
+            self.leave(end)
+            if pid not in self.targets:  # of a ninja
+                self.note_end(make, name)
+
+        self.choose.register(end, selectors.EVENT_READ, hear_end)
         self.let_go(pid, self.waiting.pop(pid))
 
     def let_go(self, pid: int, channel: socket.socket) -> None:
@@ -177,36 +185,24 @@ class Gate:
 
         self.choose.register(reports, selectors.EVENT_READ, hear)
 
-    def hear_end(self, pid: int, act: Callable[[], object]) -> None:
-        """Does something when a process has ended."""
-        end = os.pidfd_open(pid)
-
-        def hear() -> None:
-            self.leave(end)
-            act()
-
-        self.choose.register(end, selectors.EVENT_READ, hear)
-
     def leave(self, descriptor: int) -> None:
         """Hears no more by a descriptor, such as that of a process that has ended."""
         self.choose.unregister(descriptor)
         os.close(descriptor)
 
-    def serve(self, root: int, listener: socket.socket, limit: Callable[[], float]) -> bool:
-        """Answers until the first process of the build has ended; false where nothing began or ended in it for so many seconds."""
-        since, pause = time.monotonic(), LEAST
+    def serve(self, root: int, listener: socket.socket, has_ended: Callable[[], bool], limit: Callable[[], float]) -> bool:
+        """Answers until the build has ended; false where nothing began or ended in it for so many seconds."""
+        self.since, pause = time.monotonic(), LEAST
         with selectors.DefaultSelector() as self.choose:
             self.choose.register(listener, selectors.EVENT_READ, lambda: self.come(listener))
-            ended: list[int] = []
-            self.hear_end(root, lambda: ended.append(root))
-            while not ended:
+            while not has_ended():
                 found = self.choose.select(pause)
                 for key, _ in found:
                     key.data()
                 began = not found and self.turn(root)
                 if found or began:
-                    since, pause = time.monotonic(), MOST if began else LEAST  # the end of what begins is heard
-                elif pause == MOST and time.monotonic() - since > limit():
+                    self.since, pause = time.monotonic(), MOST if began else LEAST  # the end of what begins is heard
+                elif pause == MOST and time.monotonic() - self.since > limit():
                     return False
                 else:
                     pause = min(2 * pause, MOST)

@@ -36,9 +36,8 @@ class Gates(unittest.TestCase):
                 if not watch.covered:
                     self.skipTest("the system gives no mounts")
                 process = subprocess.Popen(words, cwd=folder, preexec_fn=watch.lay, start_new_session=True, stdout=subprocess.PIPE)
-                self.assertTrue(gate.serve(process.pid, listener, lambda: 60))
+                self.assertTrue(gate.serve(process.pid, listener, lambda: process.poll() is not None, lambda: 60))
                 end(process.pid)
-                process.wait()
                 assert process.stdout is not None
                 self.output = process.stdout.read().decode()
                 process.stdout.close()
@@ -119,7 +118,7 @@ class Gates(unittest.TestCase):
         gate = Gate(top, {})
         with gate.listen() as listener:
             process = subprocess.Popen(["sleep", "60"], start_new_session=True)
-            self.assertFalse(gate.serve(process.pid, listener, lambda: 0.5))
+            self.assertFalse(gate.serve(process.pid, listener, lambda: process.poll() is not None, lambda: 0.5))
             end(process.pid)
             self.assertEqual(-9, process.wait())
 
