@@ -74,8 +74,7 @@ FLIPPED = Plan("flipped", {}, is_recorded=True, is_flipped=True)
 
 @dataclass
 class Built:
-    """What a build came to. `status`: none where nothing began or ended in it any more; `held`: what stands in each tree; `otherwise`: lines about what differs from
-    the serial one, `path`: of a file that does."""
+    """What a build came to. `status`: none where nothing began or ended in it any more; `held`: what stands in each tree."""
 
     plan: Plan
     status: Optional[int]
@@ -83,8 +82,6 @@ class Built:
     began: list[Key]
     output: str
     held: list[dict[str, str]]
-    otherwise: list[str] = field(default_factory=list)
-    path: str = ""
 
     def message(self) -> list[str]:
         """How it ended, where it failed."""

@@ -6,6 +6,7 @@ import json
 import os
 from collections.abc import Iterator, Mapping, Sequence
 from dataclasses import dataclass, field
+from functools import cached_property
 from pathlib import Path
 from typing import Any, Optional
 
@@ -106,14 +107,19 @@ class Graph:
             return self.at[number, label]
         return next((self.at[number, other] for other, one in labels.items() if one["kind"] == "recipe" and one["target"] == found["target"]), self.at[number, label])
 
-    def leaves(self) -> set[str]:
-        """All that recipes leave."""
-        return {self.whole(number, path) for number, build in self.builds.items()
-                for some in (*(row["writes"] for row in self.rows[number]), *(about.get("leaves", ()) for about in build["labels"].values())) for path in some}
+    def left_by(self, number: str, label: str) -> set[str]:
+        """What a task of a build writes."""
+        own: Sequence[str] = self.row_of.get((number, label), {"writes": ()})["writes"]
+        return {self.whole(number, path) for path in (*own, *self.builds[number]["labels"].get(label, {}).get("leaves", ()))}
 
     def whole(self, number: str, path: str) -> str:
         """A path of a build, from the root on."""
         return path if path.startswith("/") else "%s/%s" % (self.builds[number]["folder"].rstrip("/"), path)
+
+    @cached_property
+    def row_of(self) -> dict[tuple[str, str], dict[str, Any]]:
+        """The line of each task, by its build and label."""
+        return {(number, row["task"]): row for number, rows in self.rows.items() for row in rows}
 
     def apart(self, after: Mapping[Key, set[Key]]) -> list[int]:
         """For each recipe the earlier ones that nothing orders with it. `after`: which waits for which besides."""
@@ -172,11 +178,11 @@ class Graph:
             makers: dict[str, set[int]] = {}
             users: dict[str, set[int]] = {}
             for row in rows:
-                at, about = self.at[number, row["task"]], self.builds[number]["labels"].get(row["task"], {})
-                for path in (self.whole(number, path) for path in (*row["writes"], *about.get("leaves", ()))):
+                label, at = row["task"], self.at[number, row["task"]]
+                for path in self.left_by(number, label):
                     makers.setdefault(file_of(path), set()).add(at)
                     makers.setdefault(os.path.dirname(path), set()).add(at)
-                for path in (*row["reads"], *about.get("lists", ())):  # guard: who-lists-folder
+                for path in (*row["reads"], *self.builds[number]["labels"].get(label, {}).get("lists", ())):  # guard: who-lists-folder
                     users.setdefault(file_of(self.whole(number, path)), set()).add(at)
             for path, who in makers.items():
                 others = {at for at in users.get(path, set()) - who if any(not self.is_ordered(at, one) for one in who)}

@@ -24,7 +24,7 @@ GUARDS: List[Guard] = [
         ("recipes-that-the-record-has", "more = began - order", "orders.Orders.case_targets_with_drawn_names"),
         ("builds-that-need-other-machines", "raise CannotTry(again.message())", "orders.Orders.build_that_needs_a_server_of_this_machine"),
         ("no-more-than-there-may-be", "some = left[:AT_ONCE]", "orders.Orders.as_many_as_may_be"),
-        ("order-of-the-serial-build", "low, high = 0, between(self.order, log, len(log) ** 2)[2]", "orders.Orders.nothing_but_jobs"),
+        ("order-of-the-serial-build", "least = 0", "orders.Orders.nothing_but_jobs"),
         ("what-goes-by-the-time", "pass", "orders.Orders.time_that_passes"),
         ("jobs-of-the-recorded-build", "pass", "orders.Orders.case_jobs_of_a_makefile"),
         ("which-of-two-builds-is-serial", "less, turn = order & known - began, 1", "orders.Orders.case_jobs_of_a_makefile"),
