@@ -71,7 +71,7 @@ class Meeting(Gate):
     def let_go(self, pid: int, channel: socket.socket) -> None:
         key = self.owners[pid]
         if self.schedule and self.schedule.is_start and key == self.late.key:
-            self.is_reached |= not self.early.is_recipe or self.early.key in self.over
+            self.is_reached |= not self.early.is_recipe or self.is_over(self.early.key)
         for side in self.reported():
             if key == side.key:
                 self.ask_for_reports(pid, channel, side.side)
@@ -129,7 +129,7 @@ class Meeting(Gate):
         if not self.is_idle(root):
             return False
         self.hear_makes()
-        is_over = self.early.is_recipe and self.early.key in self.over
+        is_over = self.early.is_recipe and self.is_over(self.early.key)
         rows = [self.bare(pid) for pid in self.waiting]
         if not is_over and any((make, name) in self.open or self.may_begin(key) for make, name, key in rows):
             return super().turn(root)

@@ -55,8 +55,8 @@ class CannotTry(Exception):
 @dataclass
 class Plan:
     """A build to be made: which recipe begins of those that wait, with how many jobs, and whether it is recorded. `is_flipped`: where `places` does not say,
-    the last that came to wait, and not the first; `is_slow`: to make a folder takes a while; `ends`: of these processes, which are held there: no recipe waits to
-    begin."""
+    the last that came to wait, and not the first; `at_once`: so many may run side by side, of those that wait for no other one; `is_slow`: to make a folder takes
+    a while; `ends`: of these processes, which are held there: no recipe waits to begin."""
 
     name: str
     places: Mapping[Key, float]
@@ -64,12 +64,13 @@ class Plan:
     after: Mapping[Key, set[Key]] = field(default_factory=dict)
     is_recorded: bool = False
     is_flipped: bool = False
+    at_once: int = 1
     is_slow: bool = False
     ends: frozenset[Address] = frozenset()
 
 
-SERIAL = Plan("serial", {}, OWN)
-FLIPPED = Plan("flipped", {}, is_recorded=True, is_flipped=True)
+SERIAL, FLIPPED = "serial", "flipped"
+BESIDE = (Plan(SERIAL, {}, OWN), Plan(FLIPPED, {}, is_recorded=True, is_flipped=True))
 
 
 @dataclass
@@ -189,7 +190,7 @@ class Room:
         place = self.place(plan)
         for number, tree in enumerate(self.trees(plan)):
             copy(self.fresh(number), tree)
-        gate = gate or (Ends(place, {}, ends=plan.ends) if plan.ends else Gate(place, plan.places, plan.after, plan.is_flipped))
+        gate = gate or (Ends(place, {}, ends=plan.ends) if plan.ends else Gate(place, plan.places, plan.after, plan.is_flipped, plan.at_once))
         began = time.monotonic()
         with gate.listen() as listener, output_to(place / "output") as output:
             before = {*children_of(os.getpid())}

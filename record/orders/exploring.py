@@ -13,7 +13,7 @@ from typing import Any
 
 from record.folder import Record, runs_programs
 from record.judge import judge, unshown
-from record.orders.builds import FLIPPED, SERIAL, CannotTry, Plan, Room, Running, is_child_able
+from record.orders.builds import BESIDE, CannotTry, Plan, Room, Running, is_child_able
 from record.orders.gate import Key
 from record.orders.graph import Graph
 from record.orders.joined import contested, join, judged, keep, pass_questions
@@ -66,7 +66,7 @@ def beside(room: Room, expected: float, made: int) -> Iterator[Running]:
         if room.is_apart():
             last = "the last time it took %s, and %d builds in copies" % (clock(expected), made) if made else "others may follow"
             print("race-record: two builds in copies run meanwhile; " + last, file=sys.stderr, flush=True)
-            running.begin(SERIAL, FLIPPED)
+            running.begin(*BESIDE)
         yield running
 
 
@@ -78,8 +78,7 @@ def clock(seconds: float) -> str:
 def say(count: int, record: Record, more: str) -> None:
     """Says how many builds will follow, and of what kind."""
     many, each = ("s", " each") if count > 1 else ("", "")
-    if count:
-        print("race-record: %d build%s in copies, of %s%s%s" % (count, many, clock(record.seconds), each, more), file=sys.stderr, flush=True)
+    print("race-record: %d build%s in copies, of %s%s%s" % (count, many, clock(record.seconds), each, more), file=sys.stderr, flush=True)
 
 
 def explore(room: Room, record: Record, out: Path, race: str, most: int, running: Running) -> dict[str, Any]:
@@ -89,7 +88,10 @@ def explore(room: Room, record: Record, out: Path, race: str, most: int, running
     graph = Graph(out)
     after = fixes(graph, race, room.top / "tasks")
     trial = Trial(room, graph, [held_by(Path(top), str(out)) for top in room.tops], after, most, {*record.markers}, record.is_parallel)
-    trial.run(running, lambda count: say(count, record, "; one more for each step where something differs"))
+    count = trial.expected() - (0 if not running.children else 1 if after else 2)
+    if count:
+        say(count, record, "; one more for each step where something differs")
+    trial.run(running)
     if graph.pairs() and not (any(trial.turned) or trial.shown or after):  # guard: builds-that-turn-nothing-round
         raise CannotTry("no two recipes change places there, as where a script calls make with -j1")
     if (room.top / "record").exists():  # else that build was stopped, as all of it waited

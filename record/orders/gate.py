@@ -13,12 +13,12 @@ import selectors
 import socket
 import struct
 import time
-from collections.abc import Callable, Mapping
+from collections.abc import Callable, Mapping, Sequence
 from dataclasses import dataclass, field
 from pathlib import Path
 
 from record.build.text import shown
-from record.orders.processes import Stalled, born, folder_of, is_quiet, parent_of
+from record.orders.processes import Stalled, born, folder_of, is_quiet, parent_of, words_of
 from record.orders.reported import Call, is_reported, receive
 
 Key = tuple[tuple[str, str, int], ...]  # a recipe: from the outermost make or ninja on its folder, the target, and which of those of that name it is
@@ -26,6 +26,7 @@ OF_CHILD = re.compile(rb"(?:Putting|Live) child \S+ \((.*)\) PID (\d+)|Removing 
 CREDENTIALS = struct.Struct("3i")  # of who has connected: process, user, group
 LEAST, MOST = 0.001, 0.032  # seconds from one look at the processes to the next
 LAST = float("inf")
+BY_NINJA = b"race-hold-ninja"  # the first word of a process that waits for a ninja
 CLOCK_OF_FILES = 5  # CLOCK_REALTIME_COARSE of Linux
 
 
@@ -37,31 +38,40 @@ def sum_of(command: bytes) -> str:
     return "%016x" % found
 
 
-def held_command(pid: int) -> str:
-    """The sum of the command that a process which waits is to run for a ninja: the last of its words (watch/hold.c)."""
+def held_words(pid: int) -> list[bytes]:
+    """The words of a process that waits (watch/hold.c)."""
     try:
-        return sum_of(Path(f"/proc/{pid}/cmdline").read_bytes().split(b"\0")[-2])
-    except (OSError, IndexError):  # it has ended
-        return ""
+        return Path(f"/proc/{pid}/cmdline").read_bytes().split(b"\0")
+    except OSError:
+        return []
+
+
+def held_command(pid: int) -> str:
+    """The sum of the command that a process which waits is to run for a ninja: the last of its words."""
+    return sum_of(next(iter(held_words(pid)[-2:-1]), b""))
 
 
 @dataclass
 class Gate:
     """What waits, and what has begun. `places`: of each recipe its place in the order; of those that wait the one with the greatest begins. `after`: those
-    that one waits for besides. `is_flipped`: of those without a place, or of one place, the last that came begins, and else the first."""
+    that one waits for besides. `is_flipped`: of those without a place, or of one place, the last that came begins, and else the first. `at_once`: so many
+    may run side by side, of those that wait for no other one."""
 
     top: Path  # the folder of the build: `gate` in it is the socket
     places: Mapping[Key, float]
     after: Mapping[Key, set[Key]] = field(default_factory=dict)
     is_flipped: bool = False
+    at_once: int = 1
     unknown: float = LAST  # the place of recipes that have none
     waiting: dict[int, socket.socket] = field(default_factory=dict)
     began: list[Key] = field(default_factory=list)
+    running: dict[Key, tuple[tuple[int, str], int]] = field(default_factory=dict)  # the make and the target, and the first process
     over: set[Key] = field(default_factory=set)
     owners: dict[int, Key] = field(default_factory=dict)  # by first process of a recipe
     open: dict[tuple[int, str], Key] = field(default_factory=dict)  # by make and target
     counts: dict[Key, int] = field(default_factory=dict)
     targets: dict[int, str] = field(default_factory=dict)  # by process that a make has started: the target
+    ended: set[tuple[int, str]] = field(default_factory=set)  # makes and targets whose recipes have ended
     read: dict[Path, int] = field(default_factory=dict)  # how much was read of the file of each make
     come_from: dict[int, tuple[int, str, Key, str]] = field(default_factory=dict)  # by process that waits: its make or ninja, the target or the sum, the recipe around that, and where it works
     born: dict[int, tuple[int, int]] = field(default_factory=dict)  # by process that waits: when it began
@@ -96,7 +106,7 @@ class Gate:
             self.read[path] = self.read.get(path, 0) + len(lines)
             for found in filter(None, map(OF_CHILD.match, lines.split(b"\n"))):
                 if found[3]:
-                    self.note_end(int(path.name.partition(".")[0]), self.targets.get(int(found[3]), ""))
+                    self.ended.add((int(path.name.partition(".")[0]), self.targets.get(int(found[3]), "")))
                 else:
                     self.targets[int(found[2])] = shown(os.fsdecode(found[1]))  # guard: names-as-a-record-has-them
 
@@ -124,10 +134,13 @@ class Gate:
         make, name, above, folder = self.come_from[pid]
         return make, name, (*above, (folder, name, self.counts.get((*above, (folder, name, 0)), 0) + 1))
 
-    def note_end(self, make: int, name: str) -> None:
-        """A recipe has ended."""
-        if (make, name) in self.open:
-            self.over.add(self.open[make, name])
+    def is_over(self, key: Key) -> bool:
+        """Whether a recipe has begun, and ended."""
+        found, pid = self.running.get(key, (None, 0))
+        if found in self.ended or found is not None and pid not in self.targets and words_of(pid)[0] in "ZX":
+            del self.running[key]
+            self.over.add(key)
+        return key in self.over
 
     def is_idle(self, root: int) -> bool:
         """Whether nothing else can happen in the build."""
@@ -137,16 +150,31 @@ class Gate:
         """Whether a recipe waits for no other one besides."""
         return self.over.issuperset(self.after.get(key, ()))
 
+    def is_named(self, pid: int) -> bool:
+        """Whether it is known for what a process is that waits: a make says that when it has started it."""
+        return pid in self.targets or held_words(pid)[:1] == [BY_NINJA]
+
+    def beside(self, rows: Mapping[int, tuple[int, str, Key]], free: Sequence[int]) -> list[int]:
+        """Those of some processes that may begin beside what runs: none beside one that began before those for which it waits, since nothing else could. A recipe
+        with a make in it runs what that starts."""
+        outer = {key[:length] for key in (*self.running, *(key for _, _, key in rows.values())) for length in range(1, len(key))}
+        return list(free) if len(self.running.keys() - outer) < self.at_once and all(map(self.may_begin, self.running)) else []
+
     def turn(self, root: int) -> bool:
-        """Lets a recipe begin, if nothing else can happen; whether one does."""
-        if not self.waiting or not self.is_idle(root):
+        """Lets a recipe begin, if nothing else can happen, or if it may run beside others; whether one does."""
+        is_idle = bool(self.waiting) and self.is_idle(root)
+        if not self.waiting or not is_idle and self.at_once == 1:
             return False
         self.hear_makes()
-        rows = {pid: self.bare(pid) for pid in self.waiting}
+        for key in [*self.running]:
+            self.is_over(key)
+        rows = {pid: self.bare(pid) for pid in self.waiting if is_idle or self.is_named(pid)}
         further = [pid for pid, (make, name, _) in rows.items() if (make, name) in self.open]
         free = [pid for pid, (_, _, key) in rows.items() if self.may_begin(key)]  # guard: fixes-hold
-        self.begin(max(further or free or rows, key=lambda one: (self.places.get(rows[one][2], self.unknown), *(at if self.is_flipped else -at for at in self.born[one]))), rows)  # guard: last-that-came
-        return True
+        some = further or free or [*rows] if is_idle else self.beside(rows, free)
+        if some:
+            self.begin(max(some, key=lambda one: (self.places.get(rows[one][2], self.unknown), *(at if self.is_flipped else -at for at in self.born[one]))), rows)  # guard: last-that-came
+        return bool(some)
 
     def begin(self, pid: int, rows: Mapping[int, tuple[int, str, Key]]) -> None:
         """Lets a process begin."""
@@ -154,17 +182,12 @@ class Gate:
         if (make, name) not in self.open:
             self.began.append(key)
             self.open[make, name] = key
+            self.running[key] = (make, name), pid
             self.counts[(*key[:-1], (*key[-1][:2], 0))] = key[-1][2]
         self.owners[pid] = self.open[make, name]
         wait_for_tick()
         end = os.pidfd_open(pid)
-
-        def hear_end() -> None:
-            self.leave(end)
-            if pid not in self.targets:  # of a ninja
-                self.note_end(make, name)
-
-        self.choose.register(end, selectors.EVENT_READ, hear_end)
+        self.choose.register(end, selectors.EVENT_READ, lambda: self.leave(end))
         self.let_go(pid, self.waiting.pop(pid))
 
     def let_go(self, pid: int, channel: socket.socket) -> None:
@@ -201,7 +224,7 @@ class Gate:
                     key.data()
                 began = not found and self.turn(root)
                 if found or began:
-                    self.since, pause = time.monotonic(), MOST if began else LEAST  # the end of what begins is heard
+                    self.since, pause = time.monotonic(), MOST if began and self.at_once == 1 else LEAST  # the end of what begins is heard
                 elif pause == MOST and time.monotonic() - self.since > limit():
                     return False
                 else:

@@ -155,21 +155,48 @@ class Graph:
         """Those of some pairs that a build ran in the order of the serial one, too."""
         return [some & ~earlier for some, earlier in zip(left, self.turned(began))]
 
+    def flipped(self) -> dict[Key, float]:
+        """Always the last ready recipe of the serial order."""
+        return {key: float(at) for key, at in self.keys.items()}
+
     def covering(self, left: Sequence[int]) -> dict[Key, float]:
-        """An order that turns round many of some pairs."""
+        """An order that turns round as many of some pairs as it can, and at least the first of them."""
         score = [0] * len(self.tasks)
         for first, second in pairs_of(left):
             score[second] += 1
             score[first] -= 1
-        return self.wanted(score)
+        found = self.ordered(score)
+        if self.behind(left, sorted(found, key=lambda key: -found[key])) == left:
+            _, first = next(pairs_of(left))
+            found = self.ordered([int((self.tasks[first].before | 1 << first) >> task & 1) for task in range(len(self.tasks))])
+        return found
 
-    def wanted(self, score: Sequence[int]) -> dict[Key, float]:
-        """The order in which always that one begins which is wanted most, or for which such a one waits."""
+    def kept_apart(self, left: Sequence[int], places: Mapping[Key, float]) -> dict[Key, set[Key]]:
+        """Which recipe waits for which so that some pairs keep an order, where others run side by side."""
+        after: dict[Key, set[Key]] = {}
+        for pair in pairs_of(left):
+            late, early = sorted((key for at in pair for key in [self.tasks[at].key] if key is not None), key=lambda key: places[key])
+            after.setdefault(late, set()).add(early)
+        return after
+
+    def ordered(self, score: Sequence[int]) -> dict[Key, float]:
+        """The places of all recipes in such an order."""
+        return placed([self.tasks[task].key for task in self.schedule(score)])
+
+    def schedule(self, score: Sequence[int]) -> list[int]:
+        """An order of all tasks that the record allows: of those that are ready the one that is wanted most, or that one waits for which is."""
         best = list(score)
         for at in reversed(range(len(self.tasks))):
             for other in numbers(self.tasks[at].before) if best[at] > 0 else ():
                 best[other] = max(best[other], best[at])
-        return placed([self.tasks[at].key for at in sorted(range(len(best)), key=lambda at: (best[at], score[at], at), reverse=True)])
+        left, done, order = set(range(len(self.tasks))), 0, []
+        while left:
+            ready = [at for at in left if not (self.tasks[at].before | self.tasks[at].around) & ~done]
+            pick = max(ready, key=lambda at: (self.tasks[at].key is None, best[at], score[at], at))
+            left.remove(pick)
+            done |= 1 << pick
+            order.append(pick)
+        return order
 
     def users_first(self) -> Optional[dict[Key, float]]:
         """An order in which who uses a name, or lists a folder, begins before the several that make it; nothing where there is none."""
@@ -190,7 +217,11 @@ class Graph:
                     score[at] += len(who)
                 for at in who if len(who) > 1 else ():
                     score[at] -= len(others)
-        return self.wanted(score) if any(score) else None
+        return self.ordered(score) if any(score) else None
+
+    def alone(self, pair: Pair) -> dict[Key, float]:
+        """The serial order, with the second of two tasks before the first, and what it needs before both."""
+        return placed([self.tasks[at].key for at in self.moved([*range(len(self.tasks))], *reversed(pair))])
 
     def beside(self, pairs: Sequence[Pair]) -> tuple[dict[Key, float], list[Pair]]:
         """An order in which the tasks of pairs run one right behind the other, what they need before both, and the pairs of which that is so: at least the last."""

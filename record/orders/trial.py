@@ -9,7 +9,7 @@ from dataclasses import dataclass, field, replace
 from pathlib import Path
 from typing import Any, Optional
 
-from record.orders.builds import FLIPPED, ONE, SERIAL, Built, CannotTry, Plan, Room, Running, side_by_side
+from record.orders.builds import FLIPPED, ONE, OWN, SERIAL, Built, CannotTry, Plan, Room, Running, side_by_side
 from record.orders.gate import Key
 from record.orders.graph import Graph, Pair, pairs_of, placed, size
 from record.orders.trees import difference, differing, passing
@@ -58,23 +58,29 @@ class Trial:
     bases: set[int] = field(default_factory=set)  # with so many jobs the order of the serial build leaves the same
 
     def __post_init__(self) -> None:
-        self.turned = [0] * len(self.graph.tasks)  # for each recipe the earlier ones that have run behind it
+        self.left = self.graph.apart(self.after)  # pairs that no other order has tried yet: for each recipe the earlier ones
+        self.single = [*pairs_of(self.left)] if size(self.left) <= AT_ONCE else []  # those that are turned round alone
+        self.turned = [0] * len(self.graph.tasks)
         self.unstable: list[set[str]] = [set() for _ in self.serial]  # names in which serial builds differ
         self.passing: list[list[re.Pattern[str]]] = [[] for _ in self.serial]
 
-    @property
-    def left(self) -> list[int]:
-        """The pairs that no other order has tried yet: for each recipe the earlier ones."""
-        return [some & ~turned for some, turned in zip(self.graph.apart(self.after), self.turned)]
+    def expected(self) -> int:
+        """How many builds it will take if nothing differs, and each runs as its order says."""
+        orders = [self.graph.ordered(range(len(self.graph.tasks))), *self.each_alone()]
+        builds, left, known = 1 + len(orders) + len(self.one_by_one()), self.unturned(self.left, *orders), self.left
+        while any(left) and left != known and builds < self.most:
+            builds, left, known = builds + 1, self.unturned(left, self.graph.covering(left)), left
+        return builds
 
-    def orders(self) -> list[Plan]:
-        """What a look finds may depend on several: builds that turn round each pair alone, and where there are many, one in which all users come first. Where the
-        recorded build ran several recipes at once, also one with one job: make goes through targets in another order then."""
-        pairs = [pair[::-1] for pair in pairs_of(self.left)] if size(self.left) <= AT_ONCE else []
-        orders = [self.graph.beside([pair])[0] for pair in pairs] or filter(None, [self.graph.users_first()])
-        found = [Plan("alone%d" % number, places, after=self.after) for number, places in enumerate(orders)]
-        found += [Plan("one", placed(self.order), ONE, self.after)] * self.is_parallel  # guard: jobs-of-the-recorded-build
-        return found
+    def unturned(self, left: list[int], *orders: dict[Key, float]) -> list[int]:
+        """Those of some pairs that some orders do not turn round, where each build runs as its order says."""
+        for places in orders:
+            left = self.graph.behind(left, sorted(places, key=lambda key: -places[key]))
+        return left
+
+    def each_alone(self) -> list[dict[Key, float]]:
+        """What a look finds may depend on several: orders that turn round each pair alone, and where there are many, one in which all users come first."""
+        return [self.graph.alone(pair) for pair in self.single] if self.single else list(filter(None, [self.graph.users_first()]))
 
     def make(self, *plans: Plan) -> list[tuple[Built, Optional[Ended]]]:
         """Some builds that count, side by side, and how they ended where that is otherwise than the serial one."""
@@ -83,30 +89,39 @@ class Trial:
 
     def step(self, *plans: Plan) -> list[tuple[Built, Optional[Ended]]]:
         """The same of builds by which a difference is narrowed down; their copies go."""
-        return [(built, self.taken(built)) for built in side_by_side(self.room, plans)]
+        found = [(built, self.ended(built)) for built in side_by_side(self.room, plans)]
+        for plan in plans:
+            self.room.forget(plan)
+        return found
 
-    def begin(self, running: Running) -> tuple[Built, Optional[Ended]]:
-        """The second serial build, and the flipped one: those that ran beside the recorded build, where they count. `CannotTry` where the project cannot be built a
-        second time."""
-        flip = FLIPPED if running.children and not self.after else replace(FLIPPED, name="fixed", after=self.after)
-        if not running.children:
-            running.begin(SERIAL, flip)
+    def begin(self, running: Running) -> list[Plan]:
+        """The second serial build, and the flipped one: those that ran beside the recorded build, where they count. A flipped one that is still to be made.
+        `CannotTry` where the project cannot be built a second time."""
+        is_beside = bool(running.children)
+        flip = Plan("fixed" if is_beside and self.after else FLIPPED, self.graph.flipped(), after=self.after, is_recorded=True)  # what ends may still write into its folder
+        if not is_beside:
+            running.begin(Plan(SERIAL, {}, OWN), flip)
         elif self.after:  # it began before anybody knew the fixes
-            running.end(FLIPPED.name)
-            running.begin(flip)
-        again = running.result(SERIAL.name)
+            running.end(FLIPPED)
+        again = running.result(SERIAL)
         if again.status != 0 and not self.room.has_net:
             running.end()
-            self.room.forget(SERIAL)
+            self.room.forget(again.plan)
             self.room.has_net = True  # guard: builds-that-need-other-machines
             return self.begin(running)
         if again.status != 0:
             raise CannotTry("of a second serial build, in a copy: " + "; ".join(again.message()))
         self.compare(again)
-        self.room.forget(SERIAL)
-        built = running.result(flip.name)
-        self.builds += 2
-        return built, self.taken(built)
+        self.room.forget(again.plan)
+        self.builds += 1
+        if not running.children:
+            return [flip]
+        built = running.result(FLIPPED)
+        ended = self.ended(built)
+        self.room.forget(built.plan)
+        self.builds += 1
+        self.settle(replace(built, plan=flip), ended, is_beside)
+        return []
 
     def compare(self, again: Built) -> None:
         """Takes in another serial build."""
@@ -125,15 +140,9 @@ class Trial:
         return [(number, name) for number, (one, other) in enumerate(zip(self.serial, built.held)) for name in sorted(differing(one, other) - self.unstable[number])
                 if not any(it.fullmatch(name) for it in self.passing[number])]
 
-    def taken(self, built: Built) -> Optional[Ended]:
-        """How a build ended, where that is otherwise than the serial one, which of two builds the one with one job is. Recipes that the recorded build did not run
-        come and go, such as those of CMake's tries. Its copy goes."""
-        found = self.ended(built)
-        self.room.forget(built.plan)
-        return found
-
     def ended(self, built: Built) -> Optional[Ended]:
-        """The same, of a build whose copy is there."""
+        """How a build ended, where that is otherwise than the serial one, which of two builds the one with one job is. Recipes that the recorded build did not run
+        come and go, such as those of CMake's tries."""
         names = self.names(built)
         path = next((os.path.join(self.room.tops[number], name) for number, name in names), "")
         if built.status != 0:
@@ -150,23 +159,29 @@ class Trial:
         """A build that left the same clears what it turned round."""
         self.others += 1
         self.turned = [one | earlier for one, earlier in zip(self.turned, self.graph.turned(built.began))]
+        self.left = self.graph.behind(self.left, built.began)
 
-    def run(self, running: Running, say: Callable[[int], object]) -> None:
-        """All builds: the flipped one, others that say more, and those that cover what is left, as long as they turn round more. `say` takes how many follow."""
-        built, ended = self.begin(running)
-        plans = self.orders()
-        covers = self.covers(self.graph.behind(self.left, built.began))
-        say(len(plans + covers))
-        self.settle(built, ended, built.plan == FLIPPED)
-        self.try_all(plans + covers)
-        left = 0
-        while size(self.left) != left and self.goes_on:
+    def run(self, running: Running) -> None:
+        """All builds: the flipped one, that with one job, those in which one pair alone is turned, and those that cover what is left."""
+        plans = self.begin(running)
+        covers = [] if plans or not any(self.left) else [self.cover()]  # beside the others, where the flipped one has shown what is left
+        self.try_all(plans + covers + self.one_by_one() + [Plan("alone%d" % number, places, after=self.after) for number, places in enumerate(self.each_alone())])
+        left = size(self.left) + 1
+        while 0 < size(self.left) < left and self.goes_on:
             left = size(self.left)
-            self.try_all(self.covers(self.left))
+            self.try_all([self.cover()])
 
-    def covers(self, left: list[int]) -> list[Plan]:
-        """A build that turns round some pairs, where there are any."""
-        return [Plan("cover", self.graph.covering(left), after=self.after)] if any(left) else []
+    def one_by_one(self) -> list[Plan]:
+        """Where the recorded build ran several recipes at once, a build with one job: make goes through targets in another order then."""
+        return [Plan("one", placed(self.order), ONE, self.after)] if self.is_parallel else []  # guard: jobs-of-the-recorded-build
+
+    def cover(self) -> Plan:
+        """A build that turns round what no other has, and in which the rest runs side by side."""
+        places = self.graph.covering(self.left)
+        after = self.graph.kept_apart(self.left, places)
+        for late, early in self.after.items():
+            after.setdefault(late, set()).update(early)
+        return Plan("cover", places, after=after, at_once=os.cpu_count() or 1)
 
     def try_all(self, plans: Sequence[Plan]) -> None:
         """Makes builds, some at once."""
@@ -187,9 +202,9 @@ class Trial:
         """Takes in a build. What differs is narrowed down to two recipes, and the build made again where these keep the order of the serial one. `is_beside`: it
         ran beside the recorded build."""
         if ended is not None:
-            once, names, is_same = ended, self.names(built), built.plan.after == self.after  # else the fixes of another difference end this one
-            built, ended = self.made_again(replace(built.plan, after=self.after))
-            if ended is None and is_same and not is_beside:
+            once, names = ended, self.names(built)
+            built, ended = self.made_again(built.plan)
+            if ended is None and not is_beside:
                 self.doubt(once, names)  # guard: what-differs-once
         while ended is not None:
             found = self.narrow(built, ended)
@@ -199,7 +214,8 @@ class Trial:
             if found.first is None or found.second is None or not self.goes_on:
                 return
             self.after.setdefault(found.second, set()).add(found.first)
-            (built, ended), = self.make(replace(built.plan, name="again", after=self.after, is_recorded=False))
+            self.left = [one & other for one, other in zip(self.left, self.graph.apart(self.after))]
+            (built, ended), = self.make(Plan("again", built.plan.places, built.plan.jobs, self.after))
         self.note(built)
 
     def doubt(self, once: Ended, names: Sequence[tuple[int, str]]) -> None:
@@ -237,13 +253,15 @@ class Trial:
         return {*keys} in ({one.first, one.second} for one in self.shown) or any(one in self.after.get(other, ()) for one, other in (keys, keys[::-1]) if one and other)
 
     def made_again(self, plan: Plan) -> tuple[Built, Optional[Ended]]:
-        """Makes a build in which something differs again, and a serial one beside it: that shows what goes by the time. What another build has shown is no
-        difference any more, and neither is what the recorded build did meanwhile."""
-        again, built = side_by_side(self.room, [SERIAL, plan])
+        """Makes a build in which something differs again, one recipe at a time, and a serial one beside it: that shows what goes by the time. What another build
+        has shown is no difference any more, and neither is what the recorded build did meanwhile."""
+        again, built = side_by_side(self.room, [Plan(SERIAL, {}, OWN), replace(plan, at_once=1)])
         if again.status == 0:
             self.compare(again)  # guard: what-goes-by-the-time
-        self.room.forget(SERIAL)
-        return built, self.taken(built)
+        ended = self.ended(built)
+        for one in (again.plan, plan):
+            self.room.forget(one)
+        return built, ended
 
     def narrow(self, built: Built, ended: Ended) -> Shown:
         """The two recipes whose order makes a difference: of the orders between the serial one and that of a build, two that differ by one step."""

@@ -19,7 +19,7 @@ class Gates(unittest.TestCase):
     """Builds whose recipes wait."""
 
     def began(self, files: Dict[str, str], words: Sequence[str], place: Callable[[str], float] = lambda name: 0.0, after: Sequence["tuple[str, str]"] = (),
-              is_flipped: bool = False) -> List[List[str]]:
+              is_flipped: bool = False, at_once: int = 1) -> List[List[str]]:
         """The recipes as they began: of each the targets from the outermost make on."""
         top = Path(tempfile.mkdtemp(prefix="race-gate-"))
         self.addCleanup(shutil.rmtree, top)
@@ -29,7 +29,7 @@ class Gates(unittest.TestCase):
             def key(name: str) -> Key:
                 return ((folder, name, 1),)
 
-            gate = Gate(top, Places(place), {key(late): {key(early)} for late, early in after}, is_flipped)
+            gate = Gate(top, Places(place), {key(late): {key(early)} for late, early in after}, is_flipped, at_once)
             with gate.listen() as listener:
                 watch = Watch(str(top), str(top / "gate"))
                 watch.prepare(makes_of(os.environ["PATH"]))
@@ -62,6 +62,14 @@ class Gates(unittest.TestCase):
     def test_fixes(self) -> None:
         """One waits for another that it does not name."""
         self.assertEqual([["a"], ["b"]], self.began({"Makefile": "all: a b\na b: ; @echo $@\n"}, ["make", "-j9"], lambda name: "ab".index(name), [("b", "a")]))
+
+    def test_side_by_side(self) -> None:
+        """Two begin while the other runs, but not one that waits for them."""
+        wait = "@touch $@; for i in $$(seq 500); do test -e %s && exit; sleep 0.01; done; exit 1\n"
+        files = {"Makefile": "all: c d in e\na: ; %sb: ; %sc: a b\nc d: ; @touch $@\nin: ; @$(MAKE) -s -f in.mk\ne: ; @touch e\n" % (wait % "b", wait % "a"),
+                 "in.mk": "all: f g\nf: ; %sg: ; %s" % (wait % "g", wait % "f")}
+        found = self.began(files, ["make", "-j9"], lambda name: "cabde".find(name), [("d", "a")], at_once=3)
+        self.assertEqual(({"a", "b", "c", "d", "e", "in"}, True), ({key[0] for key in found}, found.index(["a"]) < found.index(["d"])))
 
     @unittest.skipUnless(os.geteuid() == 0, "needs root")
     def test_fixes_in_a_chroot(self) -> None:

@@ -37,6 +37,7 @@ class Graphs(unittest.TestCase):
     def test_pairs(self) -> None:
         graph = self.graph((None, [("a", [], [], []), ("b", [], [], []), ("c", ["a"], [], [])]))
         self.assertEqual(2, graph.pairs())
+        self.assertEqual(["c", "b", "a"], self.began(graph.flipped()))
 
     def test_makes_inside(self) -> None:
         """A recipe is ordered with those that run inside it, and those of two makes by the recipes around them."""
@@ -54,10 +55,10 @@ class Graphs(unittest.TestCase):
         self.assertEqual(places[("/p", "b", 1),], places[("/p", "b", 1), ("/p", "x", 1)])
 
     def test_covers(self) -> None:
-        """The order turns round what is wanted, as soon as what that needs is done."""
+        """The order turns round what is wanted, with what that needs first."""
         graph = self.graph((None, [("a", [], [], []), ("n", [], [], []), ("b", ["n"], [], []), ("c", [], [], [])]))
-        self.assertEqual(["b", "n", "c", "a"], self.began(graph.covering([0, 0, 1, 0])))
-        self.assertEqual(["n", "b", "a", "c"], self.began(graph.beside([(2, 0)])[0]))
+        self.assertEqual(["n", "b", "c", "a"], self.began(graph.covering([0, 0, 1, 0])))
+        self.assertEqual(["n", "b", "a", "c"], self.began(graph.alone((0, 2))))
 
     def test_parts(self) -> None:
         """A part of a recipe begins when that does, and what it runs is inside the recipe."""
