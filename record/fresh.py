@@ -117,7 +117,8 @@ class Copier:
         """One file, for `shutil.copytree`."""
         found = os.stat(source)
         if not stat.S_ISREG(found.st_mode):  # guard: nothing-that-cannot-be-copied
-            raise CannotClean("%s is no file, link or folder, and cannot be copied: remove it, or clean the project and record without --fresh" % os.path.realpath(source))
+            raise CannotClean("%s is no file, link or folder, and cannot be copied: remove it, or clean the project and record without --fresh"
+                              % os.path.realpath(source))
         key = found.st_dev, found.st_ino
         self.names[key] = self.names.get(key, found.st_nlink) - 1  # guard: name-outside-of-file-that-nobody-writes
         if key in self.copies:  # guard: two-names-of-file

@@ -31,7 +31,8 @@ def hints(ninjas: "List[Ninja]", names: Names) -> List[str]:
     for folder, stage in ((ninja.folder, stage) for ninja in ninjas for stage in ninja.stages):
         below = lru_cache(maxsize=None)(partial(below_statement, stage.manifest))
         made = {names.find(folder, path, True).path: edge for edge in stage.manifest.edges if not edge.is_phony for path in edge.makes()}
-        for kind, path, edge in ((kind, path, job.edge) for job in stage.jobs if job.edge is not None for kind, path in job.work.events if kind in "RSN" and path in made):
+        looks = [(kind, path, job.edge) for job in stage.jobs if job.edge is not None for kind, path in job.work.events if kind in "RSN"]
+        for kind, path, edge in (look for look in looks if look[1] in made):
             if edge.number not in below(made[path].number) and made[path].number not in below(edge.number):  # guard: none-where-it-waits
                 text = "%s looks for %s, which %s makes, and does not wait for it" % (edge.label, os.path.relpath(path, folder), made[path].label)
                 found[text] = min(found.get(text, 2), 0 if kind == "N" else 1)  # guard: absent-files-first

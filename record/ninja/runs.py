@@ -172,7 +172,8 @@ class Runs:
         ninja.stages.append(stage)
         try:
             stage.manifest = read_manifest(ninja.folder, ninja.file, partial(self.text_at, start))
-            self.read_dyndeps(stage.manifest, {act.path: act.place for act in ninja.life.acts if act.kind == "R" and start <= act.place < end})  # guard: what-dyndep-file-adds
+            reads = {act.path: act.place for act in ninja.life.acts if act.kind == "R" and start <= act.place < end}
+            self.read_dyndeps(stage.manifest, reads)  # guard: what-dyndep-file-adds
         except Unreadable as fault:
             stage.is_read = False
             ninja.is_tried = is_tried(ninja)  # guard: manifest-that-is-gone
