@@ -41,7 +41,7 @@ class NinjaTests:
     def test_forgotten(self) -> None:
         self.manifest(GEN + USE)
         self.record("ninja")
-        self.check(1, "CONFIRMED  all of a before g:\n", "a: line 1 is `none`, and `1` after a serial build", "fix: build a: sh || g",
+        self.check(1, "CONFIRMED  all of a before g:\n", "a: line 1 is `none`, and `1` after a serial build", "fix: build a: .. || g",
                    "not where the two ran in the order of the serial build")
 
     def test_the_fix_is_not_confirmed(self) -> None:

@@ -48,7 +48,7 @@ def named(name: str, outputs: str) -> str:
 
 
 CASES = [
-    Case("forgotten", RACE, GEN + sh("a", "", USE), ["RACE  g", "build.ninja:5  writes it", "fix: build a: sh || g"], races=1),
+    Case("forgotten", RACE, GEN + sh("a", "", USE), ["RACE  g", "build.ninja:5  writes it", "fix: build a: .. || g"], races=1),
     Case("explicit", SAFE, GEN + sh("a", "g", USE)),
     Case("implicit", SAFE, GEN + sh("a", "| g", USE)),
     Case("order-only", SAFE, GEN + sh("a", "|| g", USE)),

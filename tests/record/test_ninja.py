@@ -53,7 +53,7 @@ class Companions(unittest.TestCase):
             report = project.plain([str(support.TOP / "report" / "race-report"), "--race", support.race_program()])
             confirmed = project.plain([str(support.TOP / "confirm" / "race-confirm"), "--race", support.race_program()])
         self.assertIn("  fix: build a: .. || g          (checked: ends this race)\n", report.stdout.decode(), report.stderr.decode())
-        self.assertIn("All fixes, with these lines the build is safe (checked):\n    build a: sh || g\n", report.stdout.decode())
+        self.assertIn("All fixes, with these lines the build is safe (checked):\n    build a: .. || g\n", report.stdout.decode())
         self.assertIn("CONFIRMED  all of a before g:\n", (confirmed.stdout + confirmed.stderr).decode())
 
 
