@@ -68,7 +68,7 @@ Makefiles = makefiles(__name__, {
     "folder_with_a_quote": Small("race", QUOTE % "", {"q\"1/k": ""}),
     "folder_with_a_quote_in_order": Small("safe", QUOTE % " a", {"q\"1/k": ""}),
     # it looks on the disk, whatever it has listed before
-    "search_in_a_folder_that_goes": Small("no verdict", "X := $(wildcard d/*)\n" + AWAY + "x.o: | g\n", IN_FOLDER, says="no rule makes d/x.c", later="race", is_tried=True),
+    "search_in_a_folder_that_goes": Small("no verdict", "X := $(wildcard d/*)\n" + AWAY + "x.o: | g\n", IN_FOLDER, says="the build ended with status 2", later="race", is_tried=True),
     # what make looks for when it first considers a target, though what that needs is made later
     "search_below_a_second_rule": Small("race", "all: dc g\ndc:: ; sleep 0.2; touch dc\ndc:: sub/z.t ; touch dc\n" + TWO_RULES + "g: ; echo a > sub/z.a; touch g\n", {"sub/z.b": "b"}, is_tried=True),
     # the target itself
