@@ -26,6 +26,6 @@ class Texts(unittest.TestCase):
 
     def test_what_cannot_be_read_again(self) -> None:
         with tempfile.TemporaryDirectory() as room:
-            os.mkfifo(room + "/pipe")
-            for path in (room + "/pipe", room, room + "/no", "/dev/stdin", "/dev/fd/0", "/proc/self/status", "/x/../dev/stdin"):
+            os.symlink("/dev/null", room + "/device")
+            for path in (room + "/device", room, room + "/no", "/dev/stdin", "/dev/fd/0", "/proc/self/status", "/x/../dev/stdin"):
                 self.assertRaises(OSError, text_of, path)
