@@ -112,12 +112,6 @@ stat, lstat, readlink, listdir = asked(os.stat), asked(os.lstat), asked(os.readl
 
 
 @asked
-def processors() -> int:
-    """How many processors this process may use."""
-    return len(os.sched_getaffinity(0))
-
-
-@asked
 def read(path: str, size: int = -1) -> bytes:
     """What a file holds, or so many bytes of it."""
     with open(path, "rb") as file:

@@ -23,8 +23,6 @@ def add_granted(owners: Owners, assumed: Assumptions) -> None:
     for make in owners.makes:
         for job in (j for r in make.words.rounds for j in r.jobs):
             lucky(make.work.get(id(job)), job.target, assumed)
-        if make.is_called_for_one():
-            assumed.add("one-job", shown(make.life))  # guard: one-job-said
         for name in [*guile(make), *make.words.loaded]:
             assumed.add("loaded", name)  # guard: loaded-objects-said
     for _, second in at_once(make.life for make in owners.makes):

@@ -12,7 +12,6 @@ TEXTS = {
     "up-to-date": "builds start from this tree: targets that were up to date stay so",
     "configured": "builds start when ./configure has run: what it makes is there and up to date",
     "unasked": "builds have the same goals: recipes that nothing asked for are not judged",
-    "one-job": "makes that recipes call with -j1 are called so in each build",
     "luck": "processes that meet on a file come in this order in each build, though only a wait orders them that may have been luck",
     "orders": "recipes that nothing orders come to the same in either order, though one may see more of the other than which files there are and what they hold, such as their ages, and so may make itself, as by $(wildcard ..) and $(shell ..)",
     "sockets": "servers that processes talk to keep no files of the build; ports that they open are free; memory is shared by processes of one recipe alone",
@@ -49,7 +48,7 @@ TEXTS = {
 UNTRIED = ("luck", "orders")  # what nobody has tried out: with --strict it bars the yes
 # What builds in other orders try out, and the two serial builds among them.
 TRIED_OUT = ("serial", "ninja")
-OF_TREE = ("unasked", "one-job", "up-to-date", "configured")  # what is said of the goals and of the tree
+OF_TREE = ("unasked", "up-to-date", "configured")  # what is said of the goals and of the tree
 
 
 @dataclass

@@ -4,22 +4,18 @@ tried out in other orders."""
 import errno
 import os
 from dataclasses import dataclass, field
-from functools import cached_property
-from itertools import takewhile
 from typing import Container, Dict, Iterable, Iterator, List, Optional
 
 from record import machine
 from record.build.parts import divide
 from record.build.tasks import Job
 from record.build.work import Part, Tool, Work, written_by
-from record.commands.shelltext import shell_text
 from record.commands.system import OF_SYSTEM
 from record.make.asked import asked_in
 from record.make.words import Words, makefiles
 from record.trace.events import ENTERED, INSIDE, READ
 from record.trace.lives import Life
 
-ONE = "-j1"  # as MAKEFLAGS has it, whatever the words of make are
 OF_PROCESS = ("/dev/fd/", "/dev/std", "/proc/")  # how names begin that lead each process elsewhere
 
 
@@ -41,7 +37,6 @@ class Make(Tool):
     work: Dict[int, Work] = field(default_factory=dict)  # by id of the job
     by_links: bool = False  # it went by links: folders have other paths than its makefiles say
     left: List[Part] = field(default_factory=list)  # processes that its own calls leave running, as `$(shell a &)`
-    above: Optional["Make"] = None  # the make whose recipe calls it
 
     def known_text(self, name: str) -> Optional[str]:
         """What a makefile said when make read it; None where it is gone."""
@@ -54,25 +49,11 @@ class Make(Tool):
         """The patterns of names for which it looked in a folder; any name where nobody has heard them."""
         return ["*"] if self.words.is_deaf else [*asked_in(self.words.patterns, self.folder, folder, self.by_links)]  # guard: makes-with-glob-of-their-own
 
-    @cached_property
-    def flags(self) -> List[List[str]]:
-        """The words of MAKEFLAGS that are no macros, as each data base of it has them."""
-        return [value.partition(" -- ")[0].split() for one in self.words.rounds if one.base is not None for value in one.base.values.get("MAKEFLAGS", ())]
-
     def has_one_slot(self) -> bool:
-        """Whether it runs one job at a time whatever the user says: a recipe says so, or a ninja runs it, which hands no jobs on, no make is above, and it asks
-        for none itself."""
+        """Whether it runs one job at a time whatever the user says: a ninja runs it, which hands no jobs on, no make is above, and it asks for none itself."""
         above = {life.is_make for life in self.life.up() if life is not self.life and (life.is_make or life.is_ninja)}
-        return self.is_called_for_one() or above == {False} and bool(self.flags) and not any("j" in word for words in self.flags for word in words)  # guard: makes-that-ninja-runs
-
-    def is_called_for_one(self) -> bool:
-        """Whether a recipe calls it with -j1: the shell of the recipe, and no script or program, which may find a number; the make above was not called so; and
-        no count of processors is 1."""
-        if self.above is None or not self.flags or not all(ONE in words for words in self.flags) or any(ONE in words for words in self.above.flags):  # guard: j1-of-the-user
-            return False
-        ups = takewhile(lambda up: up is self.life or not (up.is_make or up.is_ninja), self.life.up())
-        words = [argv for up in ups for argv in (up.ran[:-1] if up is self.life else up.ran or [up.argv])]
-        return all(map(shell_text, words)) and machine.processors() > 1  # guard: numbers-that-programs-give
+        flags = [value for one in self.words.rounds if one.base is not None for value in one.base.values.get("MAKEFLAGS", ())]
+        return above == {False} and bool(flags) and not any("j" in value.partition(" -- ")[0] for value in flags)  # guard: makes-that-ninja-runs
 
 
 def beginning(make: Make, number: int) -> int:
@@ -136,7 +117,6 @@ class Owners:
         """One more make, with what it said; that it did not end, or failed, is a hole."""
         make = Make(words, life, self.folder_of(life, words))
         make.by_links = any(act.kind == READ and act.path in self.links and not OF_SYSTEM.match(act.path) for act in life.acts)
-        make.above = next((self.of_life.get(id(up)) for up in life.up() if up is not life and (up.is_make or up.is_ninja)), None)
         self.makes.append(make)
         self.of_life[id(life)] = make
         self.holes += ["a make did not end: make " + words.args] if words.status is None else []  # guard: make-that-did-not-end

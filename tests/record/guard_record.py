@@ -139,7 +139,6 @@ GUARDS: List[Guard] = [
     *guards("premises.py",
         ("statements-that-nothing-asked", "{}.update(((ninja.folder, edge.label), None) for edge in ninja.stages[-1].manifest.edges if not edge.is_phony and not edge.is_generator)",
          "ninja.Ninja.part", UNSAID),
-        ("one-job-said", "pass", "small.Makefiles.inner_make_of_one_job", UNSAID),
         ("loaded-objects-said", "pass", "premises.Loaded.function_that_writes_before_a_recipe", UNSAID),
         ("said", "pass", "premises.Makefiles.process_beside_make", UNSAID),
         ("another-language", "return []", "premises.Loaded.another_language", UNSAID),

@@ -39,7 +39,7 @@ SMALL: Dict[str, Small] = {
     "look_of_a_leaf": Small("safe", "all: t gen\nt: p ; touch t\ngen: ; echo x > p; touch gen\n", {"p": "p", "t": "t"}, OLD + "t"),
     "look_behind_its_writer": Small("race", "all: gen t\nt: p ; touch t\ngen: ; echo x > p; touch gen\n", {"p": "p", "t": "t"}, OLD + "t"),
     # numbers of jobs
-    "inner_make_of_one_job": Small("safe", "all: ; cd . && $(MAKE) -kj 1 -f in.mk\n", {"in.mk": IN_ORDER}, says="makes that recipes call with -j1 are called so in each build"),
+    "inner_make_of_one_job": Small("race", "JOBS = 1\nall: ; $(MAKE) -j$(JOBS) -f in.mk\n", {"in.mk": IN_ORDER}),
     "inner_make_of_two_jobs": Small("race", "all: ; $(MAKE) -j2 -f in.mk\n", {"in.mk": IN_ORDER}),
     "one_job_of_a_script": Small("race", "all: ; ./run\n", {"run": "#!/bin/sh\nmake -j 1 -f in.mk\n", "in.mk": IN_ORDER}, "chmod +x run"),
     "own_job_of_the_user": Small("race", "all: ; $(MAKE) -f in.mk\n", {"in.mk": IN_ORDER}),
