@@ -12,7 +12,7 @@ PATH = re.compile(rf"(?<![\w/.$~<>-])((?:{'|'.join(TOPS)}|[a-z_]+_tests|mk_[a-z]
 PLACEHOLDER = re.compile(r"(?<=/)(?:NAME|CRATE|N)\b")
 SUFFIXES = (".antt", ".rt", ".md", ".py")
 ITEM_PATH = re.compile(r"\b(mk_[a-z]+|[a-z]+_tests)((?:::\w+)+)")
-CRATE = re.compile(r"^(?:mk_[a-z]+|[a-z]+_tests|jobs_for_tests)$")
+CRATE = re.compile(r"^(?:mk_[a-z]+|[a-z]+_tests)$")
 METHOD = re.compile(r"^([A-Z]\w+)::(\w+)$")
 # Names that code alone has: words in camel case of two humps, and lower words with an underscore.
 CODE_NAME = re.compile(r"^(?:(?:[A-Z][a-z0-9]+){2,}|[a-z][a-z0-9]*(?:_[a-z0-9]+)+)$")

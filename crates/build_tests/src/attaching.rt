@@ -2,6 +2,7 @@
 ghost use Rattle.std.specs.Prelude.{◌<◌};
 ghost use Rattle.mk_jobs.specs.Jobs.{node_count};
 
+use crate::builds::input_of;
 use mk_foot::attaching::attach;
 use mk_foot::footprints::Footprints;
 use mk_foot::reading::read_footprints;
@@ -10,9 +11,9 @@ use mk_jobs::plan::Plan;
 use mk_name::fault::Halt;
 use mk_path::path::Path;
 use mk_path::spelling::is_text_of;
-use mk_race::input::Input;
 use mk_race::planning::{Planned, plan_of};
 use mk_rules::rulebook::Rulebook;
+use mk_text::listing::Listing;
 use mk_text::root::Root;
 use std::alloc::{AllocError, Global};
 
@@ -38,16 +39,8 @@ fn is_attached(alloc: Global) -> Result<bool, AllocError> {
 }
 
 fn jobs_of(alloc: Global) -> Result<Jobs, Halt> {
-    let input = Input {
-        root: b"/w",
-        operands: &[],
-        base: b"",
-        includes: &[],
-        makefile: MAKEFILE,
-        listing: b"a.c\nb.c\n",
-        footprints: b"",
-    };
-    match plan_of(alloc, &input) {
+    let listing = Listing::read(alloc, b"a.c\nb.c\n", &Root::read(alloc, b"/w")?)?;
+    match plan_of(alloc, &input_of(MAKEFILE), Ok(listing)) {
         Ok(Planned { book, plan, .. }) => attached(alloc, plan, &book),
         Err(halt) => Err(halt),
     }

@@ -9,14 +9,15 @@ ghost use Rattle.mk_sched.specs.Stored.{store_of};
 ghost use Rattle.mk_sched.specs.Stores.{AgreesWith};
 ghost use Rattle.mk_race.specs.Stages.{AreListed};
 
+use crate::builds::{Texts, build_of};
 use mk_decide::decision::{Verdict, decide};
 use mk_jobs::jobs::Jobs;
 use mk_log::log::Log;
 use mk_log::reading::read_log;
 use mk_log::writing::{are_of_nodes, write_log};
-use mk_race::input::Input;
-use mk_race::laws::jobs_are_listed;
-use mk_race::preparing::{Prepared, prepare};
+use mk_race::preparing::Prepared;
+use mk_race::unused::note_build;
+use mk_read::input::Build;
 use mk_sched::event::Event;
 use mk_sched::replay::replay;
 use mk_sched::serialising::{has_room, serialise};
@@ -25,11 +26,7 @@ use mk_text::listing::Listing;
 use std::alloc::Global;
 
 /// A program of two objects, each of a source of its own.
-static INPUT: Input<'static> = Input {
-    root: b"/w",
-    operands: &[],
-    base: b"",
-    includes: &[],
+static TEXTS: Texts<'static> = Texts {
     makefile: b"prog: a.o b.o\n\tcc\na.o: a.c\n\tcc\nb.o: b.c\n\tcc\n",
     listing: b"a.c\nb.c\n",
     footprints: br#"{"target":"prog","reads":["a.o","b.o"],"writes":["prog"]}
@@ -139,12 +136,17 @@ fn is_log_put_in_order(alloc: Global, prepared: &Prepared) -> bool
 }
 
 /// Whether it is on the jobs of this build.
-fn is_build_put_in_order(alloc: Global, input: &Input<'_>) -> bool {
-    match prepare(alloc, input) {
-        Ok(prepared) => {
-            jobs_are_listed();
-            is_log_put_in_order(alloc, &prepared)
-        }
+fn is_build_put_in_order(alloc: Global, build: Build<'_>) -> bool {
+    match note_build(alloc, build, false) {
+        Ok(noted) => is_log_put_in_order(alloc, &noted.prepared),
+        Err(_) => false,
+    }
+}
+
+/// Whether it is on the jobs of these texts.
+fn is_text_put_in_order(alloc: Global, texts: &Texts<'_>) -> bool {
+    match build_of(alloc, texts) {
+        Ok(build) => is_build_put_in_order(alloc, build),
         Err(_) => false,
     }
 }
@@ -152,5 +154,5 @@ fn is_build_put_in_order(alloc: Global, input: &Input<'_>) -> bool {
 #[test]
 fn a_run_in_serial_order(rt: HostRuntime) {
     let alloc = rt.alloc();
-    assert!(rt; is_build_put_in_order(alloc, &INPUT));
+    assert!(rt; is_text_put_in_order(alloc, &TEXTS));
 }

@@ -1,17 +1,12 @@
-//! Builds that are planned twice, for callers that hold the texts. The program asks the same of a listing and footprints that it
-//! reads in pieces, as cases show.
-use crate::builds::holds_of;
+//! Builds that are planned twice.
+use crate::builds::{Texts, build_of, holds_of, input_of, prepare};
+use mk_name::fault::Halt;
 use mk_race::fixing::{Fixing, fix_build};
-use mk_race::input::Input;
 use mk_race::missing::{MissingList, list_missing};
 use std::alloc::Global;
 
 /// The recipe of `a` reads what that of `b` writes, and does not say so.
-static RACE: Input<'static> = Input {
-    root: b"/w",
-    operands: &[],
-    base: b"",
-    includes: &[],
+static RACE: Texts<'static> = Texts {
     makefile: b"all: a b\na: ; x\nb: ; y\n",
     listing: b"",
     footprints: br#"{"target":"a","reads":["b"],"writes":["a"]}
@@ -20,6 +15,13 @@ static RACE: Input<'static> = Input {
 
 /// The lines of its fix, by which `a` comes first.
 static FIX: &[u8] = b"# race fix: lines 1\nb: a # writes b, which a reads before it\n";
+
+/// What comes of its fix.
+fn fixing_of(alloc: Global, texts: &Texts<'_>) -> Result<Fixing, Halt> {
+    let prepared = prepare(alloc, texts)?;
+    let build = build_of(alloc, texts)?;
+    fix_build(alloc, build, prepared.jobs)
+}
 
 /// Whether these lines fix it.
 fn is_fixed(_alloc: Global, fixing: &Fixing) -> bool {
@@ -32,7 +34,13 @@ fn is_fixed(_alloc: Global, fixing: &Fixing) -> bool {
 #[test]
 fn whole_texts_are_fixed(rt: HostRuntime) {
     let alloc = rt.alloc();
-    assert!(rt; holds_of(alloc, fix_build(alloc, &RACE), is_fixed));
+    assert!(rt; holds_of(alloc, fixing_of(alloc, &RACE), is_fixed));
+}
+
+/// What is missing of it.
+fn missing_of(alloc: Global, texts: &Texts<'_>) -> Result<MissingList, Halt> {
+    let prepared = prepare(alloc, texts)?;
+    list_missing(alloc, &input_of(texts.makefile), prepared)
 }
 
 /// Whether the race is listed, and what `a` does not declare: it reads a file that a node after it writes. A second build is planned alike.
@@ -46,5 +54,5 @@ fn is_listed(_alloc: Global, listed: &MissingList) -> bool {
 #[test]
 fn whole_texts_are_listed(rt: HostRuntime) {
     let alloc = rt.alloc();
-    assert!(rt; holds_of(alloc, list_missing(alloc, &RACE), is_listed));
+    assert!(rt; holds_of(alloc, missing_of(alloc, &RACE), is_listed));
 }

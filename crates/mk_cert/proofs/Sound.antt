@@ -15,7 +15,7 @@ use Rattle.mk_sched.specs.Sure.{HasTimes, surely_stale}
 use Rattle.mk_sched.proofs.OneRun.{own_file}
 use Rattle.mk_sched.proofs.Listing.{controls_report}
 use Rattle.mk_sched.proofs.Surely.{surely}
-use Rattle.mk_cert.specs.Traces.{Follows, event_of, past_of, time_at}
+use Rattle.mk_cert.specs.Traces.{FollowsSteps, event_of, past_of, time_at}
 use Rattle.mk_cert.specs.Sure.{surely_older, surely_fresh, is_ready, passes, all_pass}
 use Rattle.mk_cert.specs.Laws.{SurelyFresh, SureTraceHolds}
 use Rattle.mk_proof.specs.declared.step.Step.{Step}
@@ -116,7 +116,7 @@ pass_on jobs times first second past (step ∷ done) rest pass = pass_on jobs ti
     (and_parts (passes jobs times (phase past) step) (all_pass jobs times first second (event_of step ∷ past) (done ++ rest)) pass).1
 
 -- who follows the steps is in the phases that they say
-alike : {jobs : Jobs} {tie : Bool} {opening : Store} {past : List Event} {steps : List Step} → Follows jobs tie opening past steps → phase (past_of steps) ≡ phase past
+alike : {jobs : Jobs} {tie : Bool} {opening : Store} {past : List Event} {steps : List Step} → FollowsSteps jobs tie opening past steps → phase (past_of steps) ≡ phase past
 alike {past = past} follows = fun_ext (λ n. ap (λ (es : List Event). phase es n) (sym follows.steps_alone) ∙ controls_report past n)
 
 pub holds : SureTraceHolds

@@ -75,7 +75,7 @@ pub record Fits (jobs : Jobs) (times : List (ℕ × ℕ)) (opening : Store) : Ty
 
 -- a run of at most two nodes at a time whose skips, starts and finishes are these steps; between them it may look, put and
 -- erase at will
-pub record Follows (jobs : Jobs) (tie : Bool) (opening : Store) (past : List Event) (steps : List Step) : Type 0 where
+pub record FollowsSteps (jobs : Jobs) (tie : Bool) (opening : Store) (past : List Event) (steps : List Step) : Type 0 where
   pub run : IsRun jobs tie 2 opening past
   pub steps_alone : controls past ≡ past_of steps
 
@@ -87,9 +87,9 @@ pub record TraceHolds (jobs : Jobs) (trace : Trace) : Type 0 where
   pub listed : AreOfListed jobs trace.times
   pub allowed :
       (tie : Bool) (opening : Store) (past : List Event) (done : List Step) (next : Step) (rest : List Step)
-      → Fits jobs trace.times opening → trace.steps ≡ done ++ next ∷ rest → Follows jobs tie opening past done
+      → Fits jobs trace.times opening → trace.steps ≡ done ++ next ∷ rest → FollowsSteps jobs tie opening past done
       → May jobs tie 2 opening past (event_of next).node (event_of next).act
   pub both_run :
       (tie : Bool) (opening : Store) (past : List Event)
-      → Fits jobs trace.times opening → Follows jobs tie opening past trace.steps
+      → Fits jobs trace.times opening → FollowsSteps jobs tie opening past trace.steps
       → (phase past trace.first ≡ Running) × (phase past trace.second ≡ Running)

@@ -12,7 +12,7 @@ use Rattle.mk_jobs.proofs.Reaching.{turned_clash}
 use Rattle.mk_decide.specs.Chosen.{IsChosen}
 use Rattle.mk_proof.specs.Shapes.{ends_of, pair_cmp}
 use Rattle.mk_cert.specs.Certificates.{IsCertificate, IsChain}
-use Rattle.mk_decide.specs.Pairs.{ArePairs, IsRising, OnlyClashing}
+use Rattle.mk_decide.specs.Pairs.{ArePairs, OnlyClashing, PairsRise}
 use Rattle.mk_decide.specs.Neighbours.{AreNeighbours}
 use Rattle.mk_decide.specs.Short.{IsShortCertificate}
 use Rattle.mk_decide.specs.Verdicts.{AreChainsOf}
@@ -69,7 +69,7 @@ pub same_near : {jobs : Jobs} (pairs new : List (ℕ × ℕ)) → AreNeighbours 
 same_near pairs new near same a b = (λ there. (near a b).0 ((same a b).0 there), λ one. (same a b).1 ((near a b).1 one))
 
 -- chosen chains of all neighbours are a short certificate
-pub chains_short : (jobs : Jobs) (pairs : List (ℕ × ℕ)) (chains : List (List ℕ)) → IsWellFormed jobs → IsRising pairs → AreNeighbours jobs pairs → AreChainsOf jobs pairs chains
+pub chains_short : (jobs : Jobs) (pairs : List (ℕ × ℕ)) (chains : List (List ℕ)) → IsWellFormed jobs → PairsRise pairs → AreNeighbours jobs pairs → AreChainsOf jobs pairs chains
     → IsShortCertificate jobs chains
 chains_short jobs pairs chains shape rise near of = record {
   rise = subst (IsStrictlySortedBy pair_cmp) (sym of.ends) rise;

@@ -15,7 +15,7 @@ use Rattle.mk_jobs.proofs.JobsLemmas.{shape_valid}
 use Rattle.mk_decide.specs.Chosen.{AreLeastFrom, IsChosen}
 use Rattle.mk_proof.specs.Shapes.{IsShapedChain, ends_of, pair_cmp}
 use Rattle.mk_proof.proofs.Risen.{chain_shaped, pair_cmp_total, sorted_front}
-use Rattle.mk_decide.specs.Pairs.{ArePairs, IsRising, OnlyClashing}
+use Rattle.mk_decide.specs.Pairs.{ArePairs, OnlyClashing, PairsRise}
 use Rattle.mk_decide.specs.Races.{IsRace, IsLeastRace}
 
 pub least_edges : (jobs : Jobs) (a p : ℕ) (nodes : List ℕ) → AreLeastFrom jobs a p nodes → IsEdgeByEdge jobs p nodes
@@ -58,7 +58,7 @@ chosen_shaped jobs a b chain shape below chosen =
     subst IsShapedChain (sym chosen.is) (chain_shaped whole (omega arith) (omega (arith, last, chosen.ends, below, shape.few)) (rising jobs a (chosen.next ∷ chosen.nodes) (shape_valid shape) edges))
 
 -- the pairs so far rise
-pub front_rises : (pairs : List (ℕ × ℕ)) (i : ℕ) (a b : ℕ) → i < length pairs → (a, b) ≡ get_or pairs i (a, b) → IsRising pairs
+pub front_rises : (pairs : List (ℕ × ℕ)) (i : ℕ) (a b : ℕ) → i < length pairs → (a, b) ≡ get_or pairs i (a, b) → PairsRise pairs
     → IsStrictlySortedBy pair_cmp (take i pairs ++ (a, b) ∷ [])
 front_rises pairs i a b inside is rise =
     let whole : take (i + 1) pairs ++ drop (i + 1) pairs ≡ pairs = take-append-drop (i + 1) pairs in
@@ -84,7 +84,7 @@ split_then x y u v is = elim (cases_order x y) [
   | inr (inr more) ↦ let first : Greater ≡ nat_cmp x y = nat_cmp_is x y Greater more in let no : Greater ≡ Less = ap (λ o. ordering_then o (nat_cmp u v)) first ∙ is in cc
 ]
 
-pub later_pair : (pairs : List (ℕ × ℕ)) (i k : ℕ) (d : ℕ × ℕ) → IsRising pairs → i ≤ k → k < length pairs
+pub later_pair : (pairs : List (ℕ × ℕ)) (i k : ℕ) (d : ℕ × ℕ) → PairsRise pairs → i ≤ k → k < length pairs
     → ((get_or pairs i d).0 < (get_or pairs k d).0) ⊎ (((get_or pairs i d).0 ≡ (get_or pairs k d).0) × ((get_or pairs i d).1 ≤ (get_or pairs k d).1))
 later_pair pairs i k d rise from inside = elim (cases_lt i k) [
   | inl less ↦ split_then _ _ _ _ (Less-from_sorted pair_cmp pairs i k d rise less inside)

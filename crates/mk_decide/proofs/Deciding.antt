@@ -25,7 +25,7 @@ use Rattle.mk_cert.proofs.Sound.{holds}
 use Rattle.mk_decide.specs.declared.decision.Verdict.{Verdict}
 use Rattle.mk_decide.specs.declared.decision.Verdict.TheVariants.{Safe, Race}
 use Rattle.mk_decide.specs.Decisions.{IfRace, IsSafe, IsVerdict}
-use Rattle.mk_decide.specs.Pairs.{ArePairs, HasFewPairs, HasManyPairs, IsRising, OnlyClashing}
+use Rattle.mk_decide.specs.Pairs.{ArePairs, HasFewPairs, HasManyPairs, OnlyClashing, PairsRise}
 use Rattle.mk_decide.specs.Races.{HasLeastRace, IsLeastRace}
 use Rattle.mk_decide.specs.ShortVerdicts.{IsShortVerdict}
 use Rattle.mk_decide.proofs.Paired.{pair_equal, pair_ties}
@@ -77,7 +77,7 @@ short_from_one_run jobs (Safe chains) shape is safe = from_one_run jobs (shape_v
 short_from_one_run jobs (Race trace) shape is safe = absurd safe
 
 -- a list of pairs that has all of another is as long at least
-no_longer : (some all : List (ℕ × ℕ)) → IsRising some → ((p : ℕ × ℕ) → Contains some p → Contains all p) → length some ≤ length all
+no_longer : (some all : List (ℕ × ℕ)) → PairsRise some → ((p : ℕ × ℕ) → Contains some p → Contains all p) → length some ≤ length all
 no_longer some all rise there =
     let same : (p q : ℕ × ℕ) → Decides (eq_by_cmp pair_cmp p q) (p ≡ q) = λ p q. (
       λ ties. pair_equal p q (pair_ties p q ∙ ties),

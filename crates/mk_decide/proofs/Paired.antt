@@ -17,7 +17,7 @@ use Rattle.mk_jobs.proofs.Reaching.{clash_is_reach}
 use Rattle.mk_jobs.proofs.JobsLemmas.{clash_live}
 use Rattle.mk_index.specs.Uses.{Reaches}
 use Rattle.mk_jobs.specs.Reaching.{uses_of}
-use Rattle.mk_decide.specs.Pairs.{ArePairs, HasManyPairs, Holds, IsRising, OnlyClashing, pair_limit}
+use Rattle.mk_decide.specs.Pairs.{ArePairs, HasManyPairs, Holds, OnlyClashing, PairsRise, pair_limit}
 use Rattle.mk_proof.specs.Shapes.{pair_cmp}
 
 -- one pair more that clashes
@@ -57,7 +57,7 @@ clash_held jobs pairs a b shape all less clash =
 
 -- the same pairs in order are those that clash
 pub pairs_are : (jobs : Jobs) (pairs new : List (ℕ × ℕ)) → IsWellFormed jobs → OnlyClashing jobs pairs → AllHeld jobs pairs (node_count jobs)
-    → IsRising new → ((a b : ℕ) → Contains new (a, b) ↔ Contains pairs (a, b)) → ArePairs jobs new
+    → PairsRise new → ((a b : ℕ) → Contains new (a, b) ↔ Contains pairs (a, b)) → ArePairs jobs new
 pairs_are jobs pairs new shape only all rise same = record {
   rise = rise;
   clash = λ a b. (
@@ -97,7 +97,7 @@ halts_more P Q R halts.Memory more h = tt
 halts_more P Q R (halts.Fault fault) more h = (h.0, more h.1)
 
 -- pairs in order, more than there may be
-pub many_are : {jobs : Jobs} (pairs new : List (ℕ × ℕ)) → OnlyClashing jobs pairs → IsRising new → ((a b : ℕ) → Contains new (a, b) ↔ Contains pairs (a, b))
+pub many_are : {jobs : Jobs} (pairs new : List (ℕ × ℕ)) → OnlyClashing jobs pairs → PairsRise new → ((a b : ℕ) → Contains new (a, b) ↔ Contains pairs (a, b))
     → pair_limit < length new → HasManyPairs jobs
 many_are pairs new only rise same many = record { pairs = new; rise = rise; clash = λ a b there. only a b ((same a b).0 there); many = many }
 

@@ -13,12 +13,12 @@ abbrev pub pair_limit : ℕ
 pair_limit = most_chains
 
 -- each pair comes before those after it
-abbrev pub IsRising : List (ℕ × ℕ) → Type 0
-IsRising pairs = IsStrictlySortedBy pair_cmp pairs
+abbrev pub PairsRise : List (ℕ × ℕ) → Type 0
+PairsRise pairs = IsStrictlySortedBy pair_cmp pairs
 
 -- all pairs of nodes that clash, each once, the smaller number first, in order
 pub record ArePairs (jobs : Jobs) (pairs : List (ℕ × ℕ)) : Type 0 where
-  pub rise : IsRising pairs
+  pub rise : PairsRise pairs
   pub clash : (a b : ℕ) → Contains pairs (a, b) ↔ ((a < b) × Clash jobs a b)
 
 -- in each pair the numbers rise and the nodes clash
@@ -34,7 +34,7 @@ pub record HasFewPairs (jobs : Jobs) : Type 0 where
 -- more pairs clash than may
 pub record HasManyPairs (jobs : Jobs) : Type 0 where
   pub pairs : List (ℕ × ℕ)
-  pub rise : IsRising pairs
+  pub rise : PairsRise pairs
   pub clash : OnlyClashing jobs pairs
   pub many : pair_limit < length pairs
 

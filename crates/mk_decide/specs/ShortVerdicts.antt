@@ -5,7 +5,7 @@ use Rattle.mk_decide.specs.declared.decision.Verdict.{Verdict}
 use Rattle.mk_decide.specs.declared.decision.Verdict.TheVariants.{Safe, Race}
 use Rattle.mk_decide.specs.LeastTraces.{IsOfLeastRace}
 use Rattle.mk_decide.specs.Neighbours.{AreNeighbours}
-use Rattle.mk_decide.specs.Pairs.{IsRising, pair_limit}
+use Rattle.mk_decide.specs.Pairs.{PairsRise, pair_limit}
 use Rattle.mk_decide.specs.Short.{IsShortCertificate}
 use Rattle.mk_decide.specs.Verdicts.{AreChainsOf}
 
@@ -14,7 +14,7 @@ pub record AreSafeByShort (jobs : Jobs) (chains : List (List ℕ)) : Type 0 wher
   pub race_free : IsRaceFree jobs
   pub certificate : IsShortCertificate jobs chains
   pub pairs : List (ℕ × ℕ)
-  pub rise : IsRising pairs
+  pub rise : PairsRise pairs
   pub near : AreNeighbours jobs pairs
   pub chains_are : AreChainsOf jobs pairs chains
 
@@ -22,7 +22,7 @@ pub record AreSafeByShort (jobs : Jobs) (chains : List (List ℕ)) : Type 0 wher
 pub record HasManyNeighbours (jobs : Jobs) : Type 0 where
   pub race_free : IsRaceFree jobs
   pub pairs : List (ℕ × ℕ)
-  pub rise : IsRising pairs
+  pub rise : PairsRise pairs
   pub near : AreNeighbours jobs pairs
   pub many : pair_limit < length pairs
 

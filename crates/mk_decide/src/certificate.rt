@@ -7,7 +7,7 @@ ghost use Rattle.mk_jobs.specs.Jobs.{node_count};
 ghost use Rattle.mk_jobs.specs.Shape.{IsWellFormed};
 ghost use Rattle.mk_decide.specs.Chosen.{IsChosen};
 ghost use Rattle.mk_proof.specs.Shapes.{ends_of, most_chains, pair_cmp};
-ghost use Rattle.mk_decide.specs.Pairs.{ArePairs, IsRising, OnlyClashing};
+ghost use Rattle.mk_decide.specs.Pairs.{ArePairs, OnlyClashing, PairsRise};
 ghost use Rattle.mk_decide.specs.Races.{IsLeastRace};
 ghost use Rattle.mk_decide.specs.Verdicts.{AreChainsOf};
 
@@ -50,7 +50,7 @@ pub(crate) fn certificate_of<B: Before>(
     requires same { B.jobs before.old ≡ jobs.now }
     requires few { length pairs.now ≤ most_chains }
     requires shape { IsWellFormed jobs.now }
-    requires rise { IsRising pairs.now }
+    requires rise { PairsRise pairs.now }
     requires clash { OnlyClashing jobs.now pairs.now }
     requires ordered { All (λ pair. spec.Before jobs.now pair.0 pair.1) pairs.now }
     ensures chains { IfOk result (λ chains. AreChainsOf jobs.now pairs.now chains) }

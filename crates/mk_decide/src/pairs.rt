@@ -6,7 +6,7 @@ ghost use Rattle.mk_jobs.specs.Jobs.{node_count};
 ghost use Rattle.mk_jobs.specs.Shape.{IsWellFormed};
 ghost use Rattle.mk_index.specs.Uses.{Reaches};
 ghost use Rattle.mk_jobs.specs.Reaching.{uses_of};
-ghost use Rattle.mk_decide.specs.Pairs.{ArePairs, HasManyPairs, Holds, IsRising, OnlyClashing, pair_limit, too_many};
+ghost use Rattle.mk_decide.specs.Pairs.{ArePairs, HasManyPairs, Holds, OnlyClashing, PairsRise, pair_limit, too_many};
 
 use crate::marks::{next_bit, row_of};
 use mk_jobs::jobs::Jobs;
@@ -73,7 +73,7 @@ fn add_pairs(jobs: &Jobs, pairs: &mut Vec<(u32, u32)>, b: u32) -> Result<(), All
 /// Drops pairs that stand there twice, and brings the others in order. Where more than `PAIR_LIMIT` are left the fault is
 /// that of too many pairs.
 pub(crate) fn thin(alloc: Global, pairs: &mut Vec<(u32, u32)>) -> Result<(), Halt>
-    ensures rising { IsRising pairs.new.items }
+    ensures rising { PairsRise pairs.new.items }
     ensures same { (a b : ℕ) → Contains pairs.new.items (a, b) ↔ Contains pairs.old.items (a, b) }
     ensures few { OnOk result (length pairs.new.items ≤ pair_limit) }
     ensures many { IfErr result (λ halt.

@@ -1,5 +1,5 @@
 -- Marks of nodes, and of all that they stand behind.
-use Rattle.std.proofs.Common.{ℕ, ◌≡◌, ◌≢◌, ◌∙◌, ◌<◌, ◌≤◌, Bool, true, false, List, [], ◌∷◌, Option, None, Some, arith, get_or, length, map, replicate, set, refl, sym, ap, subst, inl, inr}
+use Rattle.std.proofs.Common.{ℕ, ◌≡◌, ◌≢◌, ◌∙◌, ◌<◌, ◌≤◌, Bool, true, false, List, [], ◌∷◌, Option, None, Some, arith, get_or, length, replicate, set, refl, sym, ap, subst, inl, inr}
 use Rattle.std.specs.Prelude.{◌&&◌, ◌||◌, find, nat_eq, not}
 use Rattle.std.specs.List.{list_any}
 use Rattle.std.specs.Option.{option_map_or}
@@ -13,7 +13,7 @@ use Rattle.mk_jobs.proofs.Numberings.{number_some}
 use Rattle.mk_jobs.specs.Plan.{NeedsStandBefore, Node, names_of}
 use Rattle.mk_due.specs.Awaited.{first_early, is_early, is_made, needs_at, with_needs}
 use Rattle.mk_due.specs.Good.{AreBelow}
-use Rattle.mk_due.specs.Items.{Item, nodes_of}
+use Rattle.mk_due.specs.Items.{DueItem, nodes_of}
 
 pub or_false : (b : Bool) → (b || false) ≡ b
 or_false true = refl
@@ -58,17 +58,17 @@ pub unmarked_needs : (m b : Bool) (old : Bool) → m ≡ false → old ≡ (old 
 unmarked_needs m b old is = sym (ap (λ t. old || (t && b)) is ∙ or_false old)
 
 -- what a node of items stands behind, and whether it is made
-pub needs_are : (items : List Item) (n : ℕ) (d : Item) → n < length items → needs_at (nodes_of items) n ≡ (get_or items n d).node.prerequisites
+pub needs_are : (items : List DueItem) (n : ℕ) (d : DueItem) → n < length items → needs_at (nodes_of items) n ≡ (get_or items n d).node.prerequisites
 needs_are items n d inside =
-    let long : n < length (nodes_of items) = subst (λ k. n < k) (sym (length-map items (λ (item : Item). item.node))) inside in
+    let long : n < length (nodes_of items) = subst (λ k. n < k) (sym (length-map items (λ (item : DueItem). item.node))) inside in
     get_or-map (λ (node : Node). node.prerequisites) (nodes_of items) n d.node [] long
-    ∙ ap (λ (node : Node). node.prerequisites) (get_or-map (λ (item : Item). item.node) items n d d.node inside)
+    ∙ ap (λ (node : Node). node.prerequisites) (get_or-map (λ (item : DueItem). item.node) items n d d.node inside)
 
-pub made_is : (items : List Item) (n : ℕ) (d : Item) → n < length items → is_made (nodes_of items) n ≡ has_commands (get_or items n d).node.maker
+pub made_is : (items : List DueItem) (n : ℕ) (d : DueItem) → n < length items → is_made (nodes_of items) n ≡ has_commands (get_or items n d).node.maker
 made_is items n d inside =
-    let long : n < length (nodes_of items) = subst (λ k. n < k) (sym (length-map items (λ (item : Item). item.node))) inside in
+    let long : n < length (nodes_of items) = subst (λ k. n < k) (sym (length-map items (λ (item : DueItem). item.node))) inside in
     get_or-map (λ (node : Node). has_commands node.maker) (nodes_of items) n d.node false long
-    ∙ ap (λ (node : Node). has_commands node.maker) (get_or-map (λ (item : Item). item.node) items n d d.node inside)
+    ∙ ap (λ (node : Node). has_commands node.maker) (get_or-map (λ (item : DueItem). item.node) items n d d.node inside)
 
 -- one node less to go down
 pub down : (nodes : List Node) (n k : ℕ) (old new : ℕ → Bool) → ((p : ℕ) → new p ≡ (old p || (old n && has nat_eq (needs_at nodes n) p)))
@@ -112,28 +112,28 @@ has_at [] k d inside = absurd (omega (arith, inside))
 has_at (x ∷ xs) ℕ.zero d inside = or_left (nat_eq x x) (has nat_eq xs x) (nat_is_exact.itself x)
 has_at (x ∷ xs) (ℕ.suc k) d inside = or_right (nat_eq x (get_or xs k d)) (has nat_eq xs (get_or xs k d)) (has_at xs k d (omega (arith, inside)))
 
-pub needs_below : (items : List Item) (n bound : ℕ) (d : Item) → NeedsStandBefore (nodes_of items) → n < length items → n ≤ bound
+pub needs_below : (items : List DueItem) (n bound : ℕ) (d : DueItem) → NeedsStandBefore (nodes_of items) → n < length items → n ≤ bound
     → AreBelow bound (get_or items n d).node.prerequisites
 needs_below items n bound d behind inside within = λ k e at.
     let needs = (get_or items n d).node.prerequisites in
-    let long : n < length (nodes_of items) = subst (λ k. n < k) (sym (length-map items (λ (item : Item). item.node))) inside in
-    let same : (get_or (nodes_of items) n d.node).prerequisites ≡ needs = ap (λ (node : Node). node.prerequisites) (get_or-map (λ (item : Item). item.node) items n d d.node inside) in
+    let long : n < length (nodes_of items) = subst (λ k. n < k) (sym (length-map items (λ (item : DueItem). item.node))) inside in
+    let same : (get_or (nodes_of items) n d.node).prerequisites ≡ needs = ap (λ (node : Node). node.prerequisites) (get_or-map (λ (item : DueItem). item.node) items n d d.node inside) in
     let less = behind n (get_or needs k e) d.node long (subst (λ (ps : List ℕ). has nat_eq ps (get_or needs k e) ≡ true) (sym same) (has_at needs k e at)) in
     omega (arith, less, within)
 
 -- whether a file is early whose number is known
-pub early_is : (items : List Item) (names : List Name) (test : ℕ → Bool) (x : Name) (n : ℕ) (d : Item) → names ≡ names_of (nodes_of items)
+pub early_is : (items : List DueItem) (names : List Name) (test : ℕ → Bool) (x : Name) (n : ℕ) (d : DueItem) → names ≡ names_of (nodes_of items)
     → number_of names x ≡ Some n → is_early (nodes_of items) test x ≡ (has_commands (get_or items n d).node.maker && not (test n))
 early_is items names test x n d are is =
     let there : number_of (names_of (nodes_of items)) x ≡ Some n = ap (λ ns. number_of ns x) (sym are) ∙ is in
     let below = (number_some (names_of (nodes_of items)) x n there).0 in
     let inside : n < length items =
-    subst (λ k. n < k) (length-map (nodes_of items) (λ (node : Node). node.name) ∙ length-map items (λ (item : Item). item.node)) below in
+    subst (λ k. n < k) (length-map (nodes_of items) (λ (node : Node). node.name) ∙ length-map items (λ (item : DueItem). item.node)) below in
     ap (λ o. option_map_or (λ n. is_made (nodes_of items) n && not (test n)) o false) there ∙ ap (λ b. b && not (test n)) (made_is items n d inside)
 
 -- marks of nodes that are waited for
-pub same_early : (items : List Item) (marks : List Bool) (waits : List ℕ) (needs : List Name) → ((n : ℕ) → get_or marks n false ≡ has nat_eq waits n)
+pub same_early : (items : List DueItem) (marks : List Bool) (waits : List ℕ) (needs : List Name) → ((n : ℕ) → get_or marks n false ≡ has nat_eq waits n)
     → find (is_early (nodes_of items) (with_needs (nodes_of items) (length items) (λ n. get_or marks n false))) needs ≡ first_early (nodes_of items) waits needs
 same_early items marks waits needs same =
     ap (λ (t : ℕ → Bool). find (is_early (nodes_of items) (with_needs (nodes_of items) (length items) t)) needs) (λ i n. same n i)
-    ∙ ap (λ k. find (is_early (nodes_of items) (with_needs (nodes_of items) k (has nat_eq waits))) needs) (sym (length-map items (λ (item : Item). item.node)))
+    ∙ ap (λ k. find (is_early (nodes_of items) (with_needs (nodes_of items) k (has nat_eq waits))) needs) (sym (length-map items (λ (item : DueItem). item.node)))

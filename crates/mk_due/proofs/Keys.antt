@@ -13,7 +13,7 @@ use Rattle.mk_foot.specs.Json.{value_of}
 use Rattle.mk_task.proofs.Apart.{map_some, said_plain, then_some}
 use Rattle.mk_task.specs.Lines as tasks
 use Rattle.mk_due.specs.Good.{IsNamedLine}
-use Rattle.mk_due.specs.Lines.{Due, Line, due_in, line_in, line_of}
+use Rattle.mk_due.specs.Lines.{Due, DueLine, due_in, line_in, line_of}
 
 some_of : {A : Type 0} (x y : A) → Some x ≡ Some y → x ≡ y
 some_of x y e = cc
@@ -60,10 +60,10 @@ some_mapped f None = refl
 some_mapped f (Some a) = refl
 
 -- a line that is read has paths with names
-pub line_named : (root text : List ℕ) (line : Line) → line_of root text ≡ Some line → IsNamedLine line.task
+pub line_named : (root text : List ℕ) (line : DueLine) → line_of root text ≡ Some line → IsNamedLine line.task
 line_named root text line is =
     let object = then_some (line_in root) (value_of text) line is in
-    let task = then_some (λ (task : tasks.Line). option_map (λ (due : Option Due). record { task = task; due = due }) (due_in root object.0)) (tasks.line_in root object.0) line object.2 in
+    let task = then_some (λ (task : tasks.TaskLine). option_map (λ (due : Option Due). record { task = task; due = due }) (due_in root object.0)) (tasks.line_in root object.0) line object.2 in
     let due = map_some (λ (due : Option Due). record { task = task.0; due = due }) (due_in root object.0) line task.2 in
     let plain = said_plain root object.0 task.0 task.1 in
-    subst (λ (l : Line). IsNamedLine l.task) due.2 (record { reads = plain.reads_named; writes = plain.writes_named })
+    subst (λ (l : DueLine). IsNamedLine l.task) due.2 (record { reads = plain.reads_named; writes = plain.writes_named })

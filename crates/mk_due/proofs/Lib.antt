@@ -2,7 +2,10 @@ pub mod Adding
 pub mod Awaiting
 pub mod Keys
 pub mod Leaves
+pub mod LineByLine
 pub mod Numbering
+pub mod RanAgain
+pub mod Runs
 pub mod Shaped
 pub mod Taken
 pub mod Waiting

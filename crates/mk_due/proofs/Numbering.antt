@@ -1,12 +1,13 @@
 -- Numbers of nodes: those of tasks, and which are below a bound.
 use Rattle.std.proofs.Common.{ℕ, ◌≡◌, ◌∙◌, ◌<◌, ◌≤◌, ◌+◌, Bool, true, false, cond, List, [], ◌∷◌, ◌++◌, Option, None, Some, Result, Ok, Err, arith, length, refl, sym, ap, subst, inl, inr}
-use Rattle.std.specs.Prelude.{◌&&◌, ◌||◌, fold, is_some, nat_eq, not, IsTrue}
+use Rattle.std.specs.Prelude.{◌&&◌, ◌||◌, find, fold, is_none, is_some, nat_eq, not, IsTrue}
 use Rattle.std.specs.BTreeSet.{insert_key}
 use Rattle.std.specs.Cmp.{unsigned_ties}
 use Rattle.std.specs.Cmp.Lexicographic.{slice_cmp, texts_ties}
-use Rattle.std.specs.List.{cons_option, filter_map, list_any, position_from}
+use Rattle.std.specs.List.{All, cons_option, filter_map, list_any, position_from}
+use Rattle.std.specs.Option.{option_map_or}
 use Rattle.std.specs.Ordering.{is_eq, nat_cmp}
-use Rattle.std.proofs.lemmas.Bool.{and_parts, both_ways, cases_Bool, cond-true, cond-false, or_cases}
+use Rattle.std.proofs.lemmas.Bool.{and_parts, both_ways, cases_Bool, cond-true, cond-false, or_cases, or_left, or_right}
 use Rattle.std.proofs.lemmas.Cmp.{nat_eq_equiv}
 use Rattle.std.proofs.lemmas.Iterator.Adapters.{position_from-zero}
 use Rattle.std.proofs.lemmas.List.{length-map}
@@ -21,9 +22,9 @@ use Rattle.mk_jobs.specs.Jobs.{has_commands}
 use Rattle.mk_jobs.specs.Numbered.{number_of}
 use Rattle.mk_jobs.specs.Plan.{nobody}
 use Rattle.mk_jobs.proofs.Numberings.{number_some}
-use Rattle.mk_task.specs.Tasks.{on_number, reported}
+use Rattle.mk_task.specs.Tasks.{reported}
 use Rattle.mk_due.specs.Good.{AreBelow, IsNew}
-use Rattle.mk_due.specs.Items.{Item, is_task, names_of, numbers_of, others, task_number, waits_from}
+use Rattle.mk_due.specs.Items.{DueItem, is_task, names_of, numbers_of, others, task_number, waits_among}
 
 -- the first place of a test in a list with one item more
 module _ {X : Type 0} (test : X → Bool) where
@@ -43,11 +44,11 @@ none_of : (o : Option ℕ) → is_some o ≡ false → o ≡ None
 none_of None h = refl
 none_of (Some n) h = absurd (both_ways _ h refl)
 
-number_from : (items : List Item) (label : Name) → task_number items label ≡ position_from (is_task label) 0 items
+number_from : (items : List DueItem) (label : Name) → task_number items label ≡ position_from (is_task label) 0 items
 number_from items label = position_from-zero (is_task label) items
 
 -- the number of a task behind one item more, whose label is new
-pub task_push : (items : List Item) (item : Item) (label : Name) → IsNew items item.label
+pub task_push : (items : List DueItem) (item : DueItem) (label : Name) → IsNew items item.label
     → task_number (items ++ item ∷ []) label ≡ cond (is_task label item) (Some (length items)) (task_number items label)
 task_push items item label new = elim (cases_Bool (is_task label item)) [
   | inl task ↦
@@ -62,52 +63,59 @@ task_push items item label new = elim (cases_Bool (is_task label item)) [
 ]
 
 -- with one item more that is no task the same tasks are there
-pub new_push : (items : List Item) (item : Item) (label : Name) → has_commands item.node.maker ≡ false → IsNew items label
+pub new_push : (items : List DueItem) (item : DueItem) (label : Name) → has_commands item.node.maker ≡ false → IsNew items label
     → IsNew (items ++ item ∷ []) label
 new_push items item label idle new =
     ap is_some (number_from (items ++ item ∷ []) label
     ∙ from_other (is_task label) 0 items item (ap (λ b. b && same_name item.label label) idle) ∙ sym (number_from items label)) ∙ new
 
-task_below : (items : List Item) (label : Name) (n : ℕ) → task_number items label ≡ Some n → n < length items
+task_below : (items : List DueItem) (label : Name) (n : ℕ) → task_number items label ≡ Some n → n < length items
 task_below items label n is = (position-Some (is_task label) items n (record { label = label; place = 0; reads = []; writes = []; node = nobody }) is).0
 
--- what is known of the numbers of tasks
-on_below : (place : ℕ) (items : List Item) (numbers : List ℕ) (x : Name) (after : List Name) (waits : List ℕ)
-    → ((more : List ℕ) → waits_from place items more after ≡ Ok waits → AreBelow (length items) more → AreBelow (length items) waits)
-    → (o : Option ℕ) → task_number items x ≡ o → on_number (reported UnknownTask place (x ∷ [])) (λ n. waits_from place items (insert_key nat_cmp numbers n) after) o ≡ Ok waits
-    → AreBelow (length items) numbers → AreBelow (length items) waits
-on_below place items numbers x after waits further None e is below = absurd (let g : ◌≡◌ {A = Result (List ℕ) Reported} (Err (reported UnknownTask place (x ∷ []))) (Ok waits) = is in cc)
-on_below place items numbers x after waits further (Some n) e is below =
-    further (insert_key nat_cmp numbers n) is (All-insert_key nat_cmp n (λ k. k < length items) numbers below (task_below items x n e))
+-- what holds of the numbers that are found, and of others, holds of these put among the others
+pub found_all : (f : Name → Option ℕ) (P : ℕ → Type 0) (some : List Name) (numbers : List ℕ) → ((x : Name) (n : ℕ) → has same_name some x ≡ true → f x ≡ Some n → P n)
+    → All P numbers → All P (fold (insert_key nat_cmp) numbers (filter_map f some))
+found_all f P [] numbers each all = all
+found_all f P (x ∷ some) numbers each all = by (f x) refl (λ more. found_all f P some more (λ y n later is. each y n (or_right (same_name x y) _ later) is))
+  where
+    by : (o : Option ℕ) → f x ≡ o → ((more : List ℕ) → All P more → All P (fold (insert_key nat_cmp) more (filter_map f some)))
+        → All P (fold (insert_key nat_cmp) numbers (cons_option o (filter_map f some)))
+    by None e later = later numbers all
+    by (Some n) e later = later (insert_key nat_cmp numbers n) (All-insert_key nat_cmp n P numbers all (each x n (or_left (same_name x x) _ (name_is_exact.itself x)) e))
 
-waits_more : (place : ℕ) (items : List Item) (numbers : List ℕ) (after : List Name) (waits : List ℕ) → waits_from place items numbers after ≡ Ok waits
-    → AreBelow (length items) numbers → AreBelow (length items) waits
-waits_more place items numbers [] waits is below =
-    let e : ◌≡◌ {A = Result (List ℕ) Reported} (Ok numbers) (Ok waits) = is in let same : numbers ≡ waits = cc in subst (AreBelow (length items)) same below
-waits_more place items numbers (x ∷ after) waits is below =
-    on_below place items numbers x after waits (λ more. waits_more place items more after waits) (task_number items x) refl is below
+-- the numbers that are answered
+waits_are : (place : ℕ) (items : List DueItem) (numbers : List ℕ) (after : List Name) (waits : List ℕ) → waits_among place items numbers after ≡ Ok waits
+    → waits ≡ fold (insert_key nat_cmp) numbers (filter_map (task_number items) after)
+waits_are place items numbers after waits is = by (find (λ x. is_none (task_number items x)) after) is
+  where
+    all : List ℕ
+    all = fold (insert_key nat_cmp) numbers (filter_map (task_number items) after)
 
-pub waits_below : (place : ℕ) (items : List Item) (after : List Name) (waits : List ℕ) → waits_from place items [] after ≡ Ok waits → AreBelow (length items) waits
-waits_below place items after waits is = waits_more place items [] after waits is (All-nil _)
+    by : (o : Option Name) → option_map_or (λ x. Err (reported UnknownTask place (x ∷ []))) o (Ok all) ≡ Ok waits → waits ≡ all
+    by None e = (let g : ◌≡◌ {A = Result (List ℕ) Reported} (Ok all) (Ok waits) = e in cc)
+    by (Some x) e = absurd (let g : ◌≡◌ {A = Result (List ℕ) Reported} (Err (reported UnknownTask place (x ∷ []))) (Ok waits) = e in cc)
+
+pub waits_below : (place : ℕ) (items : List DueItem) (after : List Name) (waits : List ℕ) → waits_among place items [] after ≡ Ok waits → AreBelow (length items) waits
+waits_below place items after waits is =
+    subst (AreBelow (length items)) (sym (waits_are place items [] after waits is))
+    (found_all (task_number items) (λ n. n < length items) after [] (λ x n later found. task_below items x n found) (All-nil _))
+
+-- one label more
+pub waits_more : (place : ℕ) (items : List DueItem) (numbers : List ℕ) (x : Name) (after : List Name) (n : ℕ) → task_number items x ≡ Some n
+    → waits_among place items numbers (x ∷ after) ≡ waits_among place items (insert_key nat_cmp numbers n) after
+waits_more place items numbers x after n is = ap (λ o. option_map_or (λ y. Err (reported UnknownTask place (y ∷ [])))
+    (cond (is_none o) (Some x) (find (λ y. is_none (task_number items y)) after)) (Ok (fold (insert_key nat_cmp) numbers (cons_option o (filter_map (task_number items) after))))) is
+
+pub waits_unknown : (place : ℕ) (items : List DueItem) (numbers : List ℕ) (x : Name) (after : List Name) → task_number items x ≡ None
+    → waits_among place items numbers (x ∷ after) ≡ Err (reported UnknownTask place (x ∷ []))
+waits_unknown place items numbers x after is = ap (λ o. option_map_or (λ y. Err (reported UnknownTask place (y ∷ [])))
+    (cond (is_none o) (Some x) (find (λ y. is_none (task_number items y)) after)) (Ok (fold (insert_key nat_cmp) numbers (cons_option o (filter_map (task_number items) after))))) is
 
 -- the numbers of names are those of nodes
-on_names : (names some : List Name) (numbers : List ℕ) (x : Name)
-    → ((more : List ℕ) → AreBelow (length names) more → AreBelow (length names) (fold (insert_key nat_cmp) more (filter_map (number_of names) some)))
-    → (o : Option ℕ) → number_of names x ≡ o → AreBelow (length names) numbers
-    → AreBelow (length names) (fold (insert_key nat_cmp) numbers (cons_option o (filter_map (number_of names) some)))
-on_names names some numbers x further None e below = further numbers below
-on_names names some numbers x further (Some n) e below =
-    further (insert_key nat_cmp numbers n) (All-insert_key nat_cmp n (λ k. k < length names) numbers below (number_some names x n e).0)
-
-numbers_more : (names some : List Name) (numbers : List ℕ) → AreBelow (length names) numbers
-    → AreBelow (length names) (fold (insert_key nat_cmp) numbers (filter_map (number_of names) some))
-numbers_more names [] numbers below = below
-numbers_more names (x ∷ some) numbers below = on_names names some numbers x (λ more. numbers_more names some more) (number_of names x) refl below
-
-pub numbers_below : (items : List Item) (some : List Name) → AreBelow (length items) (numbers_of (names_of items) some)
+pub numbers_below : (items : List DueItem) (some : List Name) → AreBelow (length items) (numbers_of (names_of items) some)
 numbers_below items some =
-    subst (λ n. AreBelow n (numbers_of (names_of items) some)) (length-map items (λ (item : Item). item.node.name))
-    (numbers_more (names_of items) some [] (All-nil _))
+    subst (λ n. AreBelow n (numbers_of (names_of items) some)) (length-map items (λ (item : DueItem). item.node.name))
+    (found_all (number_of (names_of items)) (λ n. n < length (names_of items)) some [] (λ x n later found. (number_some (names_of items) x n found).0) (All-nil _))
 
 -- they stay so, also without some of them
 pub below_more : (bound more : ℕ) (numbers : List ℕ) → bound ≤ more → AreBelow bound numbers → AreBelow more numbers
@@ -143,6 +151,6 @@ pub others_take : (needs waits : List ℕ) (n : ℕ) → has nat_eq needs n ≡ 
 others_take needs waits n other = cond-true (not (has nat_eq needs n)) (n ∷ others needs waits) (others needs waits) (ap not other)
 
 -- an item under its label
-pub noted : (item : Item) (key label : Name) → has_commands item.node.maker ≡ true → key ≡ item.label → is_eq (slice_cmp nat_cmp key label) ≡ is_task label item
+pub noted : (item : DueItem) (key label : Name) → has_commands item.node.maker ≡ true → key ≡ item.label → is_eq (slice_cmp nat_cmp key label) ≡ is_task label item
 noted item key label task same =
     sym (texts_ties key label) ∙ ap (λ k. same_name k label) same ∙ ap (λ b. b && same_name item.label label) (sym task)

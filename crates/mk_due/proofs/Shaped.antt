@@ -24,22 +24,22 @@ use Rattle.mk_foot.specs.Footprints.{in_order}
 use Rattle.mk_foot.proofs.AttachNodes.{rising_nil}
 use Rattle.mk_task.proofs.Apart.{order_named}
 use Rattle.mk_due.specs.Good.{AreGood, IsNamed}
-use Rattle.mk_due.specs.Items.{Item, edge_count, names_of, nodes_of}
+use Rattle.mk_due.specs.Items.{DueItem, edge_count, names_of, nodes_of}
 use Rattle.mk_due.specs.JobsOf.{first_fault, jobs_of, reads_of, writes_of}
 use Rattle.mk_due.proofs.Taken.{IsFree, all_free, free_own}
 
 -- what stands past the last item
-nothing : Item
+nothing : DueItem
 nothing = record { node = nobody; label = []; place = 0; reads = []; writes = [] }
 
-pub edges_same : (items : List Item) → plans.edge_count (nodes_of items) ≡ edge_count items
+pub edges_same : (items : List DueItem) → plans.edge_count (nodes_of items) ≡ edge_count items
 edges_same [] = refl
 edges_same (i ∷ items) =
     sum_by-cons (λ (n : Node). length n.prerequisites) i.node (nodes_of items)
     ∙ ap (λ k. length i.node.prerequisites + k) (edges_same items)
-    ∙ sym (sum_by-cons (λ (u : Item). length u.node.prerequisites) i items)
+    ∙ sym (sum_by-cons (λ (u : DueItem). length u.node.prerequisites) i items)
 
-pub names_same : (items : List Item) → plans.names_of (nodes_of items) ≡ names_of items
+pub names_same : (items : List DueItem) → plans.names_of (nodes_of items) ≡ names_of items
 names_same [] = refl
 names_same (i ∷ items) = ap (λ ns. i.node.name ∷ ns) (names_same items)
 
@@ -48,47 +48,47 @@ all_at P [] n d all below = absurd (omega (arith, below))
 all_at P (x ∷ xs) ℕ.zero d all below = All-head P x xs all
 all_at P (x ∷ xs) (ℕ.suc n) d all below = all_at P xs n d (All-tail P x xs all) (omega (arith, below))
 
-reads_named : (item : Item) → IsNamed item → AreNamed (reads_of item)
+reads_named : (item : DueItem) → IsNamed item → AreNamed (reads_of item)
 reads_named item named = by (is_live_node item.node)
   where
     by : (b : Bool) → AreNamed (cond b (in_order item.reads) [])
     by true = order_named item.reads named.reads
     by false = All-nil _
 
-writes_named : (item : Item) → IsNamed item → AreNamed (writes_of item)
+writes_named : (item : DueItem) → IsNamed item → AreNamed (writes_of item)
 writes_named item named = by (is_live_node item.node)
   where
     by : (b : Bool) → AreNamed (cond b (in_order item.writes) [])
     by true = order_named item.writes named.writes
     by false = All-nil _
 
-module _ (root : List ℕ) (items : List Item) (good : AreGood items) (none : first_fault root (listings.in_order (names_of items)) items ≡ None)
+module _ (root : List ℕ) (items : List DueItem) (good : AreGood items) (none : first_fault root (listings.in_order (names_of items)) items ≡ None)
     (reads_rise : All IsRising (map reads_of items)) (writes_rise : All IsRising (map writes_of items)) where
   jobs : Jobs
   jobs = jobs_of root items
 
   count_is : node_count jobs ≡ length items
   unfolding node_count jobs
-  count_is = length-map items (λ (i : Item). i.node)
+  count_is = length-map items (λ (i : DueItem). i.node)
 
   node_is : (n : ℕ) → n < length items → jobs_specs.node_at jobs n ≡ (get_or items n nothing).node
   unfolding jobs
-  node_is n below = unwrap_or-slice_get (nodes_of items) n nobody ∙ get_or-map (λ (i : Item). i.node) items n nothing nobody below
+  node_is n below = unwrap_or-slice_get (nodes_of items) n nobody ∙ get_or-map (λ (i : DueItem). i.node) items n nothing nobody below
 
-  row_at : (f : Item → List Path) (n : ℕ) → n < length items → unwrap_or (slice_get (map f items) n) [] ≡ f (get_or items n nothing)
+  row_at : (f : DueItem → List Path) (n : ℕ) → n < length items → unwrap_or (slice_get (map f items) n) [] ≡ f (get_or items n nothing)
   row_at f n below = unwrap_or-slice_get (map f items) n [] ∙ get_or-map f items n nothing [] below
 
-  row_past : (f : Item → List Path) (n : ℕ) → length items ≤ n → unwrap_or (slice_get (map f items) n) [] ≡ []
+  row_past : (f : DueItem → List Path) (n : ℕ) → length items ≤ n → unwrap_or (slice_get (map f items) n) [] ≡ []
   row_past f n past = ap (λ o. unwrap_or o []) (slice_get_past (map f items) n (omega (arith, past, length-map items f)))
 
   -- what holds of each row, and of no paths, holds of the row of any number
-  each_row : (P : List Path → Type 0) (f : Item → List Path) → ((n : ℕ) → n < length items → P (f (get_or items n nothing))) → P [] → (n : ℕ) → P (unwrap_or (slice_get (map f items) n) [])
+  each_row : (P : List Path → Type 0) (f : DueItem → List Path) → ((n : ℕ) → n < length items → P (f (get_or items n nothing))) → P [] → (n : ℕ) → P (unwrap_or (slice_get (map f items) n) [])
   each_row P f here nil n = elim (cases_lt n (length items)) [
     | inl below ↦ subst P (sym (row_at f n below)) (here n below)
     | inr past ↦ subst P (sym (row_past f n past)) nil
   ]
 
-  rise : (f : Item → List Path) → All IsRising (map f items) → (n : ℕ) → n < length items → IsRising (f (get_or items n nothing))
+  rise : (f : DueItem → List Path) → All IsRising (map f items) → (n : ℕ) → n < length items → IsRising (f (get_or items n nothing))
   rise f all n below = subst IsRising (get_or-map f items n nothing [] below) (all_at IsRising (map f items) n [] all (omega (arith, below, length-map items f)))
 
   named : (n : ℕ) → n < length items → IsNamed (get_or items n nothing)
@@ -97,7 +97,7 @@ module _ (root : List ℕ) (items : List Item) (good : AreGood items) (none : fi
   live_at : (n : ℕ) → n < length items → is_live_node (get_or items n nothing).node ≡ is_live jobs n
   live_at n below = ap is_live_node (sym (node_is n below)) ∙ live_is jobs n
 
-  idle_none : (f : Item → List Path) → ((item : Item) → is_live_node item.node ≡ false → f item ≡ []) → (n : ℕ) → is_live jobs n ≡ false → unwrap_or (slice_get (map f items) n) [] ≡ []
+  idle_none : (f : DueItem → List Path) → ((item : DueItem) → is_live_node item.node ≡ false → f item ≡ []) → (n : ℕ) → is_live jobs n ≡ false → unwrap_or (slice_get (map f items) n) [] ≡ []
   idle_none f nil n idle = elim (cases_lt n (length items)) [
     | inl below ↦ row_at f n below ∙ nil (get_or items n nothing) (live_at n below ∙ idle)
     | inr past ↦ row_past f n past
@@ -126,7 +126,7 @@ module _ (root : List ℕ) (items : List Item) (good : AreGood items) (none : fi
       ∙ free_own root (listings.in_order (names_of items)) item x (all_at (IsFree root (listings.in_order (names_of items))) items n nothing (all_free root (listings.in_order (names_of items)) items none) n_below)
       (named_there m below) written
 
-  all_rows : (f : Item → List Path) → length (map f items) ≡ node_count jobs
+  all_rows : (f : DueItem → List Path) → length (map f items) ≡ node_count jobs
   all_rows f = length-map items f ∙ sym count_is
 
   pub shape : IsWellFormed (jobs_of root items)

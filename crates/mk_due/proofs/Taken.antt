@@ -16,7 +16,7 @@ use Rattle.mk_path.specs.Taken.{is_taken}
 use Rattle.mk_jobs.specs.Recipes.{is_live_node}
 use Rattle.mk_task.specs.Tasks.{reported}
 use Rattle.mk_name.specs.declared.fault.Kind.TheVariants.{WritesTarget}
-use Rattle.mk_due.specs.Items.{Item}
+use Rattle.mk_due.specs.Items.{DueItem}
 use Rattle.mk_due.specs.JobsOf.{first_fault, item_fault, jobs_of, made_beside, reads_of, writes_of}
 
 -- no path takes a name
@@ -29,12 +29,12 @@ none_taken root own (x ∷ names) = cond-false (is_taken root [] own x) (Some x)
     and_false false = refl
 
 -- an item whose recipe can't run reads and writes nothing, and has no fault
-pub record IsIdle (root : List ℕ) (names : List Name) (item : Item) : Type 0 where
+pub record IsIdle (root : List ℕ) (names : List Name) (item : DueItem) : Type 0 where
   pub fault : item_fault root names item ≡ None
   pub reads : reads_of item ≡ []
   pub writes : writes_of item ≡ []
 
-pub item_idle : (root : List ℕ) (names : List Name) (item : Item) → is_live_node item.node ≡ false → IsIdle root names item
+pub item_idle : (root : List ℕ) (names : List Name) (item : DueItem) → is_live_node item.node ≡ false → IsIdle root names item
 item_idle root names item idle =
     let writes : writes_of item ≡ [] = cond-false (is_live_node item.node) _ _ idle in
     record {
@@ -46,33 +46,33 @@ item_idle root names item idle =
     }
 
 -- the first fault of an item and others
-pub first_here : (root : List ℕ) (names : List Name) (item : Item) (rest : List Item) (t : Reported) → item_fault root names item ≡ Some t
+pub first_here : (root : List ℕ) (names : List Name) (item : DueItem) (rest : List DueItem) (t : Reported) → item_fault root names item ≡ Some t
     → first_fault root names (item ∷ rest) ≡ Some t
 first_here root names item rest t is = ap (λ o. slice_get (cons_option o (filter_map (item_fault root names) rest)) 0) is
 
-pub first_later : (root : List ℕ) (names : List Name) (item : Item) (rest : List Item) → item_fault root names item ≡ None
+pub first_later : (root : List ℕ) (names : List Name) (item : DueItem) (rest : List DueItem) → item_fault root names item ≡ None
     → first_fault root names (item ∷ rest) ≡ first_fault root names rest
 first_later root names item rest is = ap (λ o. slice_get (cons_option o (filter_map (item_fault root names) rest)) 0) is
 
 -- it is the answer
-pub made_fault : (root : List ℕ) (names : List Name) (items : List Item) (t : Reported) → first_fault root names items ≡ Some t
+pub made_fault : (root : List ℕ) (names : List Name) (items : List DueItem) (t : Reported) → first_fault root names items ≡ Some t
     → made_beside root names items ≡ Err t
 made_fault root names items t is = ap (λ o. option_map_or (λ fault. Err fault) o (Ok (jobs_of root items))) is
 
-pub made_good : (root : List ℕ) (names : List Name) (items : List Item) → first_fault root names items ≡ None
+pub made_good : (root : List ℕ) (names : List Name) (items : List DueItem) → first_fault root names items ≡ None
     → made_beside root names items ≡ Ok (jobs_of root items)
 made_good root names items is = ap (λ o. option_map_or (λ fault. Err fault) o (Ok (jobs_of root items))) is
 
 -- where none is the first, there is none
-abbrev pub IsFree : List ℕ → List Name → Item → Type 0
+abbrev pub IsFree : List ℕ → List Name → DueItem → Type 0
 IsFree root names item = item_fault root names item ≡ None
 
-on_free : (root : List ℕ) (names : List Name) (item : Item) (items : List Item) → (first_fault root names items ≡ None → All (IsFree root names) items)
+on_free : (root : List ℕ) (names : List Name) (item : DueItem) (items : List DueItem) → (first_fault root names items ≡ None → All (IsFree root names) items)
     → (o : Option Reported) → item_fault root names item ≡ o → first_fault root names (item ∷ items) ≡ None → All (IsFree root names) (item ∷ items)
 on_free root names item items later None e none = All-cons (IsFree root names) item items e (later (sym (first_later root names item items e) ∙ none))
 on_free root names item items later (Some t) e none = absurd (let f : Some t ≡ None = sym (first_here root names item items t e) ∙ none in cc)
 
-pub all_free : (root : List ℕ) (names : List Name) (items : List Item) → first_fault root names items ≡ None → All (IsFree root names) items
+pub all_free : (root : List ℕ) (names : List Name) (items : List DueItem) → first_fault root names items ≡ None → All (IsFree root names) items
 all_free root names [] none = All-nil _
 all_free root names (item ∷ items) none = on_free root names item items (all_free root names items) (item_fault root names item) refl none
 
@@ -102,7 +102,7 @@ same_own root own writes x written free =
     ]
 
 -- a free item writes no name of these but its own
-pub free_own : (root : List ℕ) (names : List Name) (item : Item) (x : Name) → IsFree root names item → has same_name names x ≡ true
+pub free_own : (root : List ℕ) (names : List Name) (item : DueItem) (x : Name) → IsFree root names item → has same_name names x ≡ true
     → covered root (writes_of item) x ≡ true → item.node.name ≡ x
 free_own root names item x free there written =
     same_own root item.node.name (writes_of item) x written

@@ -9,28 +9,28 @@ use Rattle.mk_jobs.specs.Plan.{NeedsStandBefore, edge_limit, node_limit}
 use Rattle.mk_jobs.specs.Shape.{AreNamed}
 use Rattle.mk_task.specs.Lines as tasks
 use Rattle.mk_due.specs.declared.tally.Tally.{Tally}
-use Rattle.mk_due.specs.Items.{Item, edge_count, names_of, nodes_of, path_count, task_number}
+use Rattle.mk_due.specs.Items.{DueItem, edge_count, names_of, nodes_of, path_count, task_number}
 
 -- numbers of the first so many nodes
 abbrev pub AreBelow : ℕ → List ℕ → Type 0
 AreBelow bound numbers = All (λ n. n < bound) numbers
 
 -- its paths have names
-pub record IsNamed (item : Item) : Type 0 where
+pub record IsNamed (item : DueItem) : Type 0 where
   pub reads : AreNamed item.reads
   pub writes : AreNamed item.writes
 
 -- the same of a line
-pub record IsNamedLine (line : tasks.Line) : Type 0 where
+pub record IsNamedLine (line : tasks.TaskLine) : Type 0 where
   pub reads : AreNamed line.reads
   pub writes : AreNamed line.writes
 
 -- no task has this label
-abbrev pub IsNew : List Item → Name → Type 0
+abbrev pub IsNew : List DueItem → Name → Type 0
 IsNew items label = is_some (task_number items label) ≡ false
 
 -- items are few, and so are their edges; their names differ; each stands behind what it needs; and their paths have names
-pub record AreGood (items : List Item) : Type 0 where
+pub record AreGood (items : List DueItem) : Type 0 where
   pub few : length items ≤ node_limit
   pub few_edges : edge_count items ≤ edge_limit
   pub distinct : IsDistinct same_name (names_of items)

@@ -3,3 +3,5 @@ pub mod Good
 pub mod Items
 pub mod JobsOf
 pub mod Lines
+pub mod RunAgain
+pub mod Running

@@ -12,8 +12,8 @@ pub record Due : Type 0 where
   pub needs : List Name
 
 -- what a line says: what each line of tasks does, and when its task is due, unless that always runs
-pub record Line : Type 0 where
-  pub task : tasks.Line
+pub record DueLine : Type 0 where
+  pub task : tasks.TaskLine
   pub due : Option Due
 
 -- the names that the texts of a list spell, if each of its items is such a text
@@ -41,10 +41,10 @@ abbrev pub due_in : List ℕ → Data → Option (Option Due)
 due_in root d = if has_key (codes "makes") d || has_key (codes "needs") d then option_map Some (due_under root d) else Some None
 
 -- the line that an object says
-abbrev pub line_in : List ℕ → Data → Option Line
+abbrev pub line_in : List ℕ → Data → Option DueLine
 line_in root d =
     option_and_then (λ task. option_map (λ due. record { task = task; due = due }) (due_in root d)) (tasks.line_in root d)
 
 -- the line of a physical line that is not blank
-abbrev pub line_of : List ℕ → List ℕ → Option Line
+abbrev pub line_of : List ℕ → List ℕ → Option DueLine
 line_of root text = option_and_then (line_in root) (value_of text)

@@ -8,7 +8,7 @@ ghost use Rattle.mk_due.specs.Awaited as spec;
 ghost use Rattle.mk_due.specs.Good.{AreBelow};
 ghost use Rattle.mk_due.specs.Items.{nodes_of};
 
-use crate::item::Item;
+use crate::item::DueItem;
 use mk_name::name::Name;
 use mk_task::labels::Labels;
 use std::alloc::{AllocError, Global};
@@ -16,7 +16,7 @@ use std::alloc::{AllocError, Global};
 /// The first of some files that an item makes for which nobody waits who waits for these nodes. The only error is out of memory.
 pub(crate) fn first_early(
     alloc: Global,
-    items: &[Item],
+    items: &[DueItem],
     names: &Labels,
     needs: &[Name],
     waits: &[u32],
@@ -34,7 +34,7 @@ pub(crate) fn first_early(
 /// stand behind only where it has to. The only error is out of memory.
 fn early_behind(
     alloc: Global,
-    items: &[Item],
+    items: &[DueItem],
     names: &Labels,
     needs: &[Name],
     marks: &mut [bool],
@@ -74,7 +74,7 @@ fn mark(marks: &mut [bool], nodes: &[u32])
 }
 
 /// Marks all that the marked nodes stand behind.
-fn mark_behind(items: &[Item], marks: &mut [bool])
+fn mark_behind(items: &[DueItem], marks: &mut [bool])
     requires long { length marks.old ≡ length items.now }
     requires behind { NeedsStandBefore (nodes_of items.now) }
     ensures { (n : ℕ) → get_or marks.new n false
@@ -86,7 +86,7 @@ fn mark_behind(items: &[Item], marks: &mut [bool])
 }
 
 /// Marks what a node stands behind, if it is marked.
-fn mark_needs(items: &[Item], marks: &mut [bool], n: usize)
+fn mark_needs(items: &[DueItem], marks: &mut [bool], n: usize)
     requires long { length marks.old ≡ length items.now }
     requires behind { NeedsStandBefore (nodes_of items.now) }
     requires node { n < length items.now }
@@ -99,7 +99,7 @@ fn mark_needs(items: &[Item], marks: &mut [bool], n: usize)
 }
 
 /// Whether a file comes early, where just these nodes are awaited.
-fn is_early(items: &[Item], names: &Labels, name: &Name, marks: &[bool]) -> bool
+fn is_early(items: &[DueItem], names: &Labels, name: &Name, marks: &[bool]) -> bool
     requires long { length marks.now ≡ length items.now }
     requires names { names.now ≡ plans.names_of (nodes_of items.now) }
     ensures { result ≡ spec.is_early (nodes_of items.now) (λ n. get_or marks.now n false) name.now }
@@ -111,7 +111,7 @@ fn is_early(items: &[Item], names: &Labels, name: &Name, marks: &[bool]) -> bool
 }
 
 /// Whether one of these files comes early, where just these nodes are awaited.
-fn has_early(items: &[Item], names: &Labels, needs: &[Name], marks: &[bool]) -> bool
+fn has_early(items: &[DueItem], names: &Labels, needs: &[Name], marks: &[bool]) -> bool
     requires long { length marks.now ≡ length items.now }
     requires names { names.now ≡ plans.names_of (nodes_of items.now) }
     ensures { result ≡ list_any (spec.is_early (nodes_of items.now) (λ n. get_or marks.now n false)) needs.now }
@@ -122,7 +122,7 @@ fn has_early(items: &[Item], names: &Labels, needs: &[Name], marks: &[bool]) -> 
 /// The first of these files that comes early, where just these nodes are awaited. The only error is out of memory.
 fn early_of(
     alloc: Global,
-    items: &[Item],
+    items: &[DueItem],
     names: &Labels,
     needs: &[Name],
     marks: &[bool],

@@ -8,7 +8,7 @@ use mk_jobs::plan::PlanNode;
 use mk_jobs::recipe::has_recipe;
 use mk_name::name::Name;
 use mk_path::path::Path;
-use mk_task::line::Line;
+use mk_task::line::TaskLine;
 use mk_task::making::own_name;
 use mk_text::listing::Listing;
 use std::alloc::{AllocError, Global};
@@ -19,7 +19,7 @@ const ORDER: &[u8] = b"//\x01";
 
 /// A node; the line that it comes from, by its label and place; and the paths that are read and written there.
 #[derive(Debug, Drop)]
-pub(crate) struct Item {
+pub(crate) struct DueItem {
     pub(crate) node: PlanNode,
     pub(crate) label: Name,
     pub(crate) place: u64,
@@ -27,10 +27,10 @@ pub(crate) struct Item {
     pub(crate) writes: Vec<Path>,
 }
 
-impl Model for Item {
+impl Model for DueItem {
     ghost use Rattle.mk_due.specs.Items as spec;
 
-    ghost Value = { spec.Item };
+    ghost Value = { spec.DueItem };
 
     ghost view = { λ a. record {
       node = a.node;
@@ -41,7 +41,7 @@ impl Model for Item {
     } };
 }
 
-impl Item {
+impl DueItem {
     /// The name of its node.
     pub(crate) fn name(&self) -> &Name
         ensures { result.now ≡ self.now.node.name }
@@ -72,10 +72,10 @@ impl Item {
 }
 
 /// The item of a node without a recipe: nothing is read or written there.
-fn idle(alloc: Global, node: PlanNode, label: Name, place: u64) -> Item
+fn idle(alloc: Global, node: PlanNode, label: Name, place: u64) -> DueItem
     ensures { result ≡ record { node = node; label = label; place = place; reads = []; writes = [] } }
 {
-    Item {
+    DueItem {
         node,
         label,
         place,
@@ -91,7 +91,7 @@ pub(crate) fn leaf(
     place: u64,
     label: &Name,
     name: &Name,
-) -> Result<Item, AllocError>
+) -> Result<DueItem, AllocError>
     ensures { IfOk result (λ item. item ≡ spec.leaf listing.now place label.now name.now) }
 {
     let node = PlanNode {
@@ -119,7 +119,7 @@ pub(crate) fn order_item(
     place: u64,
     label: &Name,
     numbers: Vec<u32>,
-) -> Result<Item, AllocError>
+) -> Result<DueItem, AllocError>
     ensures { IfOk result (λ item. item ≡ spec.order_item place label.now numbers.items) }
 {
     let node = PlanNode {
@@ -133,10 +133,10 @@ pub(crate) fn order_item(
 }
 
 /// The task of a line with this node.
-pub(crate) fn task_item(place: u64, line: Line, node: PlanNode) -> Item
+pub(crate) fn task_item(place: u64, line: TaskLine, node: PlanNode) -> DueItem
     ensures { result ≡ spec.task_item place line node }
 {
-    Item {
+    DueItem {
         node,
         label: line.label,
         place,

@@ -33,15 +33,15 @@ impl Model for Due {
 
 /// What a line says: what each line of tasks does, and when its task is due, unless that always runs.
 #[derive(Debug, Drop)]
-pub(crate) struct Line {
-    pub(crate) task: tasks::Line,
+pub(crate) struct DueLine {
+    pub(crate) task: tasks::TaskLine,
     pub(crate) due: Option<Due>,
 }
 
-impl Model for Line {
+impl Model for DueLine {
     ghost use Rattle.mk_due.specs.Lines as spec;
 
-    ghost Value = { spec.Line };
+    ghost Value = { spec.DueLine };
 
     ghost view = { λ a. record { task = a.task; due = a.due } };
 }
@@ -130,14 +130,14 @@ fn due_in(
 }
 
 /// The line that an object says.
-fn line_in(alloc: Global, object: &Document<'_>, root: &Root) -> Result<Option<Line>, AllocError>
+fn line_in(alloc: Global, object: &Document<'_>, root: &Root) -> Result<Option<DueLine>, AllocError>
     ensures { IfOk result (λ line. line ≡ spec.line_in root.now (data_of object.now)) }
 {
     let Some(task) = tasks::line_in(alloc, object, root)? else {
         return Ok(None);
     };
     match due_in(alloc, object, root)? {
-        Some(due) => Ok(Some(Line { task, due })),
+        Some(due) => Ok(Some(DueLine { task, due })),
         None => Ok(None),
     }
 }
@@ -148,7 +148,7 @@ pub(crate) fn line_of(
     text: &[u8],
     scratch: &mut Scratch,
     root: &Root,
-) -> Result<Option<Line>, AllocError>
+) -> Result<Option<DueLine>, AllocError>
     ensures { IfOk result (λ line. line ≡ spec.line_of root.now text.now) }
 {
     match Document::read(alloc, text, scratch)? {

@@ -15,7 +15,7 @@ ghost use Rattle.mk_due.specs.Good.{AreGood};
 ghost use Rattle.mk_due.specs.Items.{names_of, nodes_of};
 ghost use Rattle.mk_due.specs.JobsOf as spec;
 
-use crate::item::Item;
+use crate::item::DueItem;
 use mk_jobs::jobs::Jobs;
 use mk_jobs::plan::{Plan, PlanNode};
 use mk_jobs::recipe::has_recipe;
@@ -46,7 +46,7 @@ struct Row {
 
 /// The jobs of items, whose paths were read below this root; or the fault of the first that writes another node's name. The
 /// only other error is out of memory.
-pub(crate) fn jobs_of(alloc: Global, items: Vec<Item>, root: &Root) -> Result<Jobs, Halt>
+pub(crate) fn jobs_of(alloc: Global, items: Vec<DueItem>, root: &Root) -> Result<Jobs, Halt>
     requires { AreGood items.items }
     ensures { Gives result (spec.made root.now (Ok items.items)) }
 {
@@ -65,7 +65,7 @@ pub(crate) fn jobs_of(alloc: Global, items: Vec<Item>, root: &Root) -> Result<Jo
 }
 
 /// The names of items, rising. The only error is out of memory.
-fn names_in_order(alloc: Global, items: &[Item]) -> Result<Vec<Name>, AllocError>
+fn names_in_order(alloc: Global, items: &[DueItem]) -> Result<Vec<Name>, AllocError>
     ensures names { IfOk result (λ list. list.items ≡ listings.in_order (names_of items.now)) }
     ensures rising { IfOk result (λ list. IsStrictlySortedBy (slice_cmp nat_cmp) list.items) }
 {
@@ -75,7 +75,7 @@ fn names_in_order(alloc: Global, items: &[Item]) -> Result<Vec<Name>, AllocError
 }
 
 /// Adds the names of items.
-fn add_names(alloc: Global, names: &mut BTreeSet<Name>, items: &[Item]) -> Result<(), AllocError>
+fn add_names(alloc: Global, names: &mut BTreeSet<Name>, items: &[DueItem]) -> Result<(), AllocError>
     ensures { OnOk result (names.new.keys
         ≡ fold (insert_key (slice_cmp nat_cmp)) names.old.keys (names_of items.now)) }
 {
@@ -106,7 +106,7 @@ fn lent(alloc: Global, names: &[Name]) -> Result<Vec<&Name>, AllocError>
 
 /// The nodes of items, and their rows, in which each path stands once; or the fault of the first item that writes another of
 /// these names, which rise. The only other error is out of memory.
-fn rows_of(alloc: Global, items: Vec<Item>, root: &Root, names: &[&Name]) -> Result<Rows, Halt>
+fn rows_of(alloc: Global, items: Vec<DueItem>, root: &Root, names: &[&Name]) -> Result<Rows, Halt>
     requires { IsStrictlySortedBy (slice_cmp nat_cmp) (map (λ name. name.now) names.now) }
     ensures none { IfOk result (λ rows.
         spec.first_fault root.now (map (λ name. name.now) names.now) items.items ≡ None) }
@@ -136,7 +136,7 @@ fn rows_of(alloc: Global, items: Vec<Item>, root: &Root, names: &[&Name]) -> Res
 
 /// The node of an item, and what it reads and writes; or its fault, where it writes another of these names, which rise. The
 /// only other error is out of memory.
-fn row_of(alloc: Global, item: Item, root: &Root, names: &[&Name]) -> Result<Row, Halt>
+fn row_of(alloc: Global, item: DueItem, root: &Root, names: &[&Name]) -> Result<Row, Halt>
     requires { IsStrictlySortedBy (slice_cmp nat_cmp) (map (λ name. name.now) names.now) }
     ensures none { IfOk result (λ row.
         spec.item_fault root.now (map (λ name. name.now) names.now) item ≡ None) }
@@ -147,7 +147,7 @@ fn row_of(alloc: Global, item: Item, root: &Root, names: &[&Name]) -> Result<Row
     ensures fault { IfErr result (λ halt.
         Halts halt (spec.answer_of (spec.item_fault root.now (map (λ name. name.now) names.now) item))) }
 {
-    let Item {
+    let DueItem {
         node,
         label,
         place,

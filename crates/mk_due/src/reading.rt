@@ -1,14 +1,15 @@
 //! From the text of tasks and a listing to their jobs, or to the first line at fault.
 ghost use Rattle.std.specs.Prelude.{◌≡◌, [], Ok, IfErr, IfOk, OnOk};
-ghost use Rattle.mk_name.specs.Gives.{Gives, Halts};
+ghost use Rattle.mk_name.specs.Gives.{Answers, Halts, HaltsAmong};
 ghost use Rattle.mk_name.specs.declared.fault.Halt.TheVariants as halts;
+ghost use Rattle.mk_text.specs.Listing.{lines};
 ghost use Rattle.mk_jobs.specs.Jobs.{IsValid};
 ghost use Rattle.mk_task.specs.Tasks.{reported};
 ghost use Rattle.mk_due.specs.Good.{AreGood, IsTally};
 ghost use Rattle.mk_due.specs.Items as spec;
-ghost use Rattle.mk_due.specs.JobsOf.{jobs_in};
+ghost use Rattle.mk_due.specs.JobsOf.{AreJobsIn};
 
-use crate::item::Item;
+use crate::item::DueItem;
 use crate::line::line_of;
 use crate::making::jobs_of;
 use crate::tally::Tally;
@@ -48,7 +49,7 @@ pub fn read_due_tasks(
     root: &Root,
     listing: &Listing,
 ) -> Result<Jobs, Halt>
-    ensures jobs { Gives result (jobs_in root.now listing.now text.now) }
+    ensures jobs { Answers result (AreJobsIn root.now listing.now text.now) }
     // What is given is valid: no task writes a file of another, and who needs a node has a greater number.
     ensures valid { IfOk result IsValid }
 {
@@ -59,10 +60,15 @@ pub fn read_due_tasks(
 }
 
 /// The items of a text, or the first line's fault.
-fn items_in(alloc: Global, text: &[u8], root: &Root, listing: &Listing) -> Result<Vec<Item>, Halt>
+fn items_in(
+    alloc: Global,
+    text: &[u8],
+    root: &Root,
+    listing: &Listing,
+) -> Result<Vec<DueItem>, Halt>
     ensures good { IfOk result (λ items. AreGood items.items) }
-    ensures items { IfOk result (λ items. spec.items_of root.now listing.now text.now ≡ Ok items.items) }
-    ensures fault { IfErr result (λ halt. Halts halt (spec.items_of root.now listing.now text.now)) }
+    ensures items { IfOk result (λ items. spec.AreItems root.now listing.now (lines text.now) items.items) }
+    ensures fault { IfErr result (λ halt. HaltsAmong halt (spec.LinesMean root.now listing.now (lines text.now))) }
 {
     let mut tally = Tally::new(alloc);
     let mut scratch = Scratch::new(alloc);

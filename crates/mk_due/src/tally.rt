@@ -12,8 +12,8 @@ ghost use Rattle.mk_due.specs.Awaited as awaited;
 ghost use Rattle.mk_due.specs.Items as spec;
 
 use crate::early::first_early;
-use crate::item::{Item, always_node, due_node, leaf, order_item, task_item};
-use crate::line::{Due, Line};
+use crate::item::{DueItem, always_node, due_node, leaf, order_item, task_item};
+use crate::line::{Due, DueLine};
 use crate::numbers::{numbers_of, others};
 use mk_name::fault::{Fault, Halt, Kind, Source};
 use mk_name::name::Name;
@@ -28,7 +28,7 @@ use std::collections::{BTreeMap, BTreeSet};
 /// Items, and beside them their names, the numbers of tasks by labels, and how many edges and paths they have.
 #[derive(Debug, Drop)]
 pub(crate) struct Tally {
-    pub(crate) items: Vec<Item>,
+    pub(crate) items: Vec<DueItem>,
     names: Labels,
     tasks: BTreeMap<Name, u32>,
     edges: usize,
@@ -55,7 +55,7 @@ impl Tally {
     pub(crate) fn add(
         &mut self,
         alloc: Global,
-        line: Line,
+        line: DueLine,
         place: u64,
         listing: &Listing,
     ) -> Result<(), Halt>
@@ -65,7 +65,7 @@ impl Tally {
         ensures added { OnOk result (spec.with_line listing.now place self.old.items.items line ≡ Ok self.new.items.items) }
         ensures fault { IfErr result (λ halt. Halts halt (spec.with_line listing.now place self.old.items.items line)) }
     {
-        let Line { task, due } = line;
+        let DueLine { task, due } = line;
         if self.task_number(&task.label).is_some() {
             return Err(twice(alloc, task.label, place)?);
         }
@@ -89,9 +89,9 @@ impl Tally {
     fn waits_of(&self, alloc: Global, after: &[Name], place: u64) -> Result<Vec<u32>, Halt>
         requires { IsTally self.now }
         ensures waits { IfOk result (λ waits.
-            spec.waits_from place self.now.items.items [] after.now ≡ Ok waits.items) }
+            spec.waits_among place self.now.items.items [] after.now ≡ Ok waits.items) }
         ensures fault { IfErr result (λ halt.
-            Halts halt (spec.waits_from place self.now.items.items [] after.now)) }
+            Halts halt (spec.waits_among place self.now.items.items [] after.now)) }
     {
         let mut waits = BTreeSet::new(alloc);
         for label in after {
@@ -108,7 +108,7 @@ impl Tally {
     fn add_always(
         &mut self,
         alloc: Global,
-        line: tasks::Line,
+        line: tasks::TaskLine,
         waits: Vec<u32>,
         place: u64,
     ) -> Result<(), Halt>
@@ -131,7 +131,7 @@ impl Tally {
     fn add_awaiting(
         &mut self,
         alloc: Global,
-        line: tasks::Line,
+        line: tasks::TaskLine,
         due: Due,
         waits: Vec<u32>,
         place: u64,
@@ -178,7 +178,7 @@ impl Tally {
     fn add_due(
         &mut self,
         alloc: Global,
-        line: tasks::Line,
+        line: tasks::TaskLine,
         due: Due,
         waits: Vec<u32>,
         place: u64,
@@ -189,9 +189,11 @@ impl Tally {
         requires new { IsNew self.old.items.items line.label }
         requires below { AreBelow (length self.old.items.items) waits.items }
         ensures tally { OnOk result (IsTally self.new) }
-        ensures added { OnOk result (spec.with_made listing.now place self.old.items.items line due waits.items ≡ Ok self.new.items.items) }
+        ensures added { OnOk result (spec.with_items place self.old.items.items
+            (spec.items_of_line listing.now place self.old.items.items line (Some due) waits.items) ≡ Ok self.new.items.items) }
         ensures fault { IfErr result (λ halt.
-            Halts halt (spec.with_made listing.now place self.old.items.items line due waits.items)) }
+            Halts halt (spec.with_items place self.old.items.items
+            (spec.items_of_line listing.now place self.old.items.items line (Some due) waits.items))) }
     {
         let Due { makes, needs } = due;
         self.add_leaves(alloc, &line.label, needs.as_slice(), place, listing)?;
@@ -216,9 +218,11 @@ impl Tally {
         ensures tally { OnOk result (IsTally self.new) }
         ensures new { OnOk result (IsNew self.new.items.items label.now) }
         ensures more { OnOk result (length self.old.items.items ≤ length self.new.items.items) }
-        ensures added { OnOk result (spec.with_leaves listing.now place label.now self.old.items.items needs.now ≡ Ok self.new.items.items) }
+        ensures added { OnOk result (spec.with_items place self.old.items.items
+            (spec.leaves_of listing.now place label.now self.old.items.items needs.now) ≡ Ok self.new.items.items) }
         ensures fault { IfErr result (λ halt.
-            Halts halt (spec.with_leaves listing.now place label.now self.old.items.items needs.now)) }
+            Halts halt (spec.with_items place self.old.items.items
+            (spec.leaves_of listing.now place label.now self.old.items.items needs.now))) }
     {
         for name in needs {
             self.add_leaf(alloc, label, name, place, listing)?;
@@ -241,9 +245,11 @@ impl Tally {
         ensures tally { OnOk result (IsTally self.new) }
         ensures new { OnOk result (IsNew self.new.items.items label.now) }
         ensures more { OnOk result (length self.old.items.items ≤ length self.new.items.items) }
-        ensures added { OnOk result (spec.with_leaf listing.now place label.now self.old.items.items name.now ≡ Ok self.new.items.items) }
+        ensures added { OnOk result (spec.with_items place self.old.items.items
+            (spec.leaves_of listing.now place label.now self.old.items.items (name.now ∷ [])) ≡ Ok self.new.items.items) }
         ensures fault { IfErr result (λ halt.
-            Halts halt (spec.with_leaf listing.now place label.now self.old.items.items name.now)) }
+            Halts halt (spec.with_items place self.old.items.items
+            (spec.leaves_of listing.now place label.now self.old.items.items (name.now ∷ [])))) }
     {
         if self.names.number(name).is_some() {
             return Ok(());
@@ -257,7 +263,7 @@ impl Tally {
     fn add_behind(
         &mut self,
         alloc: Global,
-        line: tasks::Line,
+        line: tasks::TaskLine,
         makes: Name,
         mut needs: Vec<u32>,
         others: Vec<u32>,
@@ -270,9 +276,11 @@ impl Tally {
         requires below { AreBelow (length self.old.items.items) needs.items }
         requires others_below { AreBelow (length self.old.items.items) others.items }
         ensures tally { OnOk result (IsTally self.new) }
-        ensures added { OnOk result (spec.with_due listing.now place line makes self.old.items.items needs.items others.items ≡ Ok self.new.items.items) }
+        ensures added { OnOk result (spec.with_items place self.old.items.items
+            (spec.behind_needs listing.now place line makes (length self.old.items.items) needs.items others.items) ≡ Ok self.new.items.items) }
         ensures fault { IfErr result (λ halt.
-            Halts halt (spec.with_due listing.now place line makes self.old.items.items needs.items others.items)) }
+            Halts halt (spec.with_items place self.old.items.items
+            (spec.behind_needs listing.now place line makes (length self.old.items.items) needs.items others.items))) }
     {
         if others.is_empty() {
             let node = due_node(listing, makes, needs);
@@ -288,7 +296,7 @@ impl Tally {
     /// Adds an item of the line at a place, whose label is no task's yet; or answers the line's fault: an item has its name,
     /// or there are then too many nodes, edges or paths. Then nothing is known of the items. The only other error is out of
     /// memory.
-    fn push(&mut self, alloc: Global, item: Item, place: u64) -> Result<(), Halt>
+    fn push(&mut self, alloc: Global, item: DueItem, place: u64) -> Result<(), Halt>
         requires tally { IsTally self.old }
         requires named { IsNamed item }
         requires new { IsNew self.old.items.items item.label }
@@ -319,7 +327,7 @@ impl Tally {
 fn note_task(
     alloc: Global,
     tasks: &mut BTreeMap<Name, u32>,
-    item: &Item,
+    item: &DueItem,
     number: u32,
 ) -> Result<(), AllocError>
     ensures { OnOk result ((label : Name) → get (slice_cmp nat_cmp) tasks.new label

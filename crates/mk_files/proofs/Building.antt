@@ -7,13 +7,13 @@ use Rattle.std.specs.Option.{option_to_list}
 use Rattle.std.specs.Borrow.{Bor}
 use Rattle.mk_device.specs.Device.{left_if, readable_if}
 use Rattle.mk_read.proofs.Gave.{all_given, all_left}
-use Rattle.mk_read.specs.Builds.{AreReadable, IsListed, MayStop}
+use Rattle.mk_read.specs.Builds.{AreReadable, IsListingRead, MayStop}
 use Rattle.mk_read.specs.Read.{GaveAll}
 use Rattle.mk_read.specs.declared.builds.BuildStop.{BuildStop}
 use Rattle.mk_read.specs.declared.builds.BuildStop.TheVariants.{Broken, Memory}
 use Rattle.mk_read.specs.declared.builds.BuildText.TheVariants as texts
 use Rattle.mk_read.specs.declared.builds.ReadPlan.{ReadPlan}
-use Rattle.mk_files.specs.Builds.{AreRead, IsGiven, IsPlanRead, IsPlanReadAs, IsReadAs, all_marks, base_mark, other_text, path_mark, path_marks, plan_marks, plan_path_marks, plan_stated_at, stated_at}
+use Rattle.mk_files.specs.Builds.{AreRead, IsGiven, IsJobReadAs, IsPlanRead, IsPlanReadAs, all_marks, base_mark, other_text, path_mark, path_marks, plan_marks, plan_path_marks, plan_stated_at, stated_at}
 use Rattle.mk_files.specs.Files.{Files}
 use Rattle.mk_files.specs.Inputs.{Hold, IsFirstToFail, IsLeftOut, IsShortOr, Mark, MayWork, marks}
 use Rattle.mk_files.specs.declared.builds.ReadJob.{ReadJob}
@@ -261,12 +261,12 @@ module _ {F : Type 0} (left : F → Option (List ℕ)) where
   -- what devices gave of a plan is what their files state
   pub plan_given : (base : Option F) (makefile listing : F) (root : List ℕ) (read : ReadPlan) (b m l : Option (List ℕ))
       → GaveAll (left_if left base) b read.base.items → GaveAll (left makefile) m read.makefile.items
-      → (text : List ℕ) × GaveAll (left listing) l text × IsListed root text read.listing
+      → (text : List ℕ) × GaveAll (left listing) l text × IsListingRead root text read.listing
       → IsPlanRead (record { base = option_map left base; makefile = left makefile; listing = left listing }) root read
   plan_given base makefile listing root read b m l base_all makefile_all listed = record {
     base = base_given base b read.base.items base_all;
     makefile = all_left (left makefile) m read.makefile.items makefile_all;
-    listing = λ text is. subst (λ (t : List ℕ). IsListed root t read.listing) (all_given (left listing) l listed.0 text listed.1 is) listed.2;
+    listing = λ text is. subst (λ (t : List ℕ). IsListingRead root t read.listing) (all_given (left listing) l listed.0 text listed.1 is) listed.2;
   }
 
 module _ (files : List ℕ → Option (List ℕ)) (text : InputFile → List ℕ) where
@@ -325,7 +325,7 @@ module _ (files : List ℕ → Option (List ℕ)) (text : InputFile → List ℕ
   -- what was read of a build is what its files hold
   pub read_as : (build : BuildArgs) (footprints : Bor (List ℕ)) (other : Option InputPath) (root : List ℕ) (read : ReadJob)
       → IfSome other (λ known. known.input ≢ inputs.Base) → Hold files (job_inputs build footprints other) text
-      → AreRead (stated_at files build footprints other) root read → IsReadAs root other text read
+      → AreRead (stated_at files build footprints other) root read → IsJobReadAs root other text read
   read_as build footprints other root read none hold are =
       let rest : List InputPath = at inputs.Footprints footprints ∷ option_to_list other in
       let plan = plan_is build rest root read.build.plan (no_base_behind footprints other none)

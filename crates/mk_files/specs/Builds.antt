@@ -6,7 +6,7 @@ use Rattle.mk_foot.specs.Footprints.{Footprints}
 use Rattle.mk_name.specs.Names.{Name}
 use Rattle.mk_name.specs.Reported.{Reported}
 use Rattle.mk_device.specs.Device.{has_failed_if}
-use Rattle.mk_read.specs.Builds.{IsFootprinted, IsListed}
+use Rattle.mk_read.specs.Builds.{IsFootprinted, IsListingRead}
 use Rattle.mk_read.specs.declared.builds.ReadPlan.{ReadPlan}
 use Rattle.mk_request.specs.declared.inputs.InputFile.{InputFile}
 use Rattle.mk_request.specs.declared.inputs.InputFile.TheVariants as inputs
@@ -117,7 +117,7 @@ IsGiven (Some file) text = IfSome file (λ bytes. text ≡ bytes)
 pub record IsPlanRead (stated : PlanStated) (root : List ℕ) (read : ReadPlan) : Type 0 where
   pub base : IsGiven stated.base read.base.items
   pub makefile : IsGiven (Some stated.makefile) read.makefile.items
-  pub listing : (text : List ℕ) → stated.listing ≡ Some text → IsListed root text read.listing
+  pub listing : (text : List ℕ) → stated.listing ≡ Some text → IsListingRead root text read.listing
 
 -- what was read of a build's files: what footprints say below the root too, and one more text
 pub record AreRead (stated : Stated) (root : List ℕ) (read : ReadJob) : Type 0 where
@@ -132,7 +132,7 @@ other_text (Some known) text = text known.input
 
 -- a listing is what its text says below the root, if that is good
 abbrev pub IsListedBelow : List ℕ → (InputFile → List ℕ) → Result (List Name) Reported → Type 0
-IsListedBelow root text listed = IsListed root (text inputs.Listing) listed
+IsListedBelow root text listed = IsListingRead root (text inputs.Listing) listed
 
 -- and so are footprints
 abbrev pub AreFoundBelow : List ℕ → (InputFile → List ℕ) → Result Footprints Reported → Type 0
@@ -145,7 +145,7 @@ pub record IsPlanReadAs (root : List ℕ) (text : InputFile → List ℕ) (read 
   pub listing : IsListedBelow root text read.listing
 
 -- what was read of a build is what these texts say
-pub record IsReadAs (root : List ℕ) (known : Option InputPath) (text : InputFile → List ℕ) (read : ReadJob) : Type 0 where
+pub record IsJobReadAs (root : List ℕ) (known : Option InputPath) (text : InputFile → List ℕ) (read : ReadJob) : Type 0 where
   pub plan : IsPlanReadAs root text read.build.plan
   pub footprints : AreFoundBelow root text read.build.footprints
   pub other : read.other.items ≡ other_text known text

@@ -71,7 +71,7 @@ pub fn read_build<P: Opener>(
     ensures reported { IfOk result (λ read. (text : InputFile → List ℕ)
         → IfSome other.entry (λ known. known.input ≢ InputFile.Base)
         → Hold (P.files opener.old).text (job_inputs build.now footprints.entry other.entry) text
-        → spec.IsReadAs build.now.root.now other.entry text read) }
+        → spec.IsJobReadAs build.now.root.now other.entry text read) }
     ensures read { OnOk result (InputsMayBeRead (P.files opener.old)
         (job_inputs build.now footprints.entry other.entry)) }
     ensures failure { IfErr result (IsShortOr (IsUnread (P.files opener.old)

@@ -10,7 +10,7 @@ use Rattle.mk_jobs.specs.Jobs.{Jobs, Before, edge, further, IsPrerequisite, IsRa
 use Rattle.mk_jobs.proofs.JobsLemmas.{before_less, clash_live}
 use Rattle.mk_jobs.proofs.Reaching.{turned_clash}
 use Rattle.mk_proof.specs.Shapes.{pair_cmp}
-use Rattle.mk_decide.specs.Pairs.{ArePairs, IsRising}
+use Rattle.mk_decide.specs.Pairs.{ArePairs, PairsRise}
 use Rattle.mk_fix.specs.Added.{AreRisingToLive, with_edges}
 use Rattle.mk_fix.specs.Fixes.{IsFix}
 use Rattle.mk_decide.specs.Races.{IsRace}
@@ -102,7 +102,7 @@ same_pair e less =
     let no : Equal ≡ Less = both ∙ less in cc
 
 -- of pairs in order none stands twice
-not_twice : (front back : List (ℕ × ℕ)) (e : ℕ × ℕ) → IsRising (front ++ e ∷ back) → Contains (front ++ back) e → ⊥
+not_twice : (front back : List (ℕ × ℕ)) (e : ℕ × ℕ) → PairsRise (front ++ e ∷ back) → Contains (front ++ back) e → ⊥
 not_twice front back e rise h =
     let at : get_or (front ++ e ∷ back) (length front) e ≡ e =
     ap (λ n. get_or (front ++ e ∷ back) n e) (let k : length front ≡ length front + 0 = omega arith in k) ∙ get_or-append-add front (e ∷ back) 0 e in
@@ -129,7 +129,7 @@ needed_edge jobs edges front back a b valid are is (edge p) =
     let its : Contains edges (a, b) = subst (λ (es : List (ℕ × ℕ)). Contains es (a, b)) (sym is) (Contains-append_right front ((a, b) ∷ back) (a, b) (here (a, b) back)) in
     elim (edge_cases jobs (front ++ back) a b p) [
       | inl was ↦ (are.only a b its).no_edge was
-      | inr again ↦ not_twice front back (a, b) (subst IsRising is are.rise) again
+      | inr again ↦ not_twice front back (a, b) (subst PairsRise is are.rise) again
     ]
 needed_edge jobs edges front back a b valid are is (further {b = c} chain p) =
     let its : Contains edges (a, b) = subst (λ (es : List (ℕ × ℕ)). Contains es (a, b)) (sym is) (Contains-append_right front ((a, b) ∷ back) (a, b) (here (a, b) back)) in

@@ -6,7 +6,7 @@ use Rattle.mk_jobs.specs.Jobs.{Jobs, Before, edge, further, IsPrerequisite, IsRa
 use Rattle.mk_jobs.proofs.JobsLemmas.{before_less, clash_live, live_node}
 use Rattle.mk_sched.specs.Laws.{IsDeterminate}
 use Rattle.mk_sched.proofs.Determinate.{headline}
-use Rattle.mk_decide.specs.Pairs.{IsRising}
+use Rattle.mk_decide.specs.Pairs.{PairsRise}
 use Rattle.mk_decide.specs.Races.{IsRace}
 use Rattle.mk_fix.specs.Added.{AreRisingToLive, with_edges}
 use Rattle.mk_fix.specs.Fixes.{IsFix}
@@ -47,7 +47,7 @@ not_split : (front back : List (ℕ × ℕ)) (e : ℕ × ℕ) → [] ≡ front +
 not_split [] back e is = cc
 not_split (f ∷ front) back e is = cc
 
-none_rising : IsRising []
+none_rising : PairsRise []
 unfolding IsStrictlySortedBy
 none_rising = tt
 

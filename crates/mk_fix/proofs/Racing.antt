@@ -8,13 +8,13 @@ use Rattle.std.proofs.lemmas.Map.Keys.{Less-from_sorted}
 use Rattle.mk_jobs.specs.Jobs.{Jobs}
 use Rattle.mk_proof.specs.Shapes.{pair_cmp}
 use Rattle.mk_proof.proofs.Risen.{pair_cmp_total, sorted_push}
-use Rattle.mk_decide.specs.Pairs.{ArePairs, IsRising}
+use Rattle.mk_decide.specs.Pairs.{ArePairs, PairsRise}
 use Rattle.mk_decide.specs.Races.{IsRace}
 use Rattle.mk_fix.specs.AllRaces.{AreRaces}
 
 -- of the first pairs just those that are races, in order
 pub record AreRacesSoFar (jobs : Jobs) (pairs : List (ℕ × ℕ)) (i : ℕ) (races : List (ℕ × ℕ)) : Type 0 where
-  pub rise : IsRising races
+  pub rise : PairsRise races
   pub from : (p : ℕ × ℕ) → Contains races p → (k : ℕ) × (k < i) × (k < length pairs) × (get_or pairs k p ≡ p)
   pub are : (p : ℕ × ℕ) → Contains races p → IsRace jobs p.0 p.1
   pub all : (k : ℕ) → k < i → IsRace jobs (get_or pairs k (0, 0)).0 (get_or pairs k (0, 0)).1 → Contains races (get_or pairs k (0, 0))
@@ -41,7 +41,7 @@ passed_over jobs pairs races i so_far none = record {
   ];
 }
 
-last_less : (jobs : Jobs) (pairs races : List (ℕ × ℕ)) (i : ℕ) → IsRising pairs → AreRacesSoFar jobs pairs i races → i < length pairs → 0 < length races
+last_less : (jobs : Jobs) (pairs races : List (ℕ × ℕ)) (i : ℕ) → PairsRise pairs → AreRacesSoFar jobs pairs i races → i < length pairs → 0 < length races
     → pair_cmp (get_or races (length races - 1) (get_or pairs i (0, 0))) (get_or pairs i (0, 0)) ≡ Less
 last_less jobs pairs races i rise so_far inside some =
     let p = get_or races (length races - 1) (get_or pairs i (0, 0)) in
@@ -50,7 +50,7 @@ last_less jobs pairs races i rise so_far inside some =
     ∙ Less-from_sorted pair_cmp pairs k.0 i p rise k.1 inside
 
 -- a pair that is one
-pub one_more : (jobs : Jobs) (pairs races : List (ℕ × ℕ)) (i : ℕ) → IsRising pairs → AreRacesSoFar jobs pairs i races → i < length pairs
+pub one_more : (jobs : Jobs) (pairs races : List (ℕ × ℕ)) (i : ℕ) → PairsRise pairs → AreRacesSoFar jobs pairs i races → i < length pairs
     → IsRace jobs (get_or pairs i (0, 0)).0 (get_or pairs i (0, 0)).1 → AreRacesSoFar jobs pairs (i + 1) (races ++ get_or pairs i (0, 0) ∷ [])
 one_more jobs pairs races i rise so_far inside race =
     let new = get_or pairs i (0, 0) in

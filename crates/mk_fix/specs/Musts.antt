@@ -3,7 +3,7 @@ use Rattle.std.specs.Prelude.{ℕ, ◌<◌, ◌⊎◌, ◌↔◌, List, Contains
 use Rattle.mk_jobs.specs.Jobs.{Jobs, Clash, IsPrerequisite}
 use Rattle.mk_index.specs.Bits.{HasBit}
 use Rattle.mk_decide.specs.Bits.{row_at}
-use Rattle.mk_decide.specs.Pairs.{IsRising}
+use Rattle.mk_decide.specs.Pairs.{PairsRise}
 
 -- a step leads along an edge, or between two nodes that clash, from the smaller to the greater
 abbrev pub IsStep : Jobs → ℕ → ℕ → Type 0
@@ -33,7 +33,7 @@ IsCovered jobs edges a b = Contains edges (a, b) ⊎ (IsPrerequisite jobs a b �
 
 -- the direct races, in order
 pub record AreDirect (jobs : Jobs) (edges : List (ℕ × ℕ)) : Type 0 where
-  pub rise : IsRising edges
+  pub rise : PairsRise edges
   pub only : (a b : ℕ) → Contains edges (a, b) → IsDirect jobs a b
   pub all : (a b : ℕ) → a < b → Clash jobs a b → IsCovered jobs edges a b
 

@@ -1,6 +1,6 @@
 //! Jobs that were made again, with edges added.
 ghost use Rattle.std.specs.Prelude.{ℕ, ◌≡◌, ◌<◌, ◌≤◌, ◌↔◌, ◌⊎◌, All, Contains, IsTrue};
-ghost use Rattle.mk_decide.specs.Pairs.{IsRising};
+ghost use Rattle.mk_decide.specs.Pairs.{PairsRise};
 ghost use Rattle.mk_jobs.specs.Jobs.{IsPrerequisite, node_count, prerequisites_of};
 ghost use Rattle.mk_fix.specs.Again.{HasNeeds, HaveAll, IsSameNode};
 
@@ -12,7 +12,7 @@ use mk_name::name::Name;
 /// Whether new jobs have all that these jobs have, and these edges, which must be in order: the same nodes with the same
 /// makers, and just these prerequisites and the edges. A node without a recipe may have gained one.
 pub fn have_all(jobs: &Jobs, edges: &[(u32, u32)], new: &Jobs) -> bool
-    requires { IsRising edges.now }
+    requires { PairsRise edges.now }
     ensures { IsTrue result ↔ HaveAll jobs.now edges.now new.now }
 {
     if new.count() != jobs.count() {
@@ -27,7 +27,7 @@ pub fn have_all(jobs: &Jobs, edges: &[(u32, u32)], new: &Jobs) -> bool
 /// Whether each node of jobs is in new jobs as it was, with its prerequisites, and has no others but by these edges.
 fn has_nodes(jobs: &Jobs, edges: &[(u32, u32)], new: &Jobs) -> bool
     requires count { node_count jobs.now ≤ node_count new.now }
-    requires rise { IsRising edges.now }
+    requires rise { PairsRise edges.now }
     ensures { IsTrue result ↔ ((n : ℕ) → n < node_count jobs.now
         → IsSameNode jobs.now new.now n × HasNeeds jobs.now edges.now new.now n) }
 {
@@ -83,7 +83,7 @@ fn is_same_maker(new: Maker, old: Maker) -> bool
 fn has_needs(jobs: &Jobs, edges: &[(u32, u32)], new: &Jobs, n: u32) -> bool
     requires node { n < node_count jobs.now }
     requires again { n < node_count new.now }
-    requires rise { IsRising edges.now }
+    requires rise { PairsRise edges.now }
     ensures { IsTrue result ↔ HasNeeds jobs.now edges.now new.now n }
 {
     if !keeps_needs(jobs, new, n) {
@@ -113,7 +113,7 @@ fn keeps_needs(jobs: &Jobs, new: &Jobs, n: u32) -> bool
 fn has_no_others(jobs: &Jobs, edges: &[(u32, u32)], new: &Jobs, n: u32) -> bool
     requires node { n < node_count jobs.now }
     requires again { n < node_count new.now }
-    requires rise { IsRising edges.now }
+    requires rise { PairsRise edges.now }
     ensures { IsTrue result
         ↔ All (λ p. IsPrerequisite jobs.now p n ⊎ Contains edges.now (p, n)) (prerequisites_of new.now n) }
 {
@@ -127,7 +127,7 @@ fn has_no_others(jobs: &Jobs, edges: &[(u32, u32)], new: &Jobs, n: u32) -> bool
 
 /// Whether an edge is among these, which must be in order.
 fn has_edge(edges: &[(u32, u32)], p: u32, n: u32) -> bool
-    requires { IsRising edges.now }
+    requires { PairsRise edges.now }
     ensures { IsTrue result ↔ Contains edges.now (p, n) }
 {
     edges.binary_search(&(p, n)).is_ok()

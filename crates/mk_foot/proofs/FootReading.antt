@@ -15,7 +15,7 @@ use Rattle.mk_name.specs.declared.fault.Kind.TheVariants.{BadFootprint, Footprin
 use Rattle.mk_text.specs.LineFeed.{HasStopped}
 use Rattle.mk_text.specs.declared.line_sink.Stop.{Stop}
 use Rattle.mk_text.specs.declared.line_sink.Stop.TheVariants.{Memory, Fault}
-use Rattle.mk_foot.specs.Lines.{Line, lines_in}
+use Rattle.mk_foot.specs.Lines.{FootprintLine, lines_in}
 use Rattle.mk_foot.specs.Footprints.{AreFootprints, AreRead, fault_at, fault_by, first_fault, greatest_place, lines_of, path_count, path_limit, reported, reported_at}
 use Rattle.mk_foot.specs.FootReader.{HasUnited, United}
 
@@ -100,30 +100,30 @@ fault_next root ended x good = ap (λ fs. slice_get fs 0) (faults_push root ende
 -- ---- what one more line says
 
 -- what a line says below a root goes by the root's text
-pub said_below : (root below text : List ℕ) (o : Option (List Line)) → below ≡ root → lines_in below text ≡ o → lines_in root text ≡ o
+pub said_below : (root below text : List ℕ) (o : Option (List FootprintLine)) → below ≡ root → lines_in below text ≡ o → lines_in root text ≡ o
 said_below root below text o same is = ap (λ r. lines_in r text) (sym same) ∙ is
 
-pub one_line : (line : Line) → path_count (line ∷ []) ≡ length line.reads + length line.writes
-one_line line = omega (arith, sum_by-cons (λ (l : Line). length l.reads + length l.writes) line [])
+pub one_line : (line : FootprintLine) → path_count (line ∷ []) ≡ length line.reads + length line.writes
+one_line line = omega (arith, sum_by-cons (λ (l : FootprintLine). length l.reads + length l.writes) line [])
 
 module _ (root : List ℕ) (ended : List (List ℕ)) (x : List ℕ) where
   whole_take : take (length ended + 1) (ended ++ x ∷ []) ≡ ended ++ x ∷ []
   whole_take = take_all (length ended + 1) (ended ++ x ∷ []) (omega (arith, length_push ended x))
 
-  lines_more : (said : List Line) → lines_in root x ≡ Some said → lines_of root (ended ++ x ∷ []) ≡ lines_of root ended ++ said
+  lines_more : (said : List FootprintLine) → lines_in root x ≡ Some said → lines_of root (ended ++ x ∷ []) ≡ lines_of root ended ++ said
   lines_more said e =
       flat_map-append (λ t. unwrap_or (lines_in root t) []) ended (x ∷ [])
       ∙ ap (λ ls. lines_of root ended ++ ls) (append-nil (unwrap_or (lines_in root x) []) ∙ ap (λ o. unwrap_or o []) e)
 
-  counted : (paths : ℕ) (said : List Line) → lines_in root x ≡ Some said → paths ≡ path_count (lines_of root ended)
+  counted : (paths : ℕ) (said : List FootprintLine) → lines_in root x ≡ Some said → paths ≡ path_count (lines_of root ended)
       → path_count (lines_of root (ended ++ x ∷ [])) ≡ paths + path_count said
   counted paths said e count =
       ap path_count (lines_more said e)
-      ∙ sum_by-append (λ (l : Line). length l.reads + length l.writes) (lines_of root ended) said
+      ∙ sum_by-append (λ (l : FootprintLine). length l.reads + length l.writes) (lines_of root ended) said
       ∙ ap (λ n. n + path_count said) (sym count)
 
   module _ (sink : United) (place : ℕ) (before : HasUnited root sink ended) (place_is : place ≡ min (length ended + 1) greatest_place) where
-    fault_here : (o : Option (List Line)) → lines_in root x ≡ o → first_fault root (ended ++ x ∷ []) ≡ fault_by o (path_count (lines_of root (ended ++ x ∷ []))) (length ended + 1)
+    fault_here : (o : Option (List FootprintLine)) → lines_in root x ≡ o → first_fault root (ended ++ x ∷ []) ≡ fault_by o (path_count (lines_of root (ended ++ x ∷ []))) (length ended + 1)
     fault_here o e =
         fault_next root ended x before.good
         ∙ ap (λ (ls : List (List ℕ)). fault_by (lines_in root x) (path_count (lines_of root ls)) (length ended + 1)) whole_take
@@ -132,7 +132,7 @@ module _ (root : List ℕ) (ended : List (List ℕ)) (x : List ℕ) where
     pub bad_first : lines_in root x ≡ None → first_fault root (ended ++ x ∷ []) ≡ Some (reported_at BadFootprint place)
     bad_first e = fault_here None e ∙ ap (λ p. Some (reported_at BadFootprint p)) (sym place_is)
 
-    pub large_first : (line : Line) → lines_in root x ≡ Some (line ∷ []) → path_limit < sink.paths + (length line.reads + length line.writes)
+    pub large_first : (line : FootprintLine) → lines_in root x ≡ Some (line ∷ []) → path_limit < sink.paths + (length line.reads + length line.writes)
         → first_fault root (ended ++ x ∷ []) ≡ Some (reported_at FootprintsTooLarge place)
     large_first line e over =
         fault_here (Some (line ∷ [])) e
@@ -140,14 +140,14 @@ module _ (root : List ℕ) (ended : List (List ℕ)) (x : List ℕ) where
         ∙ cond-true (nat_lt path_limit (sink.paths + path_count (line ∷ []))) _ _ (lt-ltb path_limit (sink.paths + path_count (line ∷ [])) (omega (arith, over, one_line line)))
         ∙ ap (λ p. Some (reported_at FootprintsTooLarge p)) (sym place_is)
 
-    pub good_more : (said : List Line) (new : United) → lines_in root x ≡ Some said → new.paths ≡ sink.paths + path_count said → new.paths ≤ path_limit
+    pub good_more : (said : List FootprintLine) (new : United) → lines_in root x ≡ Some said → new.paths ≡ sink.paths + path_count said → new.paths ≤ path_limit
         → AreFootprints root new.footprints (lines_of root ended ++ said) → HasUnited root new (ended ++ x ∷ [])
     good_more said new e is few united = record {
       good =
           fault_here (Some said) e
           ∙ ap (λ n. cond (nat_lt path_limit n) (Some (reported FootprintsTooLarge (length ended + 1))) None) (counted sink.paths said e before.count ∙ sym is)
           ∙ cond-false (nat_lt path_limit new.paths) _ _ (le-ltb path_limit new.paths few);
-      united = subst (λ (ls : List Line). AreFootprints root new.footprints ls) (sym (lines_more said e)) united;
+      united = subst (λ (ls : List FootprintLine). AreFootprints root new.footprints ls) (sym (lines_more said e)) united;
       count = is ∙ sym (counted sink.paths said e before.count);
       few = few;
     }

@@ -5,7 +5,7 @@ use Rattle.std.specs.Map.{lookup}
 use Rattle.mk_name.specs.Names.{Name, same_name}
 use Rattle.mk_name.specs.Reported.{Reported}
 use Rattle.mk_foot.specs.Footprints.{AreFootprints, ByTarget, Footprints, Unites, footprint_in}
-use Rattle.mk_foot.specs.Lines.{Line}
+use Rattle.mk_foot.specs.Lines.{FootprintLine}
 use Rattle.mk_foot.specs.Once.{ReadOnce}
 use Rattle.mk_foot.proofs.OneList.{one_list}
 
@@ -14,12 +14,12 @@ by_name : (entries : ByTarget) (target : Name) → lookup (same_name target) ent
 by_name [] target = refl
 by_name (e ∷ entries) target = rw (texts_ties target e.0, by_name entries target) refl
 
-united_once : (lines : List Line) (one other : ByTarget) → Unites one lines → Unites other lines → one ≡ other
+united_once : (lines : List FootprintLine) (one other : ByTarget) → Unites one lines → Unites other lines → one ≡ other
 united_once lines one other a b =
     one_list one other a.rising b.rising
     (λ target. by_name one target ∙ a.united target ∙ sym (by_name other target ∙ b.united target))
 
-footprints_once : (root : List ℕ) (lines : List Line) (one other : Footprints) → AreFootprints root one lines → AreFootprints root other lines → one ≡ other
+footprints_once : (root : List ℕ) (lines : List FootprintLine) (one other : Footprints) → AreFootprints root one lines → AreFootprints root other lines → one ≡ other
 footprints_once root lines one other a b =
     let roots : one.root ≡ other.root = a.root_is ∙ sym b.root_is in
     let entries : one.by_target ≡ other.by_target = united_once lines one.by_target other.by_target a.unites b.unites in

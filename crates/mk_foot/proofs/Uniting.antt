@@ -14,36 +14,36 @@ use Rattle.mk_name.specs.Names.{Name, same_name}
 use Rattle.mk_name.proofs.Names.{name_is_exact}
 use Rattle.mk_path.specs.Paths.{path_cmp}
 use Rattle.mk_path.specs.declared.path.Path.{Path}
-use Rattle.mk_foot.specs.Lines.{Line}
-use Rattle.mk_foot.specs.Footprints.{ByTarget, Footprint, footprint_in, footprint_on, in_order, IsInOrder, lines_on, no_footprint, together, union_of, Unites}
+use Rattle.mk_foot.specs.Lines.{FootprintLine}
+use Rattle.mk_foot.specs.Footprints.{ByTarget, Footprint, footprint_in, footprint_on, in_order, HasTargetsInOrder, lines_on, no_footprint, together, union_of, Unites}
 
 -- paths put among those that are there
 abbrev pub with_more : List Path → List Path → List Path
 with_more paths more = fold (insert_key path_cmp) paths more
 
-union_more : (f : Line → List Path) (lines : List Line) (line : Line) → in_order (flat_map f (lines ++ line ∷ [])) ≡ with_more (in_order (flat_map f lines)) (f line)
+union_more : (f : FootprintLine → List Path) (lines : List FootprintLine) (line : FootprintLine) → in_order (flat_map f (lines ++ line ∷ [])) ≡ with_more (in_order (flat_map f lines)) (f line)
 union_more f lines line =
     ap in_order (flat_map-append f lines (line ∷ []) ∙ ap (λ xs. flat_map f lines ++ xs) (append-nil (f line)))
     ∙ fold-append (insert_key path_cmp) [] (flat_map f lines) (f line)
 
 -- what lines say together, as a footprint
-whole : (lines : List Line) → unwrap_or (together lines) no_footprint ≡ union_of lines
+whole : (lines : List FootprintLine) → unwrap_or (together lines) no_footprint ≡ union_of lines
 whole [] = refl
 whole (line ∷ lines) = refl
 
-some : (lines : List Line) (line : Line) → together (lines ++ line ∷ []) ≡ Some (union_of (lines ++ line ∷ []))
+some : (lines : List FootprintLine) (line : FootprintLine) → together (lines ++ line ∷ []) ≡ Some (union_of (lines ++ line ∷ []))
 some [] line = refl
 some (first ∷ lines) line = refl
 
-module _ (line : Line) (lines : List Line) where
+module _ (line : FootprintLine) (lines : List FootprintLine) where
   on_own : (target : Name) → same_name line.target target ≡ true → lines_on target (lines ++ line ∷ []) ≡ lines_on target lines ++ line ∷ []
   on_own target e =
-      filter-append (λ (l : Line). same_name l.target target) lines (line ∷ [])
+      filter-append (λ (l : FootprintLine). same_name l.target target) lines (line ∷ [])
       ∙ ap (λ xs. lines_on target lines ++ xs) (cond-true (same_name line.target target) (line ∷ []) [] e)
 
   on_other : (target : Name) → same_name line.target target ≡ false → lines_on target (lines ++ line ∷ []) ≡ lines_on target lines
   on_other target e =
-      filter-append (λ (l : Line). same_name l.target target) lines (line ∷ [])
+      filter-append (λ (l : FootprintLine). same_name l.target target) lines (line ∷ [])
       ∙ ap (λ xs. lines_on target lines ++ xs) (cond-false (same_name line.target target) (line ∷ []) [] e)
       ∙ append-nil (lines_on target lines)
 
@@ -56,9 +56,9 @@ module _ (line : Line) (lines : List Line) where
       let mine = lines_on target lines in
       let base : before ≡ union_of mine = sym was ∙ whole mine in
       let read : after.reads ≡ (union_of (mine ++ line ∷ [])).reads =
-      reads ∙ ap (λ (f : Footprint). with_more f.reads line.reads) base ∙ sym (union_more (λ (l : Line). l.reads) mine line) in
+      reads ∙ ap (λ (f : Footprint). with_more f.reads line.reads) base ∙ sym (union_more (λ (l : FootprintLine). l.reads) mine line) in
       let written : after.writes ≡ (union_of (mine ++ line ∷ [])).writes =
-      writes ∙ ap (λ (f : Footprint). with_more f.writes line.writes) base ∙ sym (union_more (λ (l : Line). l.writes) mine line) in
+      writes ∙ ap (λ (f : Footprint). with_more f.writes line.writes) base ∙ sym (union_more (λ (l : FootprintLine). l.writes) mine line) in
       ap Some (both read written) ∙ sym (some mine line) ∙ ap together (sym (on_own target own))
     where
       both : {f g : Footprint} → f.reads ≡ g.reads → f.writes ≡ g.writes → f ≡ g
@@ -69,7 +69,7 @@ module _ (line : Line) (lines : List Line) where
       → after.reads ≡ with_more before.reads line.reads → after.writes ≡ with_more before.writes line.writes
       → ((q : Name) → footprint_in removed q ≡ cond (is_eq (slice_cmp nat_cmp line.target q)) None (footprint_in old q))
       → ((q : Name) → footprint_in new q ≡ cond (is_eq (slice_cmp nat_cmp line.target q)) (Some after) (footprint_in removed q))
-      → IsInOrder new → Unites old lines → Unites new (lines ++ line ∷ [])
+      → HasTargetsInOrder new → Unites old lines → Unites new (lines ++ line ∷ [])
   unites_more old removed new before after was reads writes out put rising all = record {
     united = λ target.
         put target

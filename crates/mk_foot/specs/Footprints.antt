@@ -14,7 +14,7 @@ use Rattle.mk_name.specs.declared.fault.Source.TheVariants as sources
 use Rattle.mk_text.specs.Listing.{lines}
 use Rattle.mk_path.specs.Paths.{path_cmp}
 use Rattle.mk_path.specs.declared.path.Path.{Path}
-use Rattle.mk_foot.specs.Lines.{Line, lines_in}
+use Rattle.mk_foot.specs.Lines.{FootprintLine, lines_in}
 
 -- all that the recipe of a target reads and writes, each path once, rising
 pub record Footprint : Type 0 where
@@ -30,23 +30,23 @@ abbrev pub in_order : List Path → List Path
 in_order paths = fold (insert_key path_cmp) [] paths
 
 -- the union of what some lines say
-abbrev pub union_of : List Line → Footprint
+abbrev pub union_of : List FootprintLine → Footprint
 union_of lines = record {
-  reads = in_order (flat_map (λ (line : Line). line.reads) lines);
-  writes = in_order (flat_map (λ (line : Line). line.writes) lines);
+  reads = in_order (flat_map (λ (line : FootprintLine). line.reads) lines);
+  writes = in_order (flat_map (λ (line : FootprintLine). line.writes) lines);
 }
 
 -- the lines that name a target
-abbrev pub lines_on : Name → List Line → List Line
-lines_on target lines = filter (λ (line : Line). same_name line.target target) lines
+abbrev pub lines_on : Name → List FootprintLine → List FootprintLine
+lines_on target lines = filter (λ (line : FootprintLine). same_name line.target target) lines
 
 -- what some lines say together, if there are any
-abbrev pub together : List Line → Option Footprint
+abbrev pub together : List FootprintLine → Option Footprint
 together [] = None
 together (line ∷ lines) = Some (union_of (line ∷ lines))
 
 -- what the lines on a target say together
-abbrev pub footprint_on : List Line → Name → Option Footprint
+abbrev pub footprint_on : List FootprintLine → Name → Option Footprint
 footprint_on lines target = together (lines_on target lines)
 
 -- targets with their footprints, and what stands there for a target
@@ -70,26 +70,26 @@ LeavesOthers these name others =
     (others.root ≡ these.root) × ((other : Name) → same_name name other ≡ false → footprint_at others other ≡ footprint_at these other)
 
 -- each target stands once, in the byte order of their names
-abbrev pub IsInOrder : ByTarget → Type 0
-IsInOrder entries = IsStrictlySortedBy (slice_cmp nat_cmp) (keys_of entries)
+abbrev pub HasTargetsInOrder : ByTarget → Type 0
+HasTargetsInOrder entries = IsStrictlySortedBy (slice_cmp nat_cmp) (keys_of entries)
 
 -- for each target they have what the lines on it say together, and targets stand in order
-pub record Unites (entries : ByTarget) (lines : List Line) : Type 0 where
+pub record Unites (entries : ByTarget) (lines : List FootprintLine) : Type 0 where
   pub united : (target : Name) → footprint_in entries target ≡ footprint_on lines target
-  pub rising : IsInOrder entries
+  pub rising : HasTargetsInOrder entries
 
 -- the footprints below a root of what some lines say
-pub record AreFootprints (root : List ℕ) (footprints : Footprints) (lines : List Line) : Type 0 where
+pub record AreFootprints (root : List ℕ) (footprints : Footprints) (lines : List FootprintLine) : Type 0 where
   pub root_is : footprints.root ≡ root
   pub unites : Unites footprints.by_target lines
 
 -- the lines that physical lines say; a bad one says nothing
-abbrev pub lines_of : List ℕ → List (List ℕ) → List Line
+abbrev pub lines_of : List ℕ → List (List ℕ) → List FootprintLine
 lines_of root texts = flat_map (λ text. unwrap_or (lines_in root text) []) texts
 
 -- how many paths are read and written, with repeats
-abbrev pub path_count : List Line → ℕ
-path_count lines = sum_by (λ (line : Line). length line.reads + length line.writes) lines
+abbrev pub path_count : List FootprintLine → ℕ
+path_count lines = sum_by (λ (line : FootprintLine). length line.reads + length line.writes) lines
 
 abbrev pub path_limit : ℕ
 path_limit = 1000000
@@ -106,7 +106,7 @@ abbrev pub reported : Kind → ℕ → Reported
 reported kind place = reported_at kind (min place greatest_place)
 
 -- the fault of a physical line, given what it says and how many paths there are with its own
-abbrev pub fault_by : Option (List Line) → ℕ → ℕ → Option Reported
+abbrev pub fault_by : Option (List FootprintLine) → ℕ → ℕ → Option Reported
 fault_by None count place = Some (reported BadFootprint place)
 fault_by (Some said) count place = if nat_lt path_limit count then Some (reported FootprintsTooLarge place) else None
 
@@ -124,9 +124,9 @@ AreRead root texts (Ok footprints) = (first_fault root texts ≡ None) × AreFoo
 AreRead root texts (Err fault) = first_fault root texts ≡ Some fault
 
 -- what `read_footprints` answers
-abbrev pub IsRead : List ℕ → List ℕ → Result Footprints Reported → Type 0
-IsRead root text answer = AreRead root (lines text) answer
+abbrev pub AreFootprintsRead : List ℕ → List ℕ → Result Footprints Reported → Type 0
+AreFootprintsRead root text answer = AreRead root (lines text) answer
 
 -- the footprints of some lines become those of the same lines and one more
-abbrev pub AddsLine : Footprints → Line → Footprints → Type 0
-AddsLine old line new = (root : List ℕ) (lines : List Line) → AreFootprints root old lines → AreFootprints root new (lines ++ line ∷ [])
+abbrev pub AddsLine : Footprints → FootprintLine → Footprints → Type 0
+AddsLine old line new = (root : List ℕ) (lines : List FootprintLine) → AreFootprints root old lines → AreFootprints root new (lines ++ line ∷ [])

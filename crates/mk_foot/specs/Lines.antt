@@ -7,7 +7,7 @@ use Rattle.mk_path.specs.declared.path.Path.{Path}
 use Rattle.mk_foot.specs.Json.{is_blank, path_named, path_under, value_of}
 
 -- what a line says: a target, and the paths that its recipe reads and writes
-pub record Line : Type 0 where
+pub record FootprintLine : Type 0 where
   pub target : Name
   pub reads : List Path
   pub writes : List Path
@@ -34,11 +34,11 @@ abbrev pub paths_under : List ℕ → List ℕ → Data → Option (List Path)
 paths_under root key d = option_and_then (paths_in root) (option_and_then as_array (get key d))
 
 -- the line that an object says; other keys mean nothing
-abbrev pub line_in : List ℕ → Data → Option Line
+abbrev pub line_in : List ℕ → Data → Option FootprintLine
 line_in root d =
     option_and_then (λ target. option_and_then (λ reads. option_map (λ writes. record { target = target; reads = reads; writes = writes })
     (paths_under root (codes "writes") d)) (paths_under root (codes "reads") d)) (path_under root (codes "target") d)
 
 -- the lines that a physical line says: none where it is blank, one where it is such an object; any other is bad
-abbrev pub lines_in : List ℕ → List ℕ → Option (List Line)
+abbrev pub lines_in : List ℕ → List ℕ → Option (List FootprintLine)
 lines_in root text = if is_blank text then Some [] else option_map (λ line. line ∷ []) (option_and_then (line_in root) (value_of text))

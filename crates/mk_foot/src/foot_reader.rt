@@ -8,7 +8,7 @@ ghost use Rattle.mk_foot.specs.Footprints.{AreRead};
 ghost use Rattle.mk_foot.specs.Lines.{lines_in};
 
 use crate::footprints::Footprints;
-use crate::line::{Line, line_of};
+use crate::line::{FootprintLine, line_of};
 use crate::object::is_blank;
 use mk_json::Scratch;
 use mk_name::fault::{Kind, Source};
@@ -93,7 +93,7 @@ fn line_at(
     scratch: &mut Scratch,
     place: u64,
     root: &Root,
-) -> Result<Option<Line>, Stop>
+) -> Result<Option<FootprintLine>, Stop>
     ensures ok { IfOk result (λ line. lines_in root.now text.now ≡ Some (option_to_list line)) }
     ensures bad { IfErr result (λ stop. stop ≢ stops.Memory → lines_in root.now text.now ≡ None) }
     ensures fault { IfErr result (λ stop. stop ≢ stops.Memory → stop ≡ stops.Fault Kind.BadFootprint place) }
@@ -108,7 +108,7 @@ fn line_at(
 }
 
 /// How many paths there are with those of a line. What would pass the greatest number stays there.
-fn with_paths(paths: usize, line: &Line) -> usize
+fn with_paths(paths: usize, line: &FootprintLine) -> usize
     ensures { result ≡ min (paths + (length line.now.reads + length line.now.writes)) (2 ^ 64 - 1) }
 {
     let own = line.reads.len().saturating_add(line.writes.len());

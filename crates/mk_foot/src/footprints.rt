@@ -5,7 +5,7 @@ ghost use Rattle.std.specs.List.Sorted.{IsStrictlySortedBy};
 ghost use Rattle.mk_path.specs.Paths.{path_cmp};
 ghost use Rattle.mk_foot.specs.Footprints.{AddsLine, AreFootprints, LeavesOthers, footprint_at};
 
-use crate::line::Line;
+use crate::line::FootprintLine;
 use mk_name::name::Name;
 use mk_path::path::Path;
 use mk_text::root::Root;
@@ -120,7 +120,7 @@ impl Footprints {
     }
 
     /// Unites what a line says with what the others of its target say. The only error is out of memory.
-    pub(crate) fn add(&mut self, alloc: Global, line: Line) -> Result<(), AllocError>
+    pub(crate) fn add(&mut self, alloc: Global, line: FootprintLine) -> Result<(), AllocError>
         ensures { OnOk result (AddsLine self.old line self.new) }
     {
         let mut footprint = match self.by_target.remove(&line.target) {

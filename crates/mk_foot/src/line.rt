@@ -16,17 +16,17 @@ use std::marker::Model;
 
 /// What a line says: a target, and the paths that its recipe reads and writes, as they stand there.
 #[derive(Debug, Drop)]
-pub(crate) struct Line {
+pub(crate) struct FootprintLine {
     pub(crate) target: Name,
     pub(crate) reads: Vec<Path>,
     pub(crate) writes: Vec<Path>,
 }
 
-impl Model for Line {
+impl Model for FootprintLine {
     ghost use Rattle.mk_jobs.specs.Shape.{AreNamed};
     ghost use Rattle.mk_foot.specs.Lines as spec;
 
-    ghost Value = { spec.Line };
+    ghost Value = { spec.FootprintLine };
 
     ghost view = { λ a. record {
       target = a.target;
@@ -97,7 +97,11 @@ pub fn paths_under(
 }
 
 /// The line that an object says.
-fn line_in(alloc: Global, object: &Document<'_>, root: &Root) -> Result<Option<Line>, AllocError>
+fn line_in(
+    alloc: Global,
+    object: &Document<'_>,
+    root: &Root,
+) -> Result<Option<FootprintLine>, AllocError>
     ensures { IfOk result (λ line. line ≡ spec.line_in root.now (data_of object.now)) }
 {
     let Some(target) = path_under(alloc, object, "target", root)? else {
@@ -109,7 +113,7 @@ fn line_in(alloc: Global, object: &Document<'_>, root: &Root) -> Result<Option<L
     let Some(writes) = paths_under(alloc, object, "writes", root)? else {
         return Ok(None);
     };
-    Ok(Some(Line {
+    Ok(Some(FootprintLine {
         target,
         reads,
         writes,
@@ -122,7 +126,7 @@ pub(crate) fn line_of(
     text: &[u8],
     scratch: &mut Scratch,
     root: &Root,
-) -> Result<Option<Line>, AllocError>
+) -> Result<Option<FootprintLine>, AllocError>
     ensures { IfOk result (λ line. line ≡ option_and_then (spec.line_in root.now) (value_of text.now)) }
 {
     match Document::read(alloc, text, scratch)? {

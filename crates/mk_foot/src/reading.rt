@@ -1,6 +1,6 @@
 //! From the text of footprints to the footprints, or to the first line at fault.
 ghost use Rattle.mk_name.specs.Gives.{Answers};
-ghost use Rattle.mk_foot.specs.Footprints.{IsRead};
+ghost use Rattle.mk_foot.specs.Footprints.{AreFootprintsRead};
 
 use crate::foot_reader::FootReader;
 use crate::footprints::Footprints;
@@ -18,7 +18,7 @@ use std::alloc::Global;
 /// with which all paths so far, those that are read and those that are written, repeats too, are more than 1,000,000; a tree
 /// counts as one path. The only other error is out of memory.
 pub fn read_footprints(alloc: Global, text: &[u8], root: &Root) -> Result<Footprints, Halt>
-    ensures { Answers result (IsRead root.now text.now) }
+    ensures { Answers result (AreFootprintsRead root.now text.now) }
 {
     let mut reader = FootReader::new(alloc, root.copy(alloc)?);
     // `finish` answers the same fault.

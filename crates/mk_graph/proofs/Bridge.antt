@@ -6,7 +6,7 @@ use Rattle.std.proofs.lemmas.Bool.{cases_Bool, both_ways, cases_eq, ne_eqb, eq-e
 use Rattle.std.proofs.lemmas.List.{map-append, map_push}
 use Rattle.mk_name.specs.Names.{has, kept, IsDistinct}
 use Rattle.mk_name.proofs.Names.{IsExact, nat_is_exact, in_head, in_tail, in_push_cases, kept_new, kept_old, kept_has}
-use Rattle.mk_graph.specs.Graph.{Leads, IsNode, IsSerialOrder, HasNoCycle, IsChain}
+use Rattle.mk_graph.specs.Graph.{Leads, IsNode, IsSerialOrder, HasNoCycle, EachNeedsNext}
 use Rattle.mk_graph.proofs.Steps.{In}
 
 -- the numbers below size have names of their own, and the rows are what they need
@@ -132,7 +132,7 @@ module _ {X : Type 0} (same : X → X → Bool) (needs : X → List X) (goals : 
   distinct_map (x ∷ xs) b d =
       (has_map xs x (λ k i. b k (in_tail nat_eq nat_is_exact x k xs i)) (b x (in_head nat_eq nat_is_exact x xs)) ∙ d.0, distinct_map xs (λ k i. b k (in_tail nat_eq nat_is_exact x k xs i)) d.1)
 
-  pub chain_map : (xs : List ℕ) → Below size xs → IsChain nat_eq next xs → IsChain same needs (map name xs)
+  pub chain_map : (xs : List ℕ) → Below size xs → EachNeedsNext nat_eq next xs → EachNeedsNext same needs (map name xs)
   chain_map [] b c = tt
   chain_map (x ∷ []) b c = tt
   chain_map (x ∷ y ∷ ys) b c = (needs_has x y (b x (in_head nat_eq nat_is_exact x (y ∷ ys))) c.0, chain_map (y ∷ ys) (λ k i. b k (in_tail nat_eq nat_is_exact x k (y ∷ ys) i)) c.1)

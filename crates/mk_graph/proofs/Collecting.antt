@@ -10,7 +10,7 @@ use Rattle.std.proofs.lemmas.Option.{get_or_from_slice_get}
 use Rattle.mk_name.specs.Names.{Name, same_name, has, kept, firsts, IsDistinct}
 use Rattle.mk_name.proofs.Names.{name_is_exact, nat_is_exact, in_left, in_push, in_push_cases, in_joined, kept_has, kept_cases, kept_front, distinct_kept}
 use Rattle.mk_rules.specs.Book.{Book, Entry, places_of, prerequisites_of}
-use Rattle.mk_graph.specs.Collected.{given_at, StandsFor, Reads, Collected, SourceStands}
+use Rattle.mk_graph.specs.Collected.{given_at, HaveNumbers, Reads, Collected, SourceStands}
 use Rattle.mk_graph.specs.Makers.{inferred_source, needs}
 use Rattle.mk_graph.specs.Graph.{IsNode, AreNodes}
 use Rattle.mk_jobs.specs.Numbered.{name_at, Stand}
@@ -20,12 +20,12 @@ use Rattle.mk_jobs.proofs.Numberings.{kept_grows, stand_more, has_at, name_at_pu
 abbrev pub Entries : Type 0
 Entries = List (Option (Vec ℕ Global))
 
-stands_grow : (names more given : List Name) (o : Option (Vec ℕ Global)) → StandsFor names given o → StandsFor (names ++ more) given o
+stands_grow : (names more given : List Name) (o : Option (Vec ℕ Global)) → HaveNumbers names given o → HaveNumbers (names ++ more) given o
 stands_grow names more given None s = tt
 stands_grow names more given (Some v) s = stand_more names more v.items given s
 
-stands_set : (names given : List Name) (v : Vec ℕ Global) (o : Option (Vec ℕ Global)) → o ≡ Some v → Stand names v.items given → StandsFor names given o
-stands_set names given v o e s = subst (λ (p : Option (Vec ℕ Global)). StandsFor names given p) (sym e) s
+stands_set : (names given : List Name) (v : Vec ℕ Global) (o : Option (Vec ℕ Global)) → o ≡ Some v → Stand names v.items given → HaveNumbers names given o
+stands_set names given v o e s = subst (λ (p : Option (Vec ℕ Global)). HaveNumbers names given p) (sym e) s
 
 pub reads_none : (book : List Entry) (names : List Name) (entries : Entries) → Reads book [] names entries names entries
 reads_none book names entries =
@@ -64,9 +64,9 @@ reads_more book places p on oe names new entries after v r long inside step s is
         | inr g ↦ inr (p, in_push nat_eq nat_is_exact places p, inside, g)
       ];
       stand = λ old q h. elim (cases_eq q p) [
-        | inl e ↦ subst (λ (k : ℕ). StandsFor new (given_at book k) (get_or (set entries p (Some v)) k None)) (sym e) (stands_set new (given_at book p) v (get_or (set entries p (Some v)) p None) here s)
-        | inr n ↦ subst (λ (o : Option (Vec ℕ Global)). StandsFor new (given_at book q) o) (sym (get_or-set_other entries p q (Some v) None n))
-            (subst (λ (ns : List Name). StandsFor ns (given_at book q) (get_or entries q None)) (sym (step ∙ grown.1)) (stands_grow names grown.0 (given_at book q) (get_or entries q None) (r.stand old q h)))
+        | inl e ↦ subst (λ (k : ℕ). HaveNumbers new (given_at book k) (get_or (set entries p (Some v)) k None)) (sym e) (stands_set new (given_at book p) v (get_or (set entries p (Some v)) p None) here s)
+        | inr n ↦ subst (λ (o : Option (Vec ℕ Global)). HaveNumbers new (given_at book q) o) (sym (get_or-set_other entries p q (Some v) None n))
+            (subst (λ (ns : List Name). HaveNumbers ns (given_at book q) (get_or entries q None)) (sym (step ∙ grown.1)) (stands_grow names grown.0 (given_at book q) (get_or entries q None) (r.stand old q h)))
       ];
       done = λ q h. elim (cases_eq q p) [
         | inl e ↦ subst (λ (k : ℕ). IsSome (get_or (set entries p (Some v)) k None)) (sym e) some_here
@@ -133,7 +133,7 @@ collected_none book listing goals none names entries sources starts e step s is 
       ];
       starts_stand = s;
       long = length-replicate (length book.rules) None;
-      stand = λ p h. subst (λ (o : Option (Vec ℕ Global)). StandsFor names (given_at book.rules p) o) (sym (get_or-replicate (length book.rules) p None None h)) tt;
+      stand = λ p h. subst (λ (o : Option (Vec ℕ Global)). HaveNumbers names (given_at book.rules p) o) (sym (get_or-replicate (length book.rules) p None None h)) tt;
       done = λ i p h j. absurd (omega arith);
       counted = ap length empty;
       sources_stand = λ i h. absurd (omega arith);
@@ -160,7 +160,7 @@ collected_more book listing goals names new newer entries after sources counted 
       ];
       starts_stand = subst (λ (ns : List Name). Stand ns starts goals) (sym whole) (stand_more names (r.more ++ grown.0) starts goals c.starts_stand);
       long = r.long ∙ c.long;
-      stand = λ p l. subst (λ (ns : List Name). StandsFor ns (given_at book.rules p) (get_or after p None)) (sym (step ∙ grown.1)) (stands_grow new grown.0 (given_at book.rules p) (get_or after p None) (r.stand c.stand p l));
+      stand = λ p l. subst (λ (ns : List Name). HaveNumbers ns (given_at book.rules p) (get_or after p None)) (sym (step ∙ grown.1)) (stands_grow new grown.0 (given_at book.rules p) (get_or after p None) (r.stand c.stand p l));
       done = λ i p k j. elim (cases_eq i read) [
         | inl e ↦ r.done p (subst (λ (ps : List ℕ). IsTrue (has nat_eq ps p)) (ap (λ m. places_of book.rules (name_at newer m)) e ∙ ap (places_of book.rules) (same_at read h) ∙ sym places_here) j)
         | inr n ↦ r.stays p (c.done i p (omega arith) (subst (λ (z : Name). IsTrue (has nat_eq (places_of book.rules z) p)) (same_at i (let w = c.within in omega arith)) j))

@@ -9,7 +9,7 @@ use Rattle.mk_name.proofs.Names.{name_is_exact, nat_is_exact, in_head, in_tail, 
 use Rattle.mk_rules.specs.Book.{Book}
 use Rattle.mk_graph.specs.Makers.{needs}
 use Rattle.mk_graph.specs.Collected.{IsGraph}
-use Rattle.mk_graph.specs.Graph.{IsChain, IsCycle}
+use Rattle.mk_graph.specs.Graph.{EachNeedsNext, IsCycle}
 use Rattle.mk_graph.specs.Least.{upto, IsLeastPlace}
 use Rattle.mk_jobs.specs.Numbered.{name_at}
 use Rattle.mk_graph.specs.Rows.{row, IsRing}
@@ -47,30 +47,30 @@ distinct_turned : (xs ys : List ℕ) → IsDistinct nat_eq (xs ++ ys) → IsDist
 unfolding Apart
 distinct_turned xs ys d = let a = distinct_parts xs ys d in distinct_joined ys xs (a.1, a.0, λ n h i. a.2 n i h)
 
-chain_front : (needs : ℕ → List ℕ) (xs : List ℕ) (y : ℕ) (ys : List ℕ) → IsChain nat_eq needs (xs ++ y ∷ ys) → IsChain nat_eq needs (xs ++ y ∷ [])
+chain_front : (needs : ℕ → List ℕ) (xs : List ℕ) (y : ℕ) (ys : List ℕ) → EachNeedsNext nat_eq needs (xs ++ y ∷ ys) → EachNeedsNext nat_eq needs (xs ++ y ∷ [])
 chain_front needs [] y ys c = tt
 chain_front needs (x ∷ []) y ys c = (c.0, tt)
 chain_front needs (x ∷ z ∷ zs) y ys c = (c.0, chain_front needs (z ∷ zs) y ys c.1)
 
-chain_back : (needs : ℕ → List ℕ) (xs : List ℕ) (y : ℕ) (ys : List ℕ) → IsChain nat_eq needs (xs ++ y ∷ ys) → IsChain nat_eq needs (y ∷ ys)
+chain_back : (needs : ℕ → List ℕ) (xs : List ℕ) (y : ℕ) (ys : List ℕ) → EachNeedsNext nat_eq needs (xs ++ y ∷ ys) → EachNeedsNext nat_eq needs (y ∷ ys)
 chain_back needs [] y ys c = c
 chain_back needs (x ∷ []) y ys c = c.1
 chain_back needs (x ∷ z ∷ zs) y ys c = chain_back needs (z ∷ zs) y ys c.1
 
-chain_joined : (needs : ℕ → List ℕ) (xs : List ℕ) (y : ℕ) (ys : List ℕ) → IsChain nat_eq needs (xs ++ y ∷ []) → IsChain nat_eq needs (y ∷ ys) → IsChain nat_eq needs (xs ++ y ∷ ys)
+chain_joined : (needs : ℕ → List ℕ) (xs : List ℕ) (y : ℕ) (ys : List ℕ) → EachNeedsNext nat_eq needs (xs ++ y ∷ []) → EachNeedsNext nat_eq needs (y ∷ ys) → EachNeedsNext nat_eq needs (xs ++ y ∷ ys)
 chain_joined needs [] y ys c d = d
 chain_joined needs (x ∷ []) y ys c d = (c.0, d)
 chain_joined needs (x ∷ z ∷ zs) y ys c d = (c.0, chain_joined needs (z ∷ zs) y ys c.1 d)
 
 -- a ring from one of its nodes on, round to it
-chain_turned : (needs : ℕ → List ℕ) (front : List ℕ) (x : ℕ) (back : List ℕ) (first : ℕ) (others : List ℕ) → front ++ x ∷ back ≡ first ∷ others → IsChain nat_eq needs ((front ++ x ∷ back) ++ first ∷ []) → IsChain nat_eq needs ((x ∷ back) ++ front ++ x ∷ [])
+chain_turned : (needs : ℕ → List ℕ) (front : List ℕ) (x : ℕ) (back : List ℕ) (first : ℕ) (others : List ℕ) → front ++ x ∷ back ≡ first ∷ others → EachNeedsNext nat_eq needs ((front ++ x ∷ back) ++ first ∷ []) → EachNeedsNext nat_eq needs ((x ∷ back) ++ front ++ x ∷ [])
 chain_turned needs [] x back first others e c =
     let same : x ≡ first = cc in
-    subst (λ (xs : List ℕ). IsChain nat_eq needs (xs ++ x ∷ [])) (sym (append-nil (x ∷ back))) (subst (λ (k : ℕ). IsChain nat_eq needs ((x ∷ back) ++ k ∷ [])) (sym same) c)
+    subst (λ (xs : List ℕ). EachNeedsNext nat_eq needs (xs ++ x ∷ [])) (sym (append-nil (x ∷ back))) (subst (λ (k : ℕ). EachNeedsNext nat_eq needs ((x ∷ back) ++ k ∷ [])) (sym same) c)
 chain_turned needs (f ∷ fs) x back first others e c =
     let same : f ≡ first = cc in
-    let whole : IsChain nat_eq needs ((f ∷ fs) ++ (x ∷ (back ++ f ∷ []))) = subst (λ (xs : List ℕ). IsChain nat_eq needs xs) (append_assoc (f ∷ fs) (x ∷ back) (f ∷ [])) (subst (λ (k : ℕ). IsChain nat_eq needs (((f ∷ fs) ++ x ∷ back) ++ k ∷ [])) (sym same) c) in
-    subst (λ (xs : List ℕ). IsChain nat_eq needs xs) (sym (append_assoc (x ∷ back) (f ∷ fs) (x ∷ [])))
+    let whole : EachNeedsNext nat_eq needs ((f ∷ fs) ++ (x ∷ (back ++ f ∷ []))) = subst (λ (xs : List ℕ). EachNeedsNext nat_eq needs xs) (append_assoc (f ∷ fs) (x ∷ back) (f ∷ [])) (subst (λ (k : ℕ). EachNeedsNext nat_eq needs (((f ∷ fs) ++ x ∷ back) ++ k ∷ [])) (sym same) c) in
+    subst (λ (xs : List ℕ). EachNeedsNext nat_eq needs xs) (sym (append_assoc (x ∷ back) (f ∷ fs) (x ∷ [])))
     (chain_joined needs (x ∷ back) f (fs ++ x ∷ []) (chain_back needs (f ∷ fs) x (back ++ f ∷ []) whole) (chain_front needs (f ∷ fs) x (back ++ f ∷ []) whole))
 
 pub cycle_is : (book : Book) (listing goals names : List Name) (rows : List (Vec ℕ Global)) (starts ring : List ℕ) (least : ℕ) → IsGraph book listing goals names rows starts → IsRing (row rows) starts ring → IsLeastPlace names ring (length ring) least → IsCycle same_name upto (needs book listing) goals (map (name_at names) (drop least ring ++ take (least + 1) ring))
@@ -79,9 +79,9 @@ cycle_is book listing goals names rows starts ring least g r p =
       first = name_at names x;
       others = map (name_at names) (back ++ front);
       closed = ap (map (name_at names)) numbers ∙ map-append (name_at names) (x ∷ back ++ front) (x ∷ []);
-      chain = subst (λ (ns : List ℕ). IsChain same_name (needs book listing) (map (name_at names) ns)) (sym numbers)
+      chain = subst (λ (ns : List ℕ). EachNeedsNext same_name (needs book listing) (map (name_at names) ns)) (sym numbers)
           (chain_map same_name (needs book listing) goals (name_at names) (length names) (row rows) starts w (x ∷ (back ++ front) ++ x ∷ []) (λ n h. elim (in_cases nat_eq nat_is_exact (x ∷ back ++ front) (x ∷ []) n h) [ inl l ↦ below n l | inr e ↦ below n (in_left nat_eq nat_is_exact (x ∷ []) (back ++ front) n e) ])
-          (chain_turned (row rows) front x back r.first r.others (sym parts ∙ r.ring_is) (subst (λ (ns : List ℕ). IsChain nat_eq (row rows) (ns ++ r.first ∷ [])) parts r.chain)));
+          (chain_turned (row rows) front x back r.first r.others (sym parts ∙ r.ring_is) (subst (λ (ns : List ℕ). EachNeedsNext nat_eq (row rows) (ns ++ r.first ∷ [])) parts r.chain)));
       distinct = distinct_map same_name (needs book listing) goals (name_at names) (length names) (row rows) starts w (x ∷ back ++ front) below
           (distinct_turned front (x ∷ back) (subst (λ (ns : List ℕ). IsDistinct nat_eq ns) parts r.distinct));
       least = λ n h. let k = has_back same_name name_is_exact (name_at names) (back ++ front) n h in

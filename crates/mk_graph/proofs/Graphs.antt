@@ -10,7 +10,7 @@ use Rattle.std.proofs.lemmas.List.Sums.{sum_by-cons}
 use Rattle.mk_name.specs.Names.{Name, same_name, has, kept, firsts, IsDistinct}
 use Rattle.mk_name.proofs.Names.{name_is_exact, nat_is_exact, in_head, in_tail, in_left, in_cases, not_in, kept-append, kept_again, kept_cases, sum_within}
 use Rattle.mk_rules.specs.Book.{Book, places_of, prerequisites_of}
-use Rattle.mk_graph.specs.Collected.{given_at, StandsFor, SourceStands, Collected, IsGraph}
+use Rattle.mk_graph.specs.Collected.{given_at, HaveNumbers, SourceStands, Collected, IsGraph}
 use Rattle.mk_graph.specs.Graph.{count_edges, HasMoreThan}
 use Rattle.mk_jobs.specs.Numbered.{name_at, number_of, Stand}
 use Rattle.mk_graph.specs.Rows.{row}
@@ -34,7 +34,7 @@ firsts_raw : (o : Option (Vec ℕ Global)) → firsts_of o ≡ firsts nat_eq (ra
 firsts_raw None = refl
 firsts_raw (Some v) = refl
 
-raw_stands : (names given : List Name) (o : Option (Vec ℕ Global)) → StandsFor names given o → IsSome o → Stand names (raw_of o) given
+raw_stands : (names given : List Name) (o : Option (Vec ℕ Global)) → HaveNumbers names given o → IsSome o → Stand names (raw_of o) given
 raw_stands names given None s h = absurd (both_ways _ refl h)
 raw_stands names given (Some v) s h = s
 
@@ -135,7 +135,7 @@ entries_below book listing goals names entries sources starts read p c =
       | inr g ↦ subst (λ (o : Option (Vec ℕ Global)). AllBelow (length names) o) (sym (get_or_past entries p None (let l = c.long in omega arith))) tt
     ]
   where
-    go : (o : Option (Vec ℕ Global)) → StandsFor names (given_at book.rules p) o → AllBelow (length names) o
+    go : (o : Option (Vec ℕ Global)) → HaveNumbers names (given_at book.rules p) o → AllBelow (length names) o
     go None s = tt
     go (Some v) s = s.within
 

@@ -4,6 +4,7 @@ mod Collecting
 mod Cuts
 mod Cycles
 mod Graphs
+mod LeastNumbers
 mod Leasts
 mod Measure
 mod NodeNames

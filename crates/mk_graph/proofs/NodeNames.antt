@@ -11,7 +11,7 @@ use Rattle.mk_graph.specs.Assembled.{node_of, IsAssembled, IsNumbering}
 use Rattle.mk_rules.specs.Book.{Book}
 use Rattle.mk_jobs.specs.Numbered.{name_at, number_of}
 use Rattle.mk_jobs.specs.Plan.{AreFoundBy, Node, Plan, names_of}
-use Rattle.mk_graph.specs.Rows.{row, IsRising}
+use Rattle.mk_graph.specs.Rows.{row, StandAfterNeeds}
 use Rattle.mk_graph.proofs.Bridge.{has_back}
 use Rattle.mk_jobs.proofs.Numberings.{number_at, number_some}
 use Rattle.mk_graph.proofs.Rowing.{in_at, place_of}
@@ -51,7 +51,7 @@ placed_before order places at i (q ∷ qs) h w p m =
     ]
 
 -- each node stands after what it needs
-pub nodes_rising : (book : Book) (listing names : List Name) (rows : List (Vec ℕ Global)) (order places : List ℕ) (nodes : List Node) → IsNumbering order places → IsRising (row rows) order → nodes ≡ map (λ n. node_of book listing (name_at names n) (map (λ p. get_or places p 0) (row rows n))) order → (i p : ℕ) (d : Node) → i < length nodes → IsTrue (has nat_eq (get_or nodes i d).prerequisites p) → p < i
+pub nodes_rising : (book : Book) (listing names : List Name) (rows : List (Vec ℕ Global)) (order places : List ℕ) (nodes : List Node) → IsNumbering order places → StandAfterNeeds (row rows) order → nodes ≡ map (λ n. node_of book listing (name_at names n) (map (λ p. get_or places p 0) (row rows n))) order → (i p : ℕ) (d : Node) → i < length nodes → IsTrue (has nat_eq (get_or nodes i d).prerequisites p) → p < i
 nodes_rising book listing names rows order places nodes at rising is i p d h m =
     let node_at : ℕ → Node = λ n. node_of book listing (name_at names n) (map (λ q. get_or places q 0) (row rows n)) in
     let k : i < length order = omega (arith, ap length is, length-map order node_at) in

@@ -12,7 +12,7 @@ use Rattle.mk_name.proofs.Names.{name_is_exact}
 use Rattle.mk_rules.specs.Special.{is_suffix}
 use Rattle.mk_rules.proofs.Firsts.{has-flip}
 use Rattle.mk_jobs.specs.Numbered.{name_at}
-use Rattle.mk_sets.specs.Numbers.{IsLeast}
+use Rattle.mk_graph.specs.Numbers.{IsLeast}
 use Rattle.mk_graph.specs.Places.{IsLeastSuffix, place_of}
 
 pub place_is : (xs : List Name) (s : Name) (p : ℕ) → place_of xs s ≡ Some p → (p < length xs) × (name_at xs p ≡ s)

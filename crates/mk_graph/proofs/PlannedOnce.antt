@@ -14,7 +14,7 @@ use Rattle.mk_name.specs.declared.fault.Kind.TheVariants as kinds
 use Rattle.mk_name.proofs.Names.{In, IsExact, distinct_kept, in_cons_cases, in_head, in_tail, name_is_exact, nat_is_exact}
 use Rattle.mk_rules.specs.Book.{Book, is_phony}
 use Rattle.mk_graph.specs.Answer.{AllMade, Comes, IsLeastUnmade, IsNodeOf, IsPlan, cycle, graph_fault, no_rule, planned, too_large}
-use Rattle.mk_graph.specs.Graph.{HasNoCycle, IsChain, IsCycle, IsNode, IsSerialOrder, IsTreeAt, Leads}
+use Rattle.mk_graph.specs.Graph.{EachNeedsNext, HasNoCycle, IsCycle, IsNode, IsSerialOrder, IsTreeOfNeeds, Leads}
 use Rattle.mk_graph.specs.Least.{upto}
 use Rattle.mk_graph.specs.Makers.{maker_of, needs}
 use Rattle.mk_graph.specs.Once.{Agree, PlannedOnce}
@@ -45,7 +45,7 @@ module _ {X : Type 0} (same : X → X → Bool) (exact : IsExact same) (need : X
         | inr i ↦ let r = joined_long t xs m i in omega (arith, length-append (t x) (flat_map t xs))
       ]
 
-  module _ (t u : X → List X) (ts : (n : X) → IsNode same need goals n → IsTreeAt need t n) (us : (n : X) → IsNode same need goals n → IsTreeAt need u n) where
+  module _ (t u : X → List X) (ts : (n : X) → IsNode same need goals n → IsTreeOfNeeds need t n) (us : (n : X) → IsNode same need goals n → IsTreeOfNeeds need u n) where
     shorter : (n m : X) → IsNode same need goals n → In same (need n) m → length (t m) < length (t n)
     shorter n m node h =
         let is = ap length (ts n node) in
@@ -74,13 +74,13 @@ module _ {X : Type 0} (same : X → X → Bool) (exact : IsExact same) (need : X
   leads_front zero a b c h l = (a, refl, subst (λ (z : X). In same (need a) z) l h)
   leads_front (suc edges) a b c h l = (l.0, leads_front edges a b l.0 h l.1, l.2)
 
-  chain_leads : (a : X) (xs : List X) (c : X) → IsChain same need (a ∷ xs ++ c ∷ []) → (edges : ℕ) × Leads same need (suc edges) a c
+  chain_leads : (a : X) (xs : List X) (c : X) → EachNeedsNext same need (a ∷ xs ++ c ∷ []) → (edges : ℕ) × Leads same need (suc edges) a c
   chain_leads a [] c h = (0, (a, refl, h.0))
   chain_leads a (x ∷ xs) c h = let rest = chain_leads x xs c h.1 in (suc rest.0, leads_front (suc rest.0) a x c h.0 rest.1)
 
   cycle_is_there : (on : X → X → Bool) (names : List X) → IsCycle same on need goals names → HasNoCycle same need goals → ⊥
   cycle_is_there on names is none =
-      let leads = chain_leads is.first is.others is.first (subst (λ (xs : List X). IsChain same need xs) is.closed is.chain) in
+      let leads = chain_leads is.first is.others is.first (subst (λ (xs : List X). EachNeedsNext same need xs) is.closed is.chain) in
       none is.first leads.0 is.node leads.1
 
 -- ---- the nodes

@@ -6,8 +6,8 @@ use Rattle.std.proofs.lemmas.Bool.{cases_lt, cases_Bool, both_ways, cases_eq, eq
 use Rattle.std.proofs.lemmas.List.{take-append-le, take_at, get_or_push, get_or_append_left, length_push, get_or-set_same, get_or-set_other, length-set, append-nil}
 use Rattle.mk_name.specs.Names.{has, kept, firsts, IsDistinct}
 use Rattle.mk_name.proofs.Names.{nat_is_exact, in_head, in_tail, in_cons_cases, in_left, in_right, in_cases, in_push, in_push_cases, not_in, has-push_other, joined_within, kept_new, kept_skip}
-use Rattle.mk_graph.specs.Graph.{Leads, IsNode, IsTreeAt, IsSerialOrder, HasNoCycle, IsChain}
-use Rattle.mk_graph.specs.Rows.{IsRing, IsRising}
+use Rattle.mk_graph.specs.Graph.{Leads, IsNode, IsTreeOfNeeds, IsSerialOrder, HasNoCycle, EachNeedsNext}
+use Rattle.mk_graph.specs.Rows.{IsRing, StandAfterNeeds}
 use Rattle.mk_graph.specs.Steps.{ring_to}
 use Rattle.mk_graph.specs.declared.serial.Mark.{Mark}
 use Rattle.mk_graph.specs.declared.serial.Mark.TheVariants.{Fresh, Open, Done}
@@ -65,7 +65,7 @@ owed tree (Leave n ∷ steps) = n ∷ owed tree steps
 -- a set that needs nothing else, with a tree at each
 pub record Trees (needs : ℕ → List ℕ) (set : ℕ → Bool) (tree : ℕ → List ℕ) : Type 0 where
   pub closed : (n p : ℕ) → set n ≡ true → In (needs n) p → set p ≡ true
-  pub at : (n : ℕ) → set n ≡ true → IsTreeAt needs tree n
+  pub at : (n : ℕ) → set n ≡ true → IsTreeOfNeeds needs tree n
 
 -- what is done and what is owed, each where it first stands, is the whole
 pub record Owes (goals order : List ℕ) (steps : List Step) (set : ℕ → Bool) (tree : ℕ → List ℕ) : Type 0 where
@@ -78,14 +78,14 @@ pub record Walks (needs : ℕ → List ℕ) (size : ℕ) (goals : List ℕ) (mar
   pub marked : Marked marks order (opens steps)
   pub closed : (n p : ℕ) → In order n → In (needs n) p → In order p
   pub tree : ℕ → List ℕ
-  pub trees : (n : ℕ) → In order n → IsTreeAt needs tree n
+  pub trees : (n : ℕ) → In order n → IsTreeOfNeeds needs tree n
   pub distinct : IsDistinct nat_eq (opens steps)
   pub apart : (n : ℕ) → In (opens steps) n → In order n → ⊥
   pub needed : AllNeeded needs goals steps
   pub promises : Promises needs goals order steps
   pub small : (n : ℕ) → In (nodes steps) n → n < size
   pub reached : (n : ℕ) → In (nodes steps) n → IsNode nat_eq needs goals n
-  pub rising : IsRising needs order
+  pub rising : StandAfterNeeds needs order
   pub done_nodes : (n : ℕ) → In order n → IsNode nat_eq needs goals n
   pub owes : (set : ℕ → Bool) (tree : ℕ → List ℕ) → Trees needs set tree → ((g : ℕ) → In goals g → set g ≡ true) → Owes goals order steps set tree
 
@@ -287,7 +287,7 @@ enter needs size goals marks order n steps after w h range e =
     wider : (more : List ℕ) → Within order more → Within (n ∷ order) (n ∷ more)
     wider more old x i = elim (in_cons_cases nat_eq nat_is_exact n x order i) [ inl q ↦ subst (λ (z : ℕ). In (n ∷ more) z) q (in_head nat_eq nat_is_exact n more) | inr j ↦ in_tail nat_eq nat_is_exact n x more (old x j) ]
 
-rising_push : (needs : ℕ → List ℕ) (order : List ℕ) (n : ℕ) → IsRising needs order → Within (needs n) order → IsRising needs (order ++ n ∷ [])
+rising_push : (needs : ℕ → List ℕ) (order : List ℕ) (n : ℕ) → StandAfterNeeds needs order → Within (needs n) order → StandAfterNeeds needs (order ++ n ∷ [])
 rising_push needs order n r w i p h m =
     elim (cases_lt i (length order)) [
       | inl l ↦ subst (λ (xs : List ℕ). In xs p) (sym (take-append-le i order (n ∷ []) (omega arith))) (r i p l (subst (λ (k : ℕ). In (needs k) p) (get_or_append_left order (n ∷ []) 0 i l) m))
@@ -314,7 +314,7 @@ trees_agree needs tree order n (p ∷ ps) absent h =
     ∙ ap (λ xs. tree_with needs tree n p ++ xs) (trees_agree needs tree order n ps absent (λ q i. h q (in_tail nat_eq nat_is_exact p q ps i)))
 
 -- the tree of a node whose prerequisites are done lies in what is done with it
-tree_within : (needs tree : ℕ → List ℕ) (order : List ℕ) (n : ℕ) → IsTreeAt needs tree n → Within (needs n) order → ((m : ℕ) → In order m → Within (tree m) order) → Within (tree n) (order ++ n ∷ [])
+tree_within : (needs tree : ℕ → List ℕ) (order : List ℕ) (n : ℕ) → IsTreeOfNeeds needs tree n → Within (needs n) order → ((m : ℕ) → In order m → Within (tree m) order) → Within (tree n) (order ++ n ∷ [])
 tree_within needs tree order n at w whole x i =
     elim (in_cases nat_eq nat_is_exact (flat_map tree (needs n)) (n ∷ []) x (subst (λ (xs : List ℕ). In xs x) at i)) [
       | inl l ↦ in_left nat_eq nat_is_exact order (n ∷ []) x (joined_within nat_eq nat_is_exact nat_eq nat_is_exact tree (needs n) order (λ p j. whole p (w p j)) x l)
@@ -334,7 +334,7 @@ leave needs size goals marks order n steps w =
       tree = tree_with needs w.tree n;
       trees = λ m h. elim (in_push_cases nat_eq nat_is_exact order n m h) [
         | inl j ↦ tree_old needs w.tree order n m absent j ∙ w.trees m j ∙ ap (λ xs. xs ++ m ∷ []) (trees_agree needs w.tree order n (needs m) absent (λ p i. w.closed m p j i))
-        | inr e ↦ subst (λ (z : ℕ). IsTreeAt needs (tree_with needs w.tree n) z) e (tree_new needs w.tree n ∙ ap (λ xs. xs ++ n ∷ []) (trees_agree needs w.tree order n (needs n) absent w.promises.0))
+        | inr e ↦ subst (λ (z : ℕ). IsTreeOfNeeds needs (tree_with needs w.tree n) z) e (tree_new needs w.tree n ∙ ap (λ xs. xs ++ n ∷ []) (trees_agree needs w.tree order n (needs n) absent w.promises.0))
       ];
       distinct = w.distinct.1;
       apart = λ m i j. elim (in_push_cases nat_eq nat_is_exact order n m j) [
@@ -382,7 +382,7 @@ node_leads : (needs : ℕ → List ℕ) (goals : List ℕ) (edges a b : ℕ) →
 node_leads needs goals zero a b h l = subst (λ (z : ℕ). IsNode nat_eq needs goals z) l h
 node_leads needs goals (suc edges) a b h l = node_next needs goals l.0 b (node_leads needs goals edges a l.0 h l.1) l.2
 
-smaller : (needs : ℕ → List ℕ) (goals : List ℕ) (tree : ℕ → List ℕ) → ((n : ℕ) → IsNode nat_eq needs goals n → IsTreeAt needs tree n) → (edges a b : ℕ) → IsNode nat_eq needs goals a → Leads nat_eq needs edges a b → length (tree b) + edges ≤ length (tree a)
+smaller : (needs : ℕ → List ℕ) (goals : List ℕ) (tree : ℕ → List ℕ) → ((n : ℕ) → IsNode nat_eq needs goals n → IsTreeOfNeeds needs tree n) → (edges a b : ℕ) → IsNode nat_eq needs goals a → Leads nat_eq needs edges a b → length (tree b) + edges ≤ length (tree a)
 smaller needs goals tree trees zero a b h l = subst (λ (z : ℕ). length (tree z) + 0 ≤ length (tree a)) l (omega arith)
 smaller needs goals tree trees (suc edges) a b h l =
     let before = smaller needs goals tree trees edges a l.0 h l.1 in
@@ -429,13 +429,13 @@ ring_here back m rest steps e = ap (λ b. if b then m ∷ rest else ring_to back
 pub ring_past : (back m : ℕ) (rest : List ℕ) (steps : List Step) → (m ≡ back → ⊥) → ring_to back rest (Leave m ∷ steps) ≡ ring_to back (m ∷ rest) steps
 ring_past back m rest steps n = ap (λ b. if b then m ∷ rest else ring_to back (m ∷ rest) steps) (ne_eqb m back n)
 
-ring_chain : (needs : ℕ → List ℕ) (goals : List ℕ) (back x : ℕ) (rest : List ℕ) (steps : List Step) → IsNeeded needs goals x steps → AllNeeded needs goals steps → IsChain nat_eq needs (x ∷ rest) → IsChain nat_eq needs (ring_to back (x ∷ rest) steps)
+ring_chain : (needs : ℕ → List ℕ) (goals : List ℕ) (back x : ℕ) (rest : List ℕ) (steps : List Step) → IsNeeded needs goals x steps → AllNeeded needs goals steps → EachNeedsNext nat_eq needs (x ∷ rest) → EachNeedsNext nat_eq needs (ring_to back (x ∷ rest) steps)
 ring_chain needs goals back x rest [] n a c = c
 ring_chain needs goals back x rest (Enter m ∷ steps) n a c = ring_chain needs goals back x rest steps n a.1 c
 ring_chain needs goals back x rest (Leave m ∷ steps) n a c =
     elim (cases_eq m back) [
-      | inl e ↦ subst (λ (xs : List ℕ). IsChain nat_eq needs xs) (sym (ring_here back m (x ∷ rest) steps e)) (n, c)
-      | inr d ↦ subst (λ (xs : List ℕ). IsChain nat_eq needs xs) (sym (ring_past back m (x ∷ rest) steps d)) (ring_chain needs goals back m (x ∷ rest) steps a.0 a.1 (n, c))
+      | inl e ↦ subst (λ (xs : List ℕ). EachNeedsNext nat_eq needs xs) (sym (ring_here back m (x ∷ rest) steps e)) (n, c)
+      | inr d ↦ subst (λ (xs : List ℕ). EachNeedsNext nat_eq needs xs) (sym (ring_past back m (x ∷ rest) steps d)) (ring_chain needs goals back m (x ∷ rest) steps a.0 a.1 (n, c))
     ]
 
 ring_first : (back : ℕ) (rest : List ℕ) (steps : List Step) → In (opens steps) back → (others : List ℕ) × (ring_to back rest steps ≡ back ∷ others)
@@ -482,7 +482,7 @@ closes needs size goals marks order n steps w h =
       first = n;
       others = first.0;
       ring_is = first.1;
-      chain = subst (λ (xs : List ℕ). IsChain nat_eq needs xs) (ring_more n [] (n ∷ []) steps) (ring_chain needs goals n n [] steps w.needed.0 w.needed.1 tt);
+      chain = subst (λ (xs : List ℕ). EachNeedsNext nat_eq needs xs) (ring_more n [] (n ∷ []) steps) (ring_chain needs goals n n [] steps w.needed.0 w.needed.1 tt);
       distinct = ring_distinct n [] steps tt w.distinct (λ k i j. both_ways _ refl i);
       nodes = λ m i. elim (ring_cases n [] steps m i) [ inl l ↦ absurd (both_ways _ refl l) | inr o ↦ w.reached m (in_tail nat_eq nat_is_exact n m (nodes steps) (in_opens steps m o)) ];
     }

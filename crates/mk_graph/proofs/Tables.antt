@@ -21,7 +21,7 @@ use Rattle.mk_rules.specs.Special.{is_suffix}
 use Rattle.mk_rules.proofs.Indexes.{has-targets_of}
 use Rattle.mk_jobs.specs.Numbered.{name_at}
 use Rattle.mk_graph.specs.Makers.{is_there}
-use Rattle.mk_sets.specs.Numbers.{IsLeast, in_set}
+use Rattle.mk_graph.specs.Numbers.{IsLeast, in_set}
 use Rattle.mk_graph.specs.Places.{AreNamePlaces, ArePlaces, AreRulePlaces, IsBlank, IsLeastSuffix, IsOld, NotesPlace, Table, before_last_period, is_key, place_of, stands_beside}
 use Rattle.mk_graph.specs.SourceIndex.{names_there}
 use Rattle.mk_graph.specs.Suffix.{from_last_period}

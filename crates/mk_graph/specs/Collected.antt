@@ -14,12 +14,12 @@ abbrev pub given_at : List Entry → ℕ → List Name
 given_at rules place = slice_index_or (map (λ e. e.prerequisites) rules) place []
 
 -- a rule that was read has the numbers of its prerequisites
-abbrev pub StandsFor : List Name → List Name → Option (Vec ℕ Global) → Type 0
-StandsFor names given None = Unit {0}
-StandsFor names given (Some numbers) = Stand names numbers.items given
+abbrev pub HaveNumbers : List Name → List Name → Option (Vec ℕ Global) → Type 0
+HaveNumbers names given None = Unit {0}
+HaveNumbers names given (Some numbers) = Stand names numbers.items given
 
 abbrev pub AllStand : List Entry → List Name → List (Option (Vec ℕ Global)) → Type 0
-AllStand rules names entries = (place : ℕ) → place < length rules → StandsFor names (given_at rules place) (get_or entries place None)
+AllStand rules names entries = (place : ℕ) → place < length rules → HaveNumbers names (given_at rules place) (get_or entries place None)
 
 -- the rules at some places were read
 pub record Reads (rules : List Entry) (places : List ℕ) (old_names : List Name) (old_entries : List (Option (Vec ℕ Global))) (names : List Name) (entries : List (Option (Vec ℕ Global))) : Type 0 where

@@ -17,27 +17,27 @@ abbrev pub HasNoCycle : {X : Type 0} → (X → X → Bool) → (X → List X) �
 HasNoCycle {X} same needs goals = (n : X) (edges : ℕ) → IsNode same needs goals n → Leads same needs (suc edges) n n → ⊥
 
 -- what is done for a node: all that its prerequisites need, in their order, and then the node
-abbrev pub IsTreeAt : {X : Type 0} → (X → List X) → (X → List X) → X → Type 0
-IsTreeAt needs tree n = tree n ≡ flat_map tree (needs n) ++ n ∷ []
+abbrev pub IsTreeOfNeeds : {X : Type 0} → (X → List X) → (X → List X) → X → Type 0
+IsTreeOfNeeds needs tree n = tree n ≡ flat_map tree (needs n) ++ n ∷ []
 
 -- the serial order: the trees of the goals one after another, each node kept where it first stands
 pub record IsSerialOrder {X : Type 0} (same : X → X → Bool) (needs : X → List X) (goals order : List X) : Type 0 where
   pub tree : X → List X
-  pub trees : (n : X) → IsNode same needs goals n → IsTreeAt needs tree n
+  pub trees : (n : X) → IsNode same needs goals n → IsTreeOfNeeds needs tree n
   pub order_is : order ≡ firsts same (flat_map tree goals)
 
 -- each of these needs the next
-abbrev pub IsChain : {X : Type 0} → (X → X → Bool) → (X → List X) → List X → Type 0
-IsChain same needs [] = Unit {0}
-IsChain same needs (x ∷ []) = Unit {0}
-IsChain same needs (x ∷ y ∷ ys) = IsTrue (has same (needs x) y) × IsChain same needs (y ∷ ys)
+abbrev pub EachNeedsNext : {X : Type 0} → (X → X → Bool) → (X → List X) → List X → Type 0
+EachNeedsNext same needs [] = Unit {0}
+EachNeedsNext same needs (x ∷ []) = Unit {0}
+EachNeedsNext same needs (x ∷ y ∷ ys) = IsTrue (has same (needs x) y) × EachNeedsNext same needs (y ∷ ys)
 
 -- a closed chain of nodes without other repeats, that begins and ends with its least node by the test `upto`
 pub record IsCycle {X : Type 0} (same upto : X → X → Bool) (needs : X → List X) (goals cycle : List X) : Type 0 where
   pub first : X
   pub others : List X
   pub closed : cycle ≡ first ∷ others ++ first ∷ []
-  pub chain : IsChain same needs cycle
+  pub chain : EachNeedsNext same needs cycle
   pub distinct : IsDistinct same (first ∷ others)
   pub least : (n : X) → IsTrue (has same others n) → IsTrue (upto first n)
   pub node : IsNode same needs goals first

@@ -5,6 +5,7 @@ pub mod Graph
 pub mod Least
 pub mod Looked
 pub mod Makers
+pub mod Numbers
 pub mod Once
 pub mod Places
 pub mod Rows

@@ -8,7 +8,7 @@ use Rattle.std.specs.Global.{Global}
 use Rattle.std.specs.Option.{is_some, option_map_or}
 use Rattle.std.specs.Ordering.{nat_cmp}
 use Rattle.mk_name.specs.Names.{Name, same_name, has}
-use Rattle.mk_sets.specs.Numbers.{in_set}
+use Rattle.mk_graph.specs.Numbers.{in_set}
 use Rattle.mk_graph.specs.Suffix.{from_last_period}
 
 -- sets of places by names

@@ -2,7 +2,7 @@
 use Rattle.std.specs.Prelude.{ℕ, List, nat_eq, IsTrue}
 use Rattle.mk_name.specs.Names.{has}
 use Rattle.mk_graph.specs.Graph.{IsNode, IsSerialOrder, HasNoCycle}
-use Rattle.mk_graph.specs.Rows.{IsRing, IsRising}
+use Rattle.mk_graph.specs.Rows.{IsRing, StandAfterNeeds}
 use Rattle.mk_graph.specs.declared.serial.Walked.{Walked}
 use Rattle.mk_graph.specs.declared.serial.Walked.TheVariants.{Order, Ring}
 
@@ -10,7 +10,7 @@ use Rattle.mk_graph.specs.declared.serial.Walked.TheVariants.{Order, Ring}
 pub record IsOrder (needs : ℕ → List ℕ) (goals order : List ℕ) : Type 0 where
   pub serial : IsSerialOrder nat_eq needs goals order
   pub no_cycle : HasNoCycle nat_eq needs goals
-  pub rising : IsRising needs order
+  pub rising : StandAfterNeeds needs order
   pub nodes : (n : ℕ) → IsTrue (has nat_eq order n) → IsNode nat_eq needs goals n
 
 -- the serial order, or a ring of nodes that need one another

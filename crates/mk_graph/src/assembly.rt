@@ -7,7 +7,7 @@ ghost use Rattle.mk_jobs.specs.Plan.{HaveNames, edge_limit, node_limit, with_nam
 ghost use Rattle.mk_graph.specs.Assembled.{node_of, IsAssembled, IsNumbering};
 ghost use Rattle.mk_graph.specs.Looked.{looked_of};
 ghost use Rattle.mk_graph.specs.Makers.{maker_of};
-ghost use Rattle.mk_graph.specs.Rows.{row, IsRising};
+ghost use Rattle.mk_graph.specs.Rows.{row, StandAfterNeeds};
 
 use crate::graph::Graph;
 use mk_jobs::plan::{NumberedNode, Plan};
@@ -99,7 +99,7 @@ pub fn assemble(
     requires makers { graph.makers.items ≡ map (maker_of book.now listing.now) graph.names }
     requires rows { length graph.rows.items ≡ length graph.names }
     requires inside { (i n : ℕ) → IsTrue (has nat_eq (row graph.rows.items i) n) → n < length graph.names }
-    requires rising { IsRising (row graph.rows.items) order.now }
+    requires rising { StandAfterNeeds (row graph.rows.items) order.now }
     ensures { IfOk result
         (λ plan. IsAssembled book.now listing.now graph.entry.names graph.entry.rows.items order.now plan) }
 {

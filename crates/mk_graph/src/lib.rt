@@ -14,6 +14,7 @@ mod inference;
 pub mod laws;
 mod looked;
 mod makers;
+mod numbers;
 mod places;
 pub mod planning;
 mod rows;

@@ -27,10 +27,10 @@ abbrev pub Named : Type 0
 Named = List (Name × Cut)
 
 -- the text of each name: the first one that has it counts
-abbrev pub Texts : Type 0
-Texts = Name → Option Cut
+abbrev pub IncludeTexts : Type 0
+IncludeTexts = Name → Option Cut
 
-abbrev pub texts_of : Named → Texts
+abbrev pub texts_of : Named → IncludeTexts
 texts_of named = λ name. lookup (same_name name) named
 
 -- a pair of a path and a text, the path in plain spelling and the text cut
@@ -42,10 +42,10 @@ abbrev pub is_bad : List ℕ × List ℕ → Bool
 is_bad pair = not (is_path pair.0)
 
 -- the texts of some pairs, or the fault of the first whose path spells no name; places count from 1
-abbrev pub includes_of : List ℕ → List (List ℕ × List ℕ) → Result Texts Reported
+abbrev pub includes_of : List ℕ → List (List ℕ × List ℕ) → Result IncludeTexts Reported
 includes_of root pairs =
     option_map_or (λ n. Err (record (bad_name sources.Includes []) { place = n + 1 })) (position is_bad pairs) (Ok (texts_of (map (named_pair root) pairs)))
 
 -- a call gives these texts, or this fault, unless memory ran out
-abbrev pub GivesTexts : Result Named Halt → Result Texts Reported → Type 0
+abbrev pub GivesTexts : Result Named Halt → Result IncludeTexts Reported → Type 0
 GivesTexts result answer = Gives (result_map_both texts_of (λ halt. halt) result) answer

@@ -9,7 +9,7 @@ use Rattle.mk_name.specs.declared.fault.Kind.TheVariants.{UnknownInclude, Includ
 use Rattle.mk_name.specs.declared.fault.Source.TheVariants.{Makefile}
 use Rattle.mk_text.specs.Lexical.{is_blank}
 use Rattle.mk_text.specs.Spelling.{word_name}
-use Rattle.mk_include.specs.Includes.{Cut, Texts}
+use Rattle.mk_include.specs.Includes.{Cut, IncludeTexts}
 
 -- the words of a text: what stands between its blanks
 abbrev pub words_of : List ℕ → List (List ℕ)
@@ -30,15 +30,15 @@ opened room taken name cut =
     else (if nat_le include_limit taken then Err (word_reported TooManyIncludes []) else Ok (Some (name, cut)))
 
 -- the text of a name: a hyphen passes over one that no text has
-abbrev pub text_named : Texts → Bool → ℕ → ℕ → Name → Result (Option (Name × Cut)) Reported
+abbrev pub text_named : IncludeTexts → Bool → ℕ → ℕ → Name → Result (Option (Name × Cut)) Reported
 text_named texts hyphen room taken name =
     option_map_or (opened room taken name) (texts name) (if hyphen then Ok None else Err (word_reported UnknownInclude (name ∷ [])))
 
 -- the same of a word's name, or of its fault
-abbrev pub text_of_name : Texts → Bool → ℕ → ℕ → Result Name Reported → Result (Option (Name × Cut)) Reported
+abbrev pub text_of_name : IncludeTexts → Bool → ℕ → ℕ → Result Name Reported → Result (Option (Name × Cut)) Reported
 text_of_name texts hyphen room taken (Err fault) = Err fault
 text_of_name texts hyphen room taken (Ok name) = text_named texts hyphen room taken name
 
 -- the text that a word names, nothing, or the word's own fault
-abbrev pub word_text : List ℕ → Texts → Bool → ℕ → ℕ → List ℕ → Result (Option (Name × Cut)) Reported
+abbrev pub word_text : List ℕ → IncludeTexts → Bool → ℕ → ℕ → List ℕ → Result (Option (Name × Cut)) Reported
 word_text root texts hyphen room taken word = text_of_name texts hyphen room taken (word_name root word)

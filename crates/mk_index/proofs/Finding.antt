@@ -10,7 +10,7 @@ use Rattle.mk_name.specs.Names.{Name}
 use Rattle.mk_path.specs.declared.path.Path.{Path}
 use Rattle.mk_path.specs.Covering.{tree_at}
 use Rattle.mk_path.specs.Laws.{IsFolderOf}
-use Rattle.mk_index.specs.Nearest.{AreNearest, AreTrees, Finds, IsInner, IsInnermost, IsNext, IsOther, IsOuter, IsOverName, IsOverPath, IsOverText, IsOwn, IsTreeAt, depth_of, is_tree}
+use Rattle.mk_index.specs.Nearest.{AreNearest, AreTrees, FindsTree, IsInner, IsInnermost, IsNext, IsOther, IsOuter, IsOverName, IsOverPath, IsOverText, IsOwn, IsTreeAt, depth_of, is_tree}
 use Rattle.mk_path.specs.Paths.{path_cmp, path_at}
 use Rattle.mk_path.proofs.Begin.{own_folder}
 use Rattle.mk_path.proofs.Between.{IsBound, miss_behind, none_longer}
@@ -56,7 +56,7 @@ tree_kept paths trees v y are tree =
 
 -- where there are no trees, none has one of some names
 pub none_there : (root : List ℕ) (paths trees : List (Bor Path)) (among : Name → Type 0) → AreTrees (map behind paths) (map behind trees) → length trees ≡ 0
-    → Finds root (map behind paths) among None
+    → FindsTree root (map behind paths) among None
 none_there root paths trees among are none = λ v y one tree.
     let kept = tree_kept paths trees v y are tree in
     omega (arith, kept.1, length-map trees behind, none)
@@ -103,8 +103,8 @@ module _ (root : List ℕ) (paths : List Path) where
   }
 
   -- or among the others, where the inner names have no tree
-  pub second_of : (A B C : Name → Type 0) (o : Option ℕ) → Finds root paths A None → Finds root paths B o → ((y : Name) → B y → C y) → ((y : Name) → C y → A y ⊎ B y)
-      → Finds root paths C o
+  pub second_of : (A B C : Name → Type 0) (o : Option ℕ) → FindsTree root paths A None → FindsTree root paths B o → ((y : Name) → B y → C y) → ((y : Name) → C y → A y ⊎ B y)
+      → FindsTree root paths C o
   second_of A B C None none found into out = λ v y c tree. elim (out y c) [ inl a ↦ none v y a tree | inr b ↦ found v y b tree ]
   second_of A B C (Some u) none found into out = record {
     name = found.name;
@@ -113,7 +113,7 @@ module _ (root : List ℕ) (paths : List Path) where
     folder = λ v y c tree. elim (out y c) [ inl a ↦ absurd (none v y a tree) | inr b ↦ found.folder v y b tree ];
   }
 
-  pub alike : (A C : Name → Type 0) (o : Option ℕ) → Finds root paths A o → ((y : Name) → A y → C y) → ((y : Name) → C y → A y) → Finds root paths C o
+  pub alike : (A C : Name → Type 0) (o : Option ℕ) → FindsTree root paths A o → ((y : Name) → A y → C y) → ((y : Name) → C y → A y) → FindsTree root paths C o
   alike A C o found into out = second_of (λ _. ⊥) A C o (λ v y none tree. none) found into (λ y c. inr (out y c))
 
   -- an inner folder of a text
@@ -136,10 +136,10 @@ module _ (root : List ℕ) (paths : List Path) where
   over_text_first text u absolute found = first_of (IsInner text) (IsOther text (codes "/")) (IsOverText text) u found (λ y a. inl a) (λ y c. c)
       (λ a b inner other. slash_folder root a b (ap is_absolute inner.is ∙ absolute_take text inner.place inner.some ∙ absolute) other.1)
 
-  pub over_text_second : (text : Name) (o : Option ℕ) → Finds root paths (IsInner text) None → Finds root paths (IsOther text (codes "/")) o → Finds root paths (IsOverText text) o
+  pub over_text_second : (text : Name) (o : Option ℕ) → FindsTree root paths (IsInner text) None → FindsTree root paths (IsOther text (codes "/")) o → FindsTree root paths (IsOverText text) o
   over_text_second text o none found = second_of (IsInner text) (IsOther text (codes "/")) (IsOverText text) o none found (λ y b. inr b) (λ y c. c)
 
-  pub outer_absolute : (x : Name) (o : Option ℕ) → is_absolute x ≡ true → Finds root paths (IsOther x (codes "/")) o → Finds root paths (IsOuter (top_of root) x) o
+  pub outer_absolute : (x : Name) (o : Option ℕ) → is_absolute x ≡ true → FindsTree root paths (IsOther x (codes "/")) o → FindsTree root paths (IsOuter (top_of root) x) o
   outer_absolute x o absolute found = alike (IsOther x (codes "/")) (IsOuter (top_of root) x) o found (λ y other. inl (absolute, other))
       (λ y outer. elim outer [ inl both ↦ both.1 | inr both ↦ absurd (both_ways (is_absolute x) both.0 absolute) ])
 
@@ -151,16 +151,16 @@ module _ (root : List ℕ) (paths : List Path) where
   outer_first x u relative found = first_of (IsOther x (codes ".")) (IsOverText (top_of root)) (IsOuter (top_of root) x) u found (λ y a. inr (relative, inl a))
       (λ y c. below_out x y relative c) (λ a b dot above. over_folder root a b (ap is_absolute dot.1) above)
 
-  pub outer_second : (x : Name) (o : Option ℕ) → is_absolute x ≡ false → Finds root paths (IsOther x (codes ".")) None → Finds root paths (IsOverText (top_of root)) o
-      → Finds root paths (IsOuter (top_of root) x) o
+  pub outer_second : (x : Name) (o : Option ℕ) → is_absolute x ≡ false → FindsTree root paths (IsOther x (codes ".")) None → FindsTree root paths (IsOverText (top_of root)) o
+      → FindsTree root paths (IsOuter (top_of root) x) o
   outer_second x o relative none found = second_of (IsOther x (codes ".")) (IsOverText (top_of root)) (IsOuter (top_of root) x) o none found (λ y b. inr (relative, inr b))
       (λ y c. below_out x y relative c)
 
   pub over_name_first : (x : Name) (u : ℕ) → IsInnermost root paths (IsInner x) u → IsInnermost root paths (IsOverName (top_of root) x) u
   over_name_first x u found = first_of (IsInner x) (IsOuter (top_of root) x) (IsOverName (top_of root) x) u found (λ y a. inl a) (λ y c. c) (outer_of_inner root x)
 
-  pub over_name_second : (x : Name) (o : Option ℕ) → Finds root paths (IsInner x) None → Finds root paths (IsOuter (top_of root) x) o
-      → Finds root paths (IsOverName (top_of root) x) o
+  pub over_name_second : (x : Name) (o : Option ℕ) → FindsTree root paths (IsInner x) None → FindsTree root paths (IsOuter (top_of root) x) o
+      → FindsTree root paths (IsOverName (top_of root) x) o
   over_name_second x o none found = second_of (IsInner x) (IsOuter (top_of root) x) (IsOverName (top_of root) x) o none found (λ y b. inr b) (λ y c. c)
 
   -- a folder over a path is that of a file's name, or stands over the name
@@ -181,7 +181,7 @@ module _ (root : List ℕ) (paths : List Path) where
       (λ y own. (subst (λ z. IsFolderOf root z p.name) (sym own.1) (own_folder root p.name), λ tree _. both_ways p.tree own.0 tree)) (path_out p)
       (λ a b own above. subst (λ z. IsFolderOf root b z) (sym own.1) (over_name_folder root p.name b above))
 
-  pub path_second : (p : Path) (o : Option ℕ) → Finds root paths (IsOwn p) None → Finds root paths (IsOverName (top_of root) p.name) o → Finds root paths (IsOverPath root p) o
+  pub path_second : (p : Path) (o : Option ℕ) → FindsTree root paths (IsOwn p) None → FindsTree root paths (IsOverName (top_of root) p.name) o → FindsTree root paths (IsOverPath root p) o
   path_second p o none found = second_of (IsOwn p) (IsOverName (top_of root) p.name) (IsOverPath root p) o none found (path_above p) (path_out p)
 
   -- one path more

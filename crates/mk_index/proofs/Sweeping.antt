@@ -13,7 +13,7 @@ use Rattle.mk_path.specs.declared.path.Path.{Path}
 use Rattle.mk_index.specs.declared.sweep.Open.{Open}
 use Rattle.mk_path.specs.Covering.{tree_at}
 use Rattle.mk_path.specs.Laws.{IsFolderOf}
-use Rattle.mk_index.specs.Nearest.{Finds, IsInner, IsInnermost, IsTreeAt}
+use Rattle.mk_index.specs.Nearest.{FindsTree, IsInner, IsInnermost, IsTreeAt}
 use Rattle.mk_path.specs.Paths.{path_cmp, path_at}
 use Rattle.mk_index.specs.Sweep.{AreOpen, BeginsWithTop, IsBegin, IsStackAt, KeepsBegins, name_of}
 use Rattle.mk_path.proofs.Begin.{own_folder}
@@ -111,7 +111,7 @@ module _ (paths : List Path) (rise : IsStrictlySortedBy path_cmp paths) where
 
   -- a tree is put on top
   pub stack_of_tree : (t : ℕ) (inner : Option ℕ) (stack : List Open) → t < length paths → (path_at paths t).tree ≡ true → AreOpen paths stack
-      → KeepsBegins paths (path_at paths t).name stack → ((root : List ℕ) → Finds root paths (IsInner (path_at paths t).name) inner)
+      → KeepsBegins paths (path_at paths t).name stack → ((root : List ℕ) → FindsTree root paths (IsInner (path_at paths t).name) inner)
       → IsStackAt paths (t + 1) (record { tree = t; inner = inner } ∷ stack)
   stack_of_tree t inner stack within tree_is are begins found = record {
     are = ((within, ap (λ b. record { name = (path_at paths t).name; tree = b }) tree_is), found, begins, are);
@@ -169,7 +169,7 @@ module _ (paths : List Path) where
         is = begin.is;
       }
 
-  pub inner_none : (root : List ℕ) (x : Name) → KeepsBegins paths x [] → Finds root paths (IsInner x) None
+  pub inner_none : (root : List ℕ) (x : Name) → KeepsBegins paths x [] → FindsTree root paths (IsInner x) None
   inner_none root x begins = λ v y inner tree. begins v y (inner_begin x y inner) tree
 
   pub inner_top : (root : List ℕ) (x : Name) (top : Open) (stack : List Open) → AreOpen paths (top ∷ stack) → KeepsBegins paths x (top ∷ stack)
@@ -192,7 +192,7 @@ module _ (paths : List Path) where
 
   pub inner_further : (root : List ℕ) (x : Name) (top : Open) (stack : List Open) → AreOpen paths (top ∷ stack) → KeepsBegins paths x (top ∷ stack)
       → BeginsWithTop paths x (top ∷ stack) → ((0 < length (name_of paths top)) × (length (name_of paths top) < length x) × (get_or x (length (name_of paths top)) 0 ≡ 47) → ⊥)
-      → Finds root paths (IsInner x) top.inner
+      → FindsTree root paths (IsInner x) top.inner
   inner_further root x top stack are begins is other = passed top.inner (are.1 root)
     where
       b : Name
@@ -207,7 +207,7 @@ module _ (paths : List Path) where
       most : length b ≤ length x
       most = let long = length-take (length b) x in omega (arith, long, ap length is)
 
-      passed : (o : Option ℕ) → Finds root paths (IsInner b) o → Finds root paths (IsInner x) o
+      passed : (o : Option ℕ) → FindsTree root paths (IsInner b) o → FindsTree root paths (IsInner x) o
       passed None none = λ v y inner tree. none v y (into v y inner tree) tree
       passed (Some u) found = record {
         name = found.name;

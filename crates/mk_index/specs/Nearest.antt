@@ -37,9 +37,9 @@ pub record IsInnermost (root : List ℕ) (paths : List Path) (among : Name → T
   pub folder : (v : ℕ) (y : Name) → among y → IsTreeAt paths v y → IsFolderOf root y name
 
 -- it is found; or no tree has one of these names
-abbrev pub Finds : List ℕ → List Path → (Name → Type 0) → Option ℕ → Type 0
-Finds root paths among None = (v : ℕ) (y : Name) → among y → IsTreeAt paths v y → ⊥
-Finds root paths among (Some u) = IsInnermost root paths among u
+abbrev pub FindsTree : List ℕ → List Path → (Name → Type 0) → Option ℕ → Type 0
+FindsTree root paths among None = (v : ℕ) (y : Name) → among y → IsTreeAt paths v y → ⊥
+FindsTree root paths among (Some u) = IsInnermost root paths among u
 
 -- y is what x begins with before a slash, which is not its first byte
 pub record IsInner (x y : Name) : Type 0 where
@@ -75,7 +75,7 @@ IsOverPath root p y = IsFolderOf root y p.name × (p.tree ≡ true → y ≡ p.n
 
 -- u is the nearest tree over path t, or t where none is
 abbrev pub IsNext : List ℕ → List Path → ℕ → ℕ → Type 0
-IsNext root paths t u = ((u ≡ t) × Finds root paths (IsOverPath root (path_at paths t)) None)
+IsNext root paths t u = ((u ≡ t) × FindsTree root paths (IsOverPath root (path_at paths t)) None)
     ⊎ IsInnermost root paths (IsOverPath root (path_at paths t)) u
 
 -- the nearest trees over the first paths

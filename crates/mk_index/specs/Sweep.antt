@@ -4,7 +4,7 @@ use Rattle.mk_name.specs.Names.{Name}
 use Rattle.mk_path.specs.declared.path.Path.{Path}
 use Rattle.mk_index.specs.declared.sweep.Open.{Open}
 use Rattle.mk_path.specs.Paths.{path_at}
-use Rattle.mk_index.specs.Nearest.{Finds, IsInner, IsTreeAt}
+use Rattle.mk_index.specs.Nearest.{FindsTree, IsInner, IsTreeAt}
 
 -- y is a beginning of x, and not x
 pub record IsBegin (x y : Name) : Type 0 where
@@ -23,7 +23,7 @@ KeepsBegins paths x (top ∷ stack) = (v : ℕ) (y : Name) → IsBegin x y → I
 -- each is a tree with the innermost tree that its name spells, and the stack below it keeps the beginnings of its name
 abbrev pub AreOpen : List Path → List Open → Type 0
 AreOpen paths [] = Unit {0}
-AreOpen paths (top ∷ stack) = IsTreeAt paths top.tree (name_of paths top) × ((root : List ℕ) → Finds root paths (IsInner (name_of paths top)) top.inner)
+AreOpen paths (top ∷ stack) = IsTreeAt paths top.tree (name_of paths top) × ((root : List ℕ) → FindsTree root paths (IsInner (name_of paths top)) top.inner)
     × KeepsBegins paths (name_of paths top) stack × AreOpen paths stack
 
 -- x begins with the name of the top, if there is one

@@ -2,7 +2,7 @@
 ghost use Rattle.std.specs.Prelude.{List, ℕ, ◌≡◌, ◌<◌, ◌≤◌, IfErr, IfOk, length, map, take, true};
 ghost use Rattle.std.specs.List.{filter};
 ghost use Rattle.mk_path.specs.Paths.{path_at};
-ghost use Rattle.mk_index.specs.Nearest.{AreNearest, ArePaths, AreRanks, AreTrees, AreWaysUp, Finds, IsInner, IsInnermost, IsNext, IsOther, IsOuter, IsOverName, IsOverPath, IsOverText, IsOwn, IsTreeAt, is_tree, rank_of};
+ghost use Rattle.mk_index.specs.Nearest.{AreNearest, ArePaths, AreRanks, AreTrees, AreWaysUp, FindsTree, IsInner, IsInnermost, IsNext, IsOther, IsOuter, IsOverName, IsOverPath, IsOverText, IsOwn, IsTreeAt, is_tree, rank_of};
 ghost use Rattle.mk_text.specs.Spelling.{is_absolute, top_of};
 
 use crate::places::number;
@@ -61,7 +61,7 @@ fn trees_of<'a>(alloc: Global, paths: &[&'a Path]) -> Result<Vec<&'a Path>, Allo
 /// The number of the tree with this name, if there is one.
 fn tree_of(paths: &[&Path], trees: &[&Path], name: &[u8]) -> Option<u32>
     requires { AreTrees (map (λ path. path.now) paths.now) (map (λ tree. tree.now) trees.now) }
-    ensures { (root : List ℕ) → Finds root (map (λ path. path.now) paths.now) (λ y. y ≡ name.now) result }
+    ensures { (root : List ℕ) → FindsTree root (map (λ path. path.now) paths.now) (λ y. y ≡ name.now) result }
 {
     match trees.binary_search_by(|&tree| order(tree, name, true)) {
         Ok(place) => Some(number(paths, trees[place])),
@@ -72,7 +72,7 @@ fn tree_of(paths: &[&Path], trees: &[&Path], name: &[u8]) -> Option<u32>
 /// The number of the tree of a folder, if there is one and it is not the tree of this name.
 fn other_tree(paths: &[&Path], trees: &[&Path], name: &[u8], folder: &[u8]) -> Option<u32>
     requires { AreTrees (map (λ path. path.now) paths.now) (map (λ tree. tree.now) trees.now) }
-    ensures { (root : List ℕ) → Finds root (map (λ path. path.now) paths.now) (IsOther name.now folder.now) result }
+    ensures { (root : List ℕ) → FindsTree root (map (λ path. path.now) paths.now) (IsOther name.now folder.now) result }
 {
     if name == folder {
         None
@@ -101,7 +101,7 @@ fn find_tree(paths: &[&Path], trees: &[&Path], name: &[u8]) -> Result<u32, usize
 /// are looked for first, and those that a miss rules out are passed over.
 fn inner(paths: &[&Path], trees: &[&Path], text: &[u8]) -> Option<u32>
     requires { AreTrees (map (λ path. path.now) paths.now) (map (λ tree. tree.now) trees.now) }
-    ensures { (root : List ℕ) → Finds root (map (λ path. path.now) paths.now) (IsInner text.now) result }
+    ensures { (root : List ℕ) → FindsTree root (map (λ path. path.now) paths.now) (IsInner text.now) result }
 {
     let mut i = text.len();
     let mut most = i;
@@ -121,7 +121,7 @@ fn inner(paths: &[&Path], trees: &[&Path], text: &[u8]) -> Option<u32>
 fn over_text(paths: &[&Path], trees: &[&Path], text: &[u8]) -> Option<u32>
     requires trees { AreTrees (map (λ path. path.now) paths.now) (map (λ tree. tree.now) trees.now) }
     requires absolute { is_absolute text.now ≡ true }
-    ensures { (root : List ℕ) → Finds root (map (λ path. path.now) paths.now) (IsOverText text.now) result }
+    ensures { (root : List ℕ) → FindsTree root (map (λ path. path.now) paths.now) (IsOverText text.now) result }
 {
     match inner(paths, trees, text) {
         Some(u) => Some(u),
@@ -142,8 +142,8 @@ fn is_absolute(text: &[u8]) -> bool
 /// The innermost tree over the folders that a name spells; `outside` is that over the root.
 fn outer(paths: &[&Path], trees: &[&Path], outside: Option<u32>, name: &[u8]) -> Option<u32>
     requires { AreTrees (map (λ path. path.now) paths.now) (map (λ tree. tree.now) trees.now) }
-    ensures { (root : List ℕ) → Finds root (map (λ path. path.now) paths.now) (IsOverText (top_of root)) outside
-        → Finds root (map (λ path. path.now) paths.now) (IsOuter (top_of root) name.now) result }
+    ensures { (root : List ℕ) → FindsTree root (map (λ path. path.now) paths.now) (IsOverText (top_of root)) outside
+        → FindsTree root (map (λ path. path.now) paths.now) (IsOuter (top_of root) name.now) result }
 {
     if is_absolute(name) {
         return other_tree(paths, trees, name, b"/".as_slice());
@@ -164,9 +164,9 @@ fn over_name(
     name: &[u8],
 ) -> Option<u32>
     requires { AreTrees (map (λ path. path.now) paths.now) (map (λ tree. tree.now) trees.now) }
-    ensures { (root : List ℕ) → Finds root (map (λ path. path.now) paths.now) (IsOverText (top_of root)) outside
-        → Finds root (map (λ path. path.now) paths.now) (IsInner name.now) inner
-        → Finds root (map (λ path. path.now) paths.now) (IsOverName (top_of root) name.now) result }
+    ensures { (root : List ℕ) → FindsTree root (map (λ path. path.now) paths.now) (IsOverText (top_of root)) outside
+        → FindsTree root (map (λ path. path.now) paths.now) (IsInner name.now) inner
+        → FindsTree root (map (λ path. path.now) paths.now) (IsOverName (top_of root) name.now) result }
 {
     match inner {
         Some(u) => Some(u),
@@ -177,7 +177,7 @@ fn over_name(
 /// The tree of a file's own name.
 fn own(paths: &[&Path], trees: &[&Path], path: &Path) -> Option<u32>
     requires { AreTrees (map (λ path. path.now) paths.now) (map (λ tree. tree.now) trees.now) }
-    ensures { (root : List ℕ) → Finds root (map (λ path. path.now) paths.now) (IsOwn path.now) result }
+    ensures { (root : List ℕ) → FindsTree root (map (λ path. path.now) paths.now) (IsOwn path.now) result }
 {
     if path.tree {
         None
@@ -196,9 +196,9 @@ fn nearest(
     path: &Path,
 ) -> Option<u32>
     requires { AreTrees (map (λ path. path.now) paths.now) (map (λ tree. tree.now) trees.now) }
-    ensures { (root : List ℕ) → Finds root (map (λ path. path.now) paths.now) (IsOverText (top_of root)) outside
-        → Finds root (map (λ path. path.now) paths.now) (IsInner path.now.name) inner
-        → Finds root (map (λ path. path.now) paths.now) (IsOverPath root path.now) result }
+    ensures { (root : List ℕ) → FindsTree root (map (λ path. path.now) paths.now) (IsOverText (top_of root)) outside
+        → FindsTree root (map (λ path. path.now) paths.now) (IsInner path.now.name) inner
+        → FindsTree root (map (λ path. path.now) paths.now) (IsOverPath root path.now) result }
 {
     if trees.is_empty() {
         return None;
@@ -220,8 +220,8 @@ fn next_of(
 ) -> u32
     requires trees { AreTrees (map (λ path. path.now) paths.now) (map (λ tree. tree.now) trees.now) }
     requires within { t < length paths.now }
-    ensures { (root : List ℕ) → Finds root (map (λ path. path.now) paths.now) (IsOverText (top_of root)) outside
-        → Finds root (map (λ path. path.now) paths.now) (IsInner (path_at (map (λ path. path.now) paths.now) t).name) inner
+    ensures { (root : List ℕ) → FindsTree root (map (λ path. path.now) paths.now) (IsOverText (top_of root)) outside
+        → FindsTree root (map (λ path. path.now) paths.now) (IsInner (path_at (map (λ path. path.now) paths.now) t).name) inner
         → IsNext root (map (λ path. path.now) paths.now) t result }
 {
     match nearest(paths, trees, outside, inner, paths[t as usize]) {

@@ -2,7 +2,7 @@
 //! the name at hand begins with are open, the innermost on top of a stack.
 ghost use Rattle.std.specs.Prelude.{ℕ, ◌≡◌, ◌<◌, ◌+◌, ◌-◌, ◌↔◌, [], ◌∷◌, IfNone, IfOk, IfSome, IsTrue, List, OnOk, get_or, length, map, reverse, take};
 ghost use Rattle.mk_path.specs.Paths.{path_at};
-ghost use Rattle.mk_index.specs.Nearest.{ArePaths, Finds, IsInner};
+ghost use Rattle.mk_index.specs.Nearest.{ArePaths, FindsTree, IsInner};
 ghost use Rattle.mk_index.specs.Sweep.{AreOpen, BeginsWithTop, IsStackAt, KeepsBegins};
 
 use mk_path::path::Path;
@@ -55,7 +55,7 @@ fn inner_of(paths: &[&Path], stack: &[Open], name: &[u8]) -> Option<u32>
     requires are { AreOpen (map (λ path. path.now) paths.now) (reverse stack.now) }
     requires begins { KeepsBegins (map (λ path. path.now) paths.now) name.now (reverse stack.now) }
     requires top { BeginsWithTop (map (λ path. path.now) paths.now) name.now (reverse stack.now) }
-    ensures { (root : List ℕ) → Finds root (map (λ path. path.now) paths.now) (IsInner name.now) result }
+    ensures { (root : List ℕ) → FindsTree root (map (λ path. path.now) paths.now) (IsInner name.now) result }
 {
     let top = innermost(stack)?;
     let begin = paths[top.tree as usize].name.as_bytes();
@@ -73,7 +73,7 @@ pub fn pass(paths: &[&Path], stack: &mut Vec<Open>, t: u32) -> Result<Option<u32
     requires within { t < length paths.now }
     requires stack { IsStackAt (map (λ path. path.now) paths.now) t (reverse stack.old.items) }
     ensures inner { IfOk result (λ inner. (root : List ℕ)
-        → Finds root (map (λ path. path.now) paths.now) (IsInner (path_at (map (λ path. path.now) paths.now) t).name) inner) }
+        → FindsTree root (map (λ path. path.now) paths.now) (IsInner (path_at (map (λ path. path.now) paths.now) t).name) inner) }
     ensures stack { OnOk result (IsStackAt (map (λ path. path.now) paths.now) (t + 1) (reverse stack.new.items)) }
 {
     let path = paths[t as usize];

@@ -11,7 +11,7 @@ use Rattle.serde_json.specs.Data.{Data}
 use Rattle.mk_name.specs.Names.{Name}
 use Rattle.mk_jobs.specs.Jobs.{Jobs}
 use Rattle.mk_sched.specs.Stores.{File}
-use Rattle.mk_sched.specs.Stored.{Files}
+use Rattle.mk_sched.specs.Stored.{StoredFiles}
 use Rattle.mk_sched.specs.declared.event.Event.{Event}
 use Rattle.mk_log.specs.Spelled.{Adds, IsSpelled, names_reported, object_of}
 use Rattle.mk_log.specs.Writing.{line_of}
@@ -55,11 +55,11 @@ false_and : (a b : Bool) → a ≡ false → (a && b) ≡ false
 false_and a b h = rw h refl
 
 -- one of the names of a store is not
-pub not_all_there : (done : Files) (placed : Name × File) (rest whole : Files) → done ++ placed ∷ rest ≡ whole → is_utf8 placed.0 ≡ false
+pub not_all_there : (done : StoredFiles) (placed : Name × File) (rest whole : StoredFiles) → done ++ placed ∷ rest ≡ whole → is_utf8 placed.0 ≡ false
     → list_all is_utf8 (keys_of whole) ≡ false
-not_all_there [] placed rest whole same not = subst (λ (files : Files). list_all is_utf8 (keys_of files) ≡ false) same (false_and _ _ not)
+not_all_there [] placed rest whole same not = subst (λ (files : StoredFiles). list_all is_utf8 (keys_of files) ≡ false) same (false_and _ _ not)
 not_all_there (first ∷ done) placed rest whole same not =
-    subst (λ (files : Files). list_all is_utf8 (keys_of files) ≡ false) same
+    subst (λ (files : StoredFiles). list_all is_utf8 (keys_of files) ≡ false) same
     (and_false (is_utf8 first.0) _ (not_all_there done placed rest (done ++ placed ∷ rest) refl not))
 
 -- one of the events has one that is not

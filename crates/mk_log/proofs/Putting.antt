@@ -9,10 +9,10 @@ use Rattle.std.proofs.lemmas.Bool.{cases_Bool}
 use Rattle.mk_name.specs.Names.{Name, same_name}
 use Rattle.mk_name.proofs.Names.{name_is_exact}
 use Rattle.mk_sched.specs.Stores.{File}
-use Rattle.mk_sched.specs.Stored.{Files, IsInOrder, store_of, with_file}
+use Rattle.mk_sched.specs.Stored.{IsInOrder, StoredFiles, store_of, with_file}
 
 -- what holds of each name, and of one more, holds of each with it
-all_with : (P : Name → Type 0) (files : Files) (x : Name) (file : File) → AllByRecursion P (keys_of files) → P x → AllByRecursion P (keys_of (with_file files x file))
+all_with : (P : Name → Type 0) (files : StoredFiles) (x : Name) (file : File) → AllByRecursion P (keys_of files) → P x → AllByRecursion P (keys_of (with_file files x file))
 all_with P [] x file all own = (own, tt)
 all_with P (e ∷ files) x file all own = by (slice_cmp nat_cmp x e.0) (all_with P files x file all.1 own)
   where
@@ -27,7 +27,7 @@ all_later x y [] less all = tt
 all_later x y (z ∷ names) less all = (nat_list_cmp_total.trans x y z less all.0, all_later x y names less all.1)
 
 -- names rise in files with one more
-pub in_order_with : (files : Files) (x : Name) (file : File) → IsInOrder files → IsInOrder (with_file files x file)
+pub in_order_with : (files : StoredFiles) (x : Name) (file : File) → IsInOrder files → IsInOrder (with_file files x file)
 unfolding IsStrictlySortedBy
 in_order_with [] x file in_order = (tt, tt)
 in_order_with (e ∷ files) x file in_order = by (slice_cmp nat_cmp x e.0) refl (in_order_with files x file in_order.1)
@@ -40,7 +40,7 @@ in_order_with (e ∷ files) x file in_order = by (slice_cmp nat_cmp x e.0) refl 
         (all_with (λ y. slice_cmp nat_cmp e.0 y ≡ Less) files x file in_order.0 less, rest)
 
 -- what stands at a name in files with a last one, whose name was free
-pub store_last : (files : Files) (path : Name) (file : File) (x : Name) → store_of files path ≡ None
+pub store_last : (files : StoredFiles) (path : Name) (file : File) (x : Name) → store_of files path ≡ None
     → store_of (files ++ (path, file) ∷ []) x ≡ cond (same_name path x) (Some file) (store_of files x)
 store_last [] path file x free = ap (λ b. cond b (Some file) None) (nat_list_eq_equiv.symm x path)
 store_last (e ∷ files) path file x free =

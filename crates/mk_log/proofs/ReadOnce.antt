@@ -5,7 +5,7 @@ use Rattle.mk_jobs.specs.Jobs.{Jobs}
 use Rattle.mk_foot.proofs.OneList.{one_list}
 use Rattle.mk_log.specs.Logs.{Log}
 use Rattle.mk_log.specs.Once.{ReadOnce}
-use Rattle.mk_log.specs.Reading.{IsLogOf, IsRead, IsReadAs}
+use Rattle.mk_log.specs.Reading.{IsLogOf, IsLogRead, IsReadAs}
 use Rattle.mk_log.specs.declared.entry.Entry.{Entry}
 
 -- entries have one log
@@ -25,8 +25,8 @@ read_once jobs root text (Err reported) (Ok other) a b = no_fault _ reported b.0
 read_once jobs root text (Err reported) (Err other) a b = let same : Some reported ≡ Some other = sym a ∙ b in cc
 
 -- so a text that may have a log for an answer reads as that log
-pub read_as : (jobs : Jobs) (root text : List ℕ) (log : Log) → IsRead jobs root text (Ok log) → IsReadAs jobs root text log
+pub read_as : (jobs : Jobs) (root text : List ℕ) (log : Log) → IsLogRead jobs root text (Ok log) → IsReadAs jobs root text log
 read_as jobs root text log is = λ answer. (
   λ read. read_once jobs root text answer (Ok log) read is,
-  λ same. subst (λ (a : Result Log Reported). IsRead jobs root text a) (sym same) is,
+  λ same. subst (λ (a : Result Log Reported). IsLogRead jobs root text a) (sym same) is,
 )

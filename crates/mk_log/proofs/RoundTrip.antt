@@ -17,12 +17,12 @@ use Rattle.mk_name.specs.Names.{Name, same_name}
 use Rattle.mk_name.specs.Reported.{Reported}
 use Rattle.mk_jobs.specs.Jobs.{Jobs}
 use Rattle.mk_sched.specs.Stores.{File}
-use Rattle.mk_sched.specs.Stored.{Files, IsInOrder, store_of}
+use Rattle.mk_sched.specs.Stored.{IsInOrder, StoredFiles, store_of}
 use Rattle.mk_sched.specs.declared.event.Event.{Event}
 use Rattle.mk_text.specs.Listing.{lines}
 use Rattle.mk_log.specs.Entries.{entries_in}
 use Rattle.mk_log.specs.Objects.{event_object, file_object}
-use Rattle.mk_log.specs.Reading.{IsLogOf, IsRead, entries_of, events_of, fault_at, files_of, first_fault, is_at, is_event, is_good, may_follow}
+use Rattle.mk_log.specs.Reading.{IsLogOf, IsLogRead, entries_of, events_of, fault_at, files_of, first_fault, is_at, is_event, is_good, may_follow}
 use Rattle.mk_log.specs.Spelled.{IsOneLine, IsSpelled, entries_reported, file_entry, names_reported, object_of}
 use Rattle.mk_log.specs.Writing.{NamesItself, ReadBack, line_of, log_text, names_in, names_of}
 use Rattle.mk_log.specs.Logs.{Log}
@@ -129,20 +129,20 @@ above x y rises =
     sym (is_eq-slice_cmp x y) ∙ ap is_eq falls
 
 -- the file behind some others is one of those that the first one is below
-below_middle : (first : Name × File) (front : Files) (placed : Name × File) (rest : Files)
+below_middle : (first : Name × File) (front : StoredFiles) (placed : Name × File) (rest : StoredFiles)
     → AllByRecursion (λ y. slice_cmp nat_cmp first.0 y ≡ Less) (keys_of (front ++ placed ∷ rest)) → slice_cmp nat_cmp first.0 placed.0 ≡ Less
 below_middle first [] placed rest lower = lower.0
 below_middle first (next ∷ front) placed rest lower = below_middle first front placed rest lower.1
 
 -- the names before a file are others
-not_there : (front : Files) (placed : Name × File) (rest : Files) → IsInOrder (front ++ placed ∷ rest) → list_any (is_at placed.0) (map file_entry front) ≡ false
+not_there : (front : StoredFiles) (placed : Name × File) (rest : StoredFiles) → IsInOrder (front ++ placed ∷ rest) → list_any (is_at placed.0) (map file_entry front) ≡ false
 not_there [] placed rest in_order = refl
 not_there (first ∷ front) placed rest in_order =
     let lower = sorted_head (slice_cmp nat_cmp) first.0 (keys_of (front ++ placed ∷ rest)) in_order in
     let later = not_there front placed rest (sorted_tail (slice_cmp nat_cmp) first.0 (keys_of (front ++ placed ∷ rest)) in_order) in
     rw (above placed.0 first.0 (below_middle first front placed rest lower)) later
 
-no_event : (front : Files) → list_any is_event (map file_entry front) ≡ false
+no_event : (front : StoredFiles) → list_any is_event (map file_entry front) ≡ false
 no_event [] = refl
 no_event (first ∷ front) = no_event front
 
@@ -150,37 +150,37 @@ events_turn : (before : List Entry) (events : List Event) → AreInTurn before (
 events_turn before [] = tt
 events_turn before (event ∷ events) = (refl, events_turn (before ++ Happens event ∷ []) events)
 
-files_turn : (front rest : Files) (events : List Event) → IsInOrder (front ++ rest)
+files_turn : (front rest : StoredFiles) (events : List Event) → IsInOrder (front ++ rest)
     → AreInTurn (map file_entry front) (map file_entry rest ++ map (λ event. Happens event) events)
 files_turn front [] events in_order = events_turn (map file_entry front) events
 files_turn front (placed ∷ rest) events in_order = (
   rw (no_event front, not_there front placed rest in_order) refl,
   subst (λ (before : List Entry). AreInTurn before (map file_entry rest ++ map (λ event. Happens event) events))
       (map-append file_entry front (placed ∷ []))
-      (files_turn (front ++ placed ∷ []) rest events (subst (λ (files : Files). IsInOrder files) (sym (append_assoc front (placed ∷ []) rest)) in_order)),
+      (files_turn (front ++ placed ∷ []) rest events (subst (λ (files : StoredFiles). IsInOrder files) (sym (append_assoc front (placed ∷ []) rest)) in_order)),
 )
 
 -- ---- the log
 
-files_kept : (files : Files) (events : List Event) → files_of (map file_entry files ++ map (λ event. Happens event) events) ≡ files
+files_kept : (files : StoredFiles) (events : List Event) → files_of (map file_entry files ++ map (λ event. Happens event) events) ≡ files
 files_kept [] [] = refl
 files_kept [] (event ∷ events) = files_kept [] events
 files_kept (placed ∷ files) events = ap (λ rest. placed ∷ rest) (files_kept files events)
 
-events_kept : (files : Files) (events : List Event) → events_of (map file_entry files ++ map (λ event. Happens event) events) ≡ events
+events_kept : (files : StoredFiles) (events : List Event) → events_of (map file_entry files ++ map (λ event. Happens event) events) ≡ events
 events_kept [] [] = refl
 events_kept [] (event ∷ events) = ap (λ rest. event ∷ rest) (events_kept [] events)
 events_kept (placed ∷ files) events = events_kept files events
 
 -- the names of a log are those that its entries have
-names_kept : (jobs : Jobs) (files : Files) (events : List Event)
+names_kept : (jobs : Jobs) (files : StoredFiles) (events : List Event)
     → flat_map (names_reported jobs) (map file_entry files ++ map (λ event. Happens event) events) ≡ keys_of files ++ flat_map (names_in jobs) events
 names_kept jobs [] [] = refl
 names_kept jobs [] (event ∷ events) = ap (λ rest. names_in jobs event ++ rest) (names_kept jobs [] events)
 names_kept jobs (placed ∷ files) events = ap (λ rest. placed.0 ∷ rest) (names_kept jobs files events)
 
 -- the objects of a log are those of its entries
-objects_kept : (jobs : Jobs) (files : Files) (events : List Event)
+objects_kept : (jobs : Jobs) (files : StoredFiles) (events : List Event)
     → map (object_of jobs) (map file_entry files ++ map (λ event. Happens event) events)
     ≡ map (λ entry. file_object entry.0 entry.1) files ++ map (event_object jobs) events
 objects_kept jobs [] [] = refl
@@ -203,7 +203,7 @@ LinesRead jobs root texts log = (first_fault jobs root texts ≡ None) × IsLogO
 
 -- the lines of spelled entries say the log that has these entries
 pub read_back : (jobs : Jobs) (log : Log) (root : List ℕ) → All (IsSpelled jobs) (entries_reported log) → IsInOrder log.store → ReadBack jobs root log
-    → IsRead jobs root (flat_map line_of (map (object_of jobs) (entries_reported log))) (Ok log)
+    → IsLogRead jobs root (flat_map line_of (map (object_of jobs) (entries_reported log))) (Ok log)
 read_back jobs log root spelled in_order named =
     let entries = entries_reported log in
     let texts = map (text_of jobs) entries ++ [] ∷ [] in
@@ -215,7 +215,7 @@ read_back jobs log root spelled in_order named =
     subst (λ (xs : List (List ℕ)). LinesRead jobs root xs log) (sym cut) (
       ap (λ (faults : List Reported). slice_get faults 0) (none_at_fault jobs root texts [] texts refl good),
       record {
-        files = λ x. ap (λ (files : Files). store_of files x) (sym (ap files_of said ∙ files_kept log.store log.events));
+        files = λ x. ap (λ (files : StoredFiles). store_of files x) (sym (ap files_of said ∙ files_kept log.store log.events));
         in_order = in_order;
         events = sym (ap events_of said ∙ events_kept log.store log.events);
       },

@@ -8,7 +8,7 @@ use Rattle.mk_name.specs.declared.fault.Kind.TheVariants.{BadLog}
 use Rattle.mk_name.specs.declared.fault.Source.TheVariants as sources
 use Rattle.mk_text.specs.Listing.{lines}
 use Rattle.mk_jobs.specs.Jobs.{Jobs}
-use Rattle.mk_sched.specs.Stored.{Files, IsInOrder, store_of}
+use Rattle.mk_sched.specs.Stored.{IsInOrder, StoredFiles, store_of}
 use Rattle.mk_sched.specs.declared.event.Event.{Event}
 use Rattle.mk_log.specs.Entries.{entries_in}
 use Rattle.mk_log.specs.declared.entry.Entry.{Entry}
@@ -20,7 +20,7 @@ abbrev pub entries_of : Jobs → List ℕ → List (List ℕ) → List Entry
 entries_of jobs root texts = flat_map (λ text. unwrap_or (entries_in jobs root text) []) texts
 
 -- the files that an entry has, and the events
-abbrev pub file_of : Entry → Files
+abbrev pub file_of : Entry → StoredFiles
 file_of (Holds path bytes time) = (path, record { bytes = bytes; time = time }) ∷ []
 file_of (Happens event) = []
 
@@ -28,7 +28,7 @@ abbrev pub event_of : Entry → List Event
 event_of (Holds path bytes time) = []
 event_of (Happens event) = event ∷ []
 
-abbrev pub files_of : List Entry → Files
+abbrev pub files_of : List Entry → StoredFiles
 files_of entries = flat_map file_of entries
 
 abbrev pub events_of : List Entry → List Event
@@ -71,10 +71,10 @@ pub record IsLogOf (entries : List Entry) (log : Log) : Type 0 where
   pub events : log.events ≡ events_of entries
 
 -- what `read_log` answers
-abbrev pub IsRead : Jobs → List ℕ → List ℕ → Result Log Reported → Type 0
-IsRead jobs root text (Ok log) = (first_fault jobs root (lines text) ≡ None) × IsLogOf (entries_of jobs root (lines text)) log
-IsRead jobs root text (Err fault) = first_fault jobs root (lines text) ≡ Some fault
+abbrev pub IsLogRead : Jobs → List ℕ → List ℕ → Result Log Reported → Type 0
+IsLogRead jobs root text (Ok log) = (first_fault jobs root (lines text) ≡ None) × IsLogOf (entries_of jobs root (lines text)) log
+IsLogRead jobs root text (Err fault) = first_fault jobs root (lines text) ≡ Some fault
 
 -- a text reads as a log: it may have that log for an answer, and no other answer
 abbrev pub IsReadAs : Jobs → List ℕ → List ℕ → Log → Type 0
-IsReadAs jobs root text log = (answer : Result Log Reported) → IsRead jobs root text answer ↔ (answer ≡ Ok log)
+IsReadAs jobs root text log = (answer : Result Log Reported) → IsLogRead jobs root text answer ↔ (answer ≡ Ok log)

@@ -3,7 +3,7 @@ ghost use Rattle.std.specs.Prelude.{◌≡◌, [], List, ℕ, IfOk};
 ghost use Rattle.mk_name.specs.Gives.{Answers};
 ghost use Rattle.mk_name.specs.declared.fault.Halt.TheVariants as halts;
 ghost use Rattle.mk_log.specs.Adding.{AddsEntry, AddsLine};
-ghost use Rattle.mk_log.specs.Reading.{IsLogOf, IsRead, may_follow, reported};
+ghost use Rattle.mk_log.specs.Reading.{IsLogOf, IsLogRead, may_follow, reported};
 ghost use Rattle.mk_log.specs.declared.entry.Entry.{Entry};
 ghost use Rattle.mk_log.specs.declared.entry.Entry.TheVariants.{Holds};
 
@@ -28,7 +28,7 @@ use std::alloc::{AllocError, Global};
 /// no node of the jobs or has a path that `plain_path` refuses, and a file that stands behind an event or behind a file
 /// of the same name. The only other error is out of memory.
 pub fn read_log(alloc: Global, text: &[u8], jobs: &Jobs, root: &Root) -> Result<Log, Halt>
-    ensures { Answers result (IsRead jobs.now root.now text.now) }
+    ensures { Answers result (IsLogRead jobs.now root.now text.now) }
 {
     let lines = physical_lines(alloc, text)?;
     let mut log = empty_log(alloc);

@@ -5,7 +5,7 @@ use Rattle.std.proofs.lemmas.List.{append-nil, drop-set, drop_more, get_or-take,
 use Rattle.mk_name.specs.declared.fault.Halt.{Halt}
 use Rattle.mk_name.specs.declared.fault.Halt.TheVariants as halts
 use Rattle.mk_macro.specs.Expansion.{byte_limit}
-use Rattle.mk_macro.specs.Layer.{Around, Holds, Layer, Output, Passes, Puts, Relays, Settles, StandsFor, TakesIn, Text, grown, longer, size}
+use Rattle.mk_macro.specs.Layer.{Around, Layer, Output, OutputHolds, Passes, Puts, Relays, Settles, StandsFor, TakesIn, Text, grown, longer, size}
 use Rattle.mk_macro.specs.Limits.{IsOver}
 use Rattle.mk_macro.specs.Reference.{Change}
 use Rattle.mk_macro.specs.Substitution.{changed}
@@ -40,8 +40,8 @@ around_longer done inner whole more [] (text ∷ texts) h a = absurd a
 around_longer done inner whole more (layer ∷ layers) [] h a = absurd a
 around_longer done inner whole more (layer ∷ layers) (text ∷ texts) h a = (a.0, stands_longer inner whole more layer text a.0 h a.1, a.2)
 
-pub put : (output : Output) (more : List ℕ) (text : Text) (texts : List Text) → size (longer output.top more) ≤ byte_limit → Holds output text texts
-    → Holds (record output { top = longer output.top more }) (grown text more) texts
+pub put : (output : Output) (more : List ℕ) (text : Text) (texts : List Text) → size (longer output.top more) ≤ byte_limit → OutputHolds output text texts
+    → OutputHolds (record output { top = longer output.top more }) (grown text more) texts
 put output more text texts h o = record {
   change_is = o.change_is;
   within = h;
@@ -50,8 +50,8 @@ put output more text texts h o = record {
 }
 
 -- a text begins inside the innermost
-pub opened : (output : Output) (change : Option Change) (loose : ℕ) (text : Text) (texts : List Text) → Holds output text texts
-    → Holds (record { done = output.done; outer = output.outer ++ output.top ∷ []; top = record { change = change; kept = []; passed = 0 }; loose = loose }) (record { change = change; own = [] }) (text ∷ texts)
+pub opened : (output : Output) (change : Option Change) (loose : ℕ) (text : Text) (texts : List Text) → OutputHolds output text texts
+    → OutputHolds (record { done = output.done; outer = output.outer ++ output.top ∷ []; top = record { change = change; kept = []; passed = 0 }; loose = loose }) (record { change = change; own = [] }) (text ∷ texts)
 opened output change loose text texts o =
     let inner : Layer = record { change = change; kept = []; passed = 0 } in
     let short = o.within in
@@ -70,7 +70,7 @@ opened output change loose text texts o =
     }
 
 -- the innermost text ends
-module _ (output : Output) (front : List Layer) (layer : Layer) (split : output.outer ≡ front ++ layer ∷ []) (text next : Text) (texts : List Text) (o : Holds output text (next ∷ texts)) where
+module _ (output : Output) (front : List Layer) (layer : Layer) (split : output.outer ≡ front ++ layer ∷ []) (text next : Text) (texts : List Text) (o : OutputHolds output text (next ∷ texts)) where
   abbrev coming : List ℕ
   coming = changed output.top.change output.top.kept
 
@@ -90,7 +90,7 @@ module _ (output : Output) (front : List Layer) (layer : Layer) (split : output.
       ∙ ap (λ xs. next.own ++ changed output.top.change xs) (append-nil text.own)
       ∙ ap (λ xs. next.own ++ xs) given_is
 
-  pub closed : size (longer layer coming) ≤ byte_limit → Holds (record { done = output.done; outer = front; top = longer layer coming; loose = output.loose }) (grown next given) texts
+  pub closed : size (longer layer coming) ≤ byte_limit → OutputHolds (record { done = output.done; outer = front; top = longer layer coming; loose = output.loose }) (grown next given) texts
   closed h =
       let parts = length-append layer.kept coming in
       let short : size layer ≤ byte_limit = omega arith in
@@ -127,7 +127,7 @@ all_is : (done : List ℕ) (inner : Layer) (whole : List ℕ) (layers : List Lay
 all_is done inner whole [] h a = sym (a.1 h)
 all_is done inner whole (layer ∷ layers) h a = absurd a
 
-pub finished : (before parts : Output) (text : Text) → parts ≡ before → Holds before text [] → parts.done ++ parts.top.kept ≡ text.own
+pub finished : (before parts : Output) (text : Text) → parts ≡ before → OutputHolds before text [] → parts.done ++ parts.top.kept ≡ text.own
 finished before parts text same o =
     ap (λ (out : Output). out.done ++ out.top.kept) same ∙ all_is before.done before.top text.own (reverse before.outer) o.within o.around
 
@@ -354,35 +354,35 @@ module _ (done : List ℕ) where
 -- the same for what the calls leave
 pub put_parts : (before parts : Output) (new_top : Layer) (more : List ℕ) → parts ≡ before → new_top ≡ longer parts.top more → size new_top ≤ byte_limit → Puts before (record parts { top = new_top }) more
 put_parts before parts new_top more same is h text texts o =
-    subst (λ (top : Layer). Holds (record parts { top = top }) (grown text more) texts) (sym is)
-    (put parts more text texts (subst (λ (top : Layer). size top ≤ byte_limit) is h) (subst (λ (out : Output). Holds out text texts) (sym same) o))
+    subst (λ (top : Layer). OutputHolds (record parts { top = top }) (grown text more) texts) (sym is)
+    (put parts more text texts (subst (λ (top : Layer). size top ≤ byte_limit) is h) (subst (λ (out : Output). OutputHolds out text texts) (sym same) o))
 
 pub opened_parts : (before parts : Output) (loose : ℕ) (change : Option Change) (old_top new_top : Layer) (outer : List Layer) → parts ≡ before → old_top ≡ parts.top → outer ≡ parts.outer ++ old_top ∷ [] → new_top ≡ record { change = change; kept = []; passed = 0 }
-    → (text : Text) (texts : List Text) → Holds before text texts → Holds (record { done = parts.done; outer = outer; top = new_top; loose = loose }) (record { change = change; own = [] }) (text ∷ texts)
+    → (text : Text) (texts : List Text) → OutputHolds before text texts → OutputHolds (record { done = parts.done; outer = outer; top = new_top; loose = loose }) (record { change = change; own = [] }) (text ∷ texts)
 opened_parts before parts loose change old_top new_top outer same old_is outer_is new_is text texts o =
-    subst (λ (layers : List Layer). Holds (record { done = parts.done; outer = layers; top = new_top; loose = loose }) (record { change = change; own = [] }) (text ∷ texts)) (sym (outer_is ∙ ap (λ l. parts.outer ++ l ∷ []) old_is))
-    (subst (λ (top : Layer). Holds (record { done = parts.done; outer = parts.outer ++ parts.top ∷ []; top = top; loose = loose }) (record { change = change; own = [] }) (text ∷ texts)) (sym new_is)
-    (opened parts change loose text texts (subst (λ (out : Output). Holds out text texts) (sym same) o)))
+    subst (λ (layers : List Layer). OutputHolds (record { done = parts.done; outer = layers; top = new_top; loose = loose }) (record { change = change; own = [] }) (text ∷ texts)) (sym (outer_is ∙ ap (λ l. parts.outer ++ l ∷ []) old_is))
+    (subst (λ (top : Layer). OutputHolds (record { done = parts.done; outer = parts.outer ++ parts.top ∷ []; top = top; loose = loose }) (record { change = change; own = [] }) (text ∷ texts)) (sym new_is)
+    (opened parts change loose text texts (subst (λ (out : Output). OutputHolds out text texts) (sym same) o)))
 
 module _ (before parts : Output) (front : List Layer) (layer : Layer) (changed_top : List ℕ) (same : parts ≡ before) (split : parts.outer ≡ front ++ layer ∷ []) (changed_is : changed_top ≡ changed parts.top.change parts.top.kept) where
   pub closed_parts : (new_top : Layer) → new_top ≡ longer layer changed_top → size new_top ≤ byte_limit
-      → (text next : Text) (texts : List Text) → Holds before text (next ∷ texts) → Holds (record { done = parts.done; outer = front; top = new_top; loose = parts.loose }) (grown next (changed text.change text.own)) texts
+      → (text next : Text) (texts : List Text) → OutputHolds before text (next ∷ texts) → OutputHolds (record { done = parts.done; outer = front; top = new_top; loose = parts.loose }) (grown next (changed text.change text.own)) texts
   closed_parts new_top is h text next texts o =
       let top_is = is ∙ ap (λ xs. longer layer xs) changed_is in
-      subst (λ (top : Layer). Holds (record { done = parts.done; outer = front; top = top; loose = parts.loose }) (grown next (changed text.change text.own)) texts) (sym top_is)
-      (closed parts front layer split text next texts (subst (λ (out : Output). Holds out text (next ∷ texts)) (sym same) o) (subst (λ (top : Layer). size top ≤ byte_limit) top_is h))
+      subst (λ (top : Layer). OutputHolds (record { done = parts.done; outer = front; top = top; loose = parts.loose }) (grown next (changed text.change text.own)) texts) (sym top_is)
+      (closed parts front layer split text next texts (subst (λ (out : Output). OutputHolds out text (next ∷ texts)) (sym same) o) (subst (λ (top : Layer). size top ≤ byte_limit) top_is h))
 
   pub closed_parts_over : (halt : Halt) → IsOver halt byte_limit (size layer + length changed_top)
-      → (text next : Text) (texts : List Text) → Holds before text (next ∷ texts) → IsOver halt byte_limit (length next.own + length (changed text.change text.own))
+      → (text next : Text) (texts : List Text) → OutputHolds before text (next ∷ texts) → IsOver halt byte_limit (length next.own + length (changed text.change text.own))
   closed_parts_over halts.Memory over text next texts o = tt
   closed_parts_over (halts.Fault fault) over text next texts o =
       let long = ap length changed_is in
-      (over.0, closed_over parts front layer split text next texts (subst (λ (out : Output). Holds out text (next ∷ texts)) (sym same) o) (omega (arith, over.1)))
+      (over.0, closed_over parts front layer split text next texts (subst (λ (out : Output). OutputHolds out text (next ∷ texts)) (sym same) o) (omega (arith, over.1)))
 
 pub settled_parts : (before parts : Output) (loose : ℕ) (outer news : List Layer) (out : Option (List ℕ)) (done : List ℕ) → parts ≡ before → done ≡ after parts.done out → outer ≡ news → Relays (reverse parts.outer) (Some []) (reverse news) out
-    → (text : Text) (texts : List Text) → Holds before text texts → Holds (record { done = done; outer = outer; top = parts.top; loose = loose }) text texts
+    → (text : Text) (texts : List Text) → OutputHolds before text texts → OutputHolds (record { done = done; outer = outer; top = parts.top; loose = loose }) text texts
 settled_parts before parts loose outer news out done same is left r text texts o =
-    let holds = subst (λ (output : Output). Holds output text texts) (sym same) o in
+    let holds = subst (λ (output : Output). OutputHolds output text texts) (sym same) o in
     record {
       change_is = holds.change_is;
       within = holds.within;

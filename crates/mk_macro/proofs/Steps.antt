@@ -6,9 +6,9 @@ use Rattle.mk_name.specs.Names.{Name}
 use Rattle.mk_name.specs.Reported.{Reported}
 use Rattle.mk_name.specs.declared.fault.Kind.TheVariants.{ExpansionTooLarge}
 use Rattle.mk_macro.specs.declared.open.Open.{Open}
-use Rattle.mk_macro.specs.Expansion.{Expands, Gives, Outcome, byte_limit, is_late, joined, macro_fault, refusal}
+use Rattle.mk_macro.specs.Expansion.{Expands, ExpansionResult, Gives, byte_limit, is_late, joined, macro_fault, refusal}
 use Rattle.mk_macro.specs.Expansion.{nothing, failed, one_more, byte, late}
-use Rattle.mk_macro.specs.Layer.{Holds, Output, Puts, Text, grown}
+use Rattle.mk_macro.specs.Layer.{Output, OutputHolds, Puts, Text, grown}
 use Rattle.mk_macro.specs.Macros.{Definition, Macros}
 use Rattle.mk_macro.specs.Reference.{Change, Item, Reference, Plain, Refers}
 use Rattle.mk_macro.specs.References.{items_of}
@@ -18,7 +18,7 @@ use Rattle.mk_macro.specs.Substitution.{changed}
 abbrev pub names : List Open → List Name
 names opens = map (λ o. o.name.now) opens
 
-abbrev pub the : List ℕ → ℕ → Outcome
+abbrev pub the : List ℕ → ℕ → ExpansionResult
 the text count = Ok (record { text = text; count = count })
 
 abbrev pub too_large : Reported
@@ -61,7 +61,7 @@ pub record Stands (m : Macros) (text : List ℕ) (opens : List Open) (output : O
   pub texts : List Text
   pub level : Level m text opens inner.change texts items k
   pub progress : Progress m (names opens) items k inner.own count left
-  pub holds : Holds output inner texts
+  pub holds : OutputHolds output inner texts
 
 -- a fault stays, whatever follows
 fault_stays : {m : Macros} {busy : List Name} {k : ℕ} {f : Reported} (seen left : List Item) → Expands m busy seen k (Err f) → Expands m busy (seen ++ left) k (Err f)
@@ -70,12 +70,12 @@ fault_stays {m} {busy} {k} {f} seen (x ∷ left) e =
     subst (λ (items : List Item). Expands m busy items k (Err f)) (append_assoc seen (x ∷ []) left) (fault_stays (seen ++ x ∷ []) left (failed x e refl))
 
 -- one more item
-more_seen : {m : Macros} {busy : List Name} {items left : List Item} {item : Item} {k count : ℕ} {own : List ℕ} {given outcome : Outcome}
+more_seen : {m : Macros} {busy : List Name} {items left : List Item} {item : Item} {k count : ℕ} {own : List ℕ} {given outcome : ExpansionResult}
     (p : Progress m busy items k own count (item ∷ left)) → Gives m busy item count given → outcome ≡ joined own given
     → Expands m busy (p.seen ++ item ∷ []) k outcome
 more_seen p g e = one_more p.so_far g refl e
 
-item_fault : {m : Macros} {busy : List Name} {items left : List Item} {item : Item} {k count : ℕ} {own : List ℕ} {given : Outcome} {f : Reported}
+item_fault : {m : Macros} {busy : List Name} {items left : List Item} {item : Item} {k count : ℕ} {own : List ℕ} {given : ExpansionResult} {f : Reported}
     → Progress m busy items k own count (item ∷ left) → Gives m busy item count given → joined own given ≡ Err f → Expands m busy items k (Err f)
 item_fault {m} {busy} {items} {left} {item} {k} {f = f} p g e =
     subst (λ (xs : List Item). Expands m busy xs k (Err f)) (append_assoc p.seen (item ∷ []) left ∙ sym p.all)
@@ -96,7 +96,7 @@ level_fault {m} {f} text (o ∷ opens) change (next ∷ texts) items k l e =
     level_fault text opens next.change texts l.0.items l.0.k l.2 (item_fault is.progress (late is.allowed is.found is.is_late_one inner refl) refl)
 
 -- an item fails
-pub fails : {m : Macros} {text : List ℕ} {output : Output} {left : List Item} {item : Item} {count : ℕ} {given : Outcome} {f : Reported} (opens : List Open)
+pub fails : {m : Macros} {text : List ℕ} {output : Output} {left : List Item} {item : Item} {count : ℕ} {given : ExpansionResult} {f : Reported} (opens : List Open)
     (s : Stands m text opens output (item ∷ left) count) → Gives m (names opens) item count given → joined s.inner.own given ≡ Err f → Expands m [] (items_of text) 0 (Err f)
 fails {text = text} opens s g e = level_fault text opens s.inner.change s.texts s.items s.k s.level (item_fault s.progress g e)
 
@@ -115,7 +115,7 @@ too_long {next = next} opens given s g h = fails opens s g (joined_long s.inner.
 -- some items give a text
 run_done : {m : Macros} {text : List ℕ} {left : List Item} {count next : ℕ} (opens : List Open) (items : List Item) (k : ℕ) (inner : Text) (texts : List Text) (given : List ℕ) (after : Output) (run : List Item)
     → Level m text opens inner.change texts items k → (p : Progress m (names opens) items k inner.own count (run ++ left))
-    → (length inner.own + length given ≤ byte_limit → Expands m (names opens) (p.seen ++ run) k (the (inner.own ++ given) next)) → Holds after (grown inner given) texts
+    → (length inner.own + length given ≤ byte_limit → Expands m (names opens) (p.seen ++ run) k (the (inner.own ++ given) next)) → OutputHolds after (grown inner given) texts
     → Stands m text opens after left next
 run_done {left = left} opens items k inner texts given after run level p so_far holds =
     let within = holds.within in
@@ -137,7 +137,7 @@ run_done {left = left} opens items k inner texts given after run level p so_far 
 
 -- one item does
 gives_more : {m : Macros} {text : List ℕ} {left : List Item} {item : Item} {count next : ℕ} (opens : List Open) (items : List Item) (k : ℕ) (inner : Text) (texts : List Text) (given : List ℕ) (after : Output)
-    → Level m text opens inner.change texts items k → Progress m (names opens) items k inner.own count (item ∷ left) → Gives m (names opens) item count (the given next) → Holds after (grown inner given) texts
+    → Level m text opens inner.change texts items k → Progress m (names opens) items k inner.own count (item ∷ left) → Gives m (names opens) item count (the given next) → OutputHolds after (grown inner given) texts
     → Stands m text opens after left next
 gives_more {item = item} {next = next} opens items k inner texts given after level p g holds =
     run_done opens items k inner texts given after (item ∷ []) level p (λ short. more_seen p g (sym (joined_short inner.own given next short))) holds
@@ -186,7 +186,7 @@ module _ {m : Macros} {text : List ℕ} {output : Output} {count : ℕ} (left : 
       (fault_stays (p.seen ++ map Plain bytes) left (bytes_over p.seen s.inner.own bytes p.so_far (omega arith) long)))
 
 -- the beginning
-pub begins : (m : Macros) (text : List ℕ) (output : Output) → Holds output (record { change = None; own = [] }) [] → Stands m text [] output (items_of text) 0
+pub begins : (m : Macros) (text : List ℕ) (output : Output) → OutputHolds output (record { change = None; own = [] }) [] → Stands m text [] output (items_of text) 0
 begins m text output holds = record {
   items = items_of text;
   k = 0;
@@ -200,7 +200,7 @@ begins m text output holds = record {
 -- a value is expanded for a reference
 pub enters : {m : Macros} {text : List ℕ} {output : Output} {reference : Reference} {count : ℕ} {opens : List Open} (rest : List ℕ) (o : Open) (d : Definition) (after : Output)
     → Stands m text opens output (Refers reference ∷ items_of rest) count → refusal (names opens) count reference.name ≡ None → m reference.name ≡ Some d → is_late d.manner ≡ true
-    → o.name.now ≡ reference.name → o.rest.now ≡ rest → ((t : Text) (ts : List Text) → Holds output t ts → Holds after (record { change = reference.change; own = [] }) (t ∷ ts))
+    → o.name.now ≡ reference.name → o.rest.now ≡ rest → ((t : Text) (ts : List Text) → OutputHolds output t ts → OutputHolds after (record { change = reference.change; own = [] }) (t ∷ ts))
     → Stands m text (o ∷ opens) after (items_of d.value) (count + 1)
 enters {m} {text} {output} {reference} {count} {opens} rest o d after s allowed found kept_late same behind opened = record {
   items = items_of d.value;
@@ -225,10 +225,10 @@ enters {m} {text} {output} {reference} {count} {opens} rest o d after s allowed 
 }
 
 -- the whole is done
-pub finishes : {m : Macros} {text : List ℕ} {output : Output} {count : ℕ} (all : List ℕ) → ((t : Text) → Holds output t [] → all ≡ t.own) → Stands m text [] output [] count → Expands m [] (items_of text) 0 (the all count)
+pub finishes : {m : Macros} {text : List ℕ} {output : Output} {count : ℕ} (all : List ℕ) → ((t : Text) → OutputHolds output t [] → all ≡ t.own) → Stands m text [] output [] count → Expands m [] (items_of text) 0 (the all count)
 finishes {m} {text} {output} {count} all is s = done s.texts s.level s.holds
   where
-    done : (texts : List Text) → Level m text [] s.inner.change texts s.items s.k → Holds output s.inner texts → Expands m [] (items_of text) 0 (the all count)
+    done : (texts : List Text) → Level m text [] s.inner.change texts s.items s.k → OutputHolds output s.inner texts → Expands m [] (items_of text) 0 (the all count)
     done [] level holds =
         let whole : s.progress.seen ≡ items_of text = sym (append-nil s.progress.seen) ∙ sym s.progress.all ∙ level.0 in
         subst (λ (n : ℕ). Expands m [] (items_of text) n (the all count)) level.1
@@ -248,7 +248,7 @@ module _ {m : Macros} (text : List ℕ) {count : ℕ} (o : Open) (opens : List O
       (subst (λ (n : ℕ). Expands m (names (o ∷ opens)) (items_of value) n (the inner.own count)) is.k_is
       (subst (λ (xs : List Item). Expands m (names (o ∷ opens)) xs k (the inner.own count)) whole p.so_far)) refl
 
-  pub closes : (after : Output) → Holds after (grown next (changed inner.change inner.own)) texts → Stands m text opens after (items_of o.rest.now) count
+  pub closes : (after : Output) → OutputHolds after (grown next (changed inner.change inner.own)) texts → Stands m text opens after (items_of o.rest.now) count
   closes after holds =
       gives_more opens level.0.items level.0.k next texts (changed inner.change inner.own) after level.2 level.1.progress outer_given holds
 

@@ -6,22 +6,22 @@ use Rattle.std.proofs.lemmas.List.{append-nil}
 use Rattle.mk_name.specs.Names.{Name, has, same_name}
 use Rattle.mk_name.specs.Reported.{Reported}
 use Rattle.mk_name.specs.declared.fault.Kind.TheVariants.{ExpansionTooLarge, InternalMacro, MacroLoop}
-use Rattle.mk_macro.specs.Expansion.{Expands, Gives, IsExpansion, Outcome, byte_limit, is_internal, is_late, joined, macro_fault, reference_limit, referred, refusal, text_of}
+use Rattle.mk_macro.specs.Expansion.{Expands, ExpansionResult, Gives, IsExpansion, byte_limit, is_internal, is_late, joined, macro_fault, reference_limit, referred, refusal, text_of}
 use Rattle.mk_macro.specs.Expansion.{nothing, failed, one_more, byte, broken, refused, undefined, itself, late}
 use Rattle.mk_macro.specs.Macros.{Definition, Macros}
 use Rattle.mk_macro.specs.Reference.{Item, Reference, Plain, Refers, Broken}
 use Rattle.mk_macro.specs.References.{items_of}
 
 -- an outcome counts no reference away
-abbrev pub Rises : ℕ → Outcome → Type 0
+abbrev pub Rises : ℕ → ExpansionResult → Type 0
 Rises count (Err fault) = Unit {0}
 Rises count (Ok expanded) = count ≤ expanded.count
 
-rises_further : (count more : ℕ) (o : Outcome) → count ≤ more → Rises more o → Rises count o
+rises_further : (count more : ℕ) (o : ExpansionResult) → count ≤ more → Rises more o → Rises count o
 rises_further count more (Err fault) le r = tt
 rises_further count more (Ok expanded) le r = omega arith
 
-joined_rises : (count : ℕ) (text : List ℕ) (given : Outcome) → Rises count given → Rises count (joined text given)
+joined_rises : (count : ℕ) (text : List ℕ) (given : ExpansionResult) → Rises count given → Rises count (joined text given)
 joined_rises count text (Err fault) r = tt
 joined_rises count text (Ok next) r = by (nat_lt byte_limit (length text + length next.text))
   where
@@ -29,7 +29,7 @@ joined_rises count text (Ok next) r = by (nat_lt byte_limit (length text + lengt
     by true = tt
     by false = r
 
-referred_rises : (count : ℕ) (reference : Reference) (o : Outcome) → Rises count o → Rises count (referred reference o)
+referred_rises : (count : ℕ) (reference : Reference) (o : ExpansionResult) → Rises count o → Rises count (referred reference o)
 referred_rises count reference (Err fault) r = tt
 referred_rises count reference (Ok expanded) r = r
 
@@ -47,10 +47,10 @@ few busy count name none = by (is_internal name) (nat_le reference_limit count) 
 module _ (m : Macros) where
   -- items, and one item, come to some outcome
   abbrev pub ItemsCome : List Name → List Item → ℕ → Type 0
-  ItemsCome busy items count = (o : Outcome) × Expands m busy items count o × Rises count o
+  ItemsCome busy items count = (o : ExpansionResult) × Expands m busy items count o × Rises count o
 
   abbrev pub ItemGives : List Name → Item → ℕ → Type 0
-  ItemGives busy item count = (o : Outcome) × Gives m busy item count o × Rises count o
+  ItemGives busy item count = (o : ExpansionResult) × Gives m busy item count o × Rises count o
 
   -- behind so many references and more, up to the limit, all items come to some outcome
   abbrev pub Come : ℕ → Type 0
@@ -86,7 +86,7 @@ module _ (m : Macros) where
     walk busy front (x ∷ back) count le some =
         subst (λ (items : List Item). ItemsCome busy items count) (append_assoc front (x ∷ []) back) (walk busy (front ++ x ∷ []) back count le (by some.0 some.1 some.2))
       where
-        by : (o : Outcome) → Expands m busy front count o → Rises count o → ItemsCome busy (front ++ x ∷ []) count
+        by : (o : ExpansionResult) → Expands m busy front count o → Rises count o → ItemsCome busy (front ++ x ∷ []) count
         by (Err fault) e r = (Err fault, failed x e refl, tt)
         by (Ok t) e r =
             let given = gives busy x t.count (omega arith) in

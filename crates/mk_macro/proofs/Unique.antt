@@ -3,7 +3,7 @@ use Rattle.std.proofs.Common.{◌≡◌, ℕ, ◌+◌, true, false, List, [], �
 use Rattle.std.proofs.lemmas.Bool.{false≢true}
 use Rattle.mk_name.specs.Names.{Name}
 use Rattle.mk_name.specs.Reported.{Reported}
-use Rattle.mk_macro.specs.Expansion.{Expanded, Expands, Gives, IsExpansion, Outcome, is_late, joined, referred, text_of}
+use Rattle.mk_macro.specs.Expansion.{Expanded, Expands, ExpansionResult, Gives, IsExpansion, is_late, joined, referred, text_of}
 use Rattle.mk_macro.specs.Expansion.{nothing, failed, one_more, byte, broken, refused, undefined, itself, late}
 use Rattle.mk_macro.specs.Macros.{Definition, Macros}
 use Rattle.mk_macro.specs.Reference.{Item}
@@ -27,19 +27,19 @@ same_front (a ∷ xs) (b ∷ ys) x y e =
 some_none : {X : Type 0} {o : Option X} {x : X} → o ≡ Some x → o ≡ None → ⊥
 some_none a b = cc
 
-err_ok : {f : Reported} {e : Expanded} → ◌≡◌ {A = Outcome} (Err f) (Ok e) → ⊥
+err_ok : {f : Reported} {e : Expanded} → ◌≡◌ {A = ExpansionResult} (Err f) (Ok e) → ⊥
 err_ok e = cc
 
 same_some : {X : Type 0} {o : Option X} {x y : X} → o ≡ Some x → o ≡ Some y → x ≡ y
 same_some a b = cc
 
-same_ok : {a b : Expanded} → ◌≡◌ {A = Outcome} (Ok a) (Ok b) → a ≡ b
+same_ok : {a b : Expanded} → ◌≡◌ {A = ExpansionResult} (Ok a) (Ok b) → a ≡ b
 same_ok e = cc
 
-along_items : {m : Macros} {busy : List Name} {xs ys : List Item} {count : ℕ} {o : Outcome} → xs ≡ ys → Expands m busy ys count o → Expands m busy xs count o
+along_items : {m : Macros} {busy : List Name} {xs ys : List Item} {count : ℕ} {o : ExpansionResult} → xs ≡ ys → Expands m busy ys count o → Expands m busy xs count o
 along_items {m} {busy} {xs} {ys} {count} {o} e x = subst (λ (zs : List Item). Expands m busy zs count o) (sym e) x
 
-along_given : {m : Macros} {busy : List Name} {x y : Item} {a b : ℕ} {o : Outcome} → x ≡ y → a ≡ b → Gives m busy y b o → Gives m busy x a o
+along_given : {m : Macros} {busy : List Name} {x y : Item} {a b : ℕ} {o : ExpansionResult} → x ≡ y → a ≡ b → Gives m busy y b o → Gives m busy x a o
 along_given {m} {busy} {x} {y} {a} {b} {o} e f g =
     subst (λ (z : Item). Gives m busy z a o) (sym e) (subst (λ (n : ℕ). Gives m busy y n o) (sym f) g)
 
@@ -47,7 +47,7 @@ apart : {d d2 : Definition} → d ≡ d2 → is_late d.manner ≡ false → is_l
 apart e now later = false≢true (sym now ∙ ap (λ (d : Definition). is_late d.manner) e ∙ later)
 
 mutual
-  items_unique : {m : Macros} {busy : List Name} {items : List Item} {count : ℕ} {one other : Outcome} → Expands m busy items count one → Expands m busy items count other → one ≡ other
+  items_unique : {m : Macros} {busy : List Name} {items : List Item} {count : ℕ} {one other : ExpansionResult} → Expands m busy items count one → Expands m busy items count other → one ≡ other
   items_unique nothing nothing = refl
   items_unique nothing (failed {items = ys} y e2 is2) = absurd (not_empty ys y is2)
   items_unique nothing (one_more {items = ys} {item = y} e2 g2 is2 o2) = absurd (not_empty ys y is2)
@@ -63,9 +63,9 @@ mutual
       let s = same_front xs ys x y (sym is ∙ is2) in
       let f : front ≡ front2 = same_ok (items_unique e (along_items (s.0) e2)) in
       let h : given ≡ given2 = given_unique g (along_given (s.1) (ap (λ (z : Expanded). z.count) f) g2) in
-      o ∙ ap (λ (z : Outcome). joined front.text z) h ∙ ap (λ (z : Expanded). joined z.text given2) f ∙ sym o2
+      o ∙ ap (λ (z : ExpansionResult). joined front.text z) h ∙ ap (λ (z : Expanded). joined z.text given2) f ∙ sym o2
 
-  given_unique : {m : Macros} {busy : List Name} {item : Item} {count : ℕ} {one other : Outcome} → Gives m busy item count one → Gives m busy item count other → one ≡ other
+  given_unique : {m : Macros} {busy : List Name} {item : Item} {count : ℕ} {one other : ExpansionResult} → Gives m busy item count one → Gives m busy item count other → one ≡ other
   given_unique byte byte = refl
   given_unique broken broken = refl
   given_unique (refused a) (refused b) = ap Err (same_some a b)
@@ -85,9 +85,9 @@ mutual
   given_unique (late a f l e o) (undefined b f2) = absurd (some_none f f2)
   given_unique (late a f l e o) (itself b f2 l2 o2) = absurd (apart (same_some f2 f) l2 l)
   given_unique (late {reference = r} {count = k} a f l e o) (late b f2 l2 e2 o2) =
-      o ∙ ap (λ (z : Outcome). referred r z) (items_unique e (along_items (ap (λ (d : Definition). items_of d.value) (same_some f f2)) e2)) ∙ sym o2
+      o ∙ ap (λ (z : ExpansionResult). referred r z) (items_unique e (along_items (ap (λ (d : Definition). items_of d.value) (same_some f f2)) e2)) ∙ sym o2
 
-pub items_come_to_one : (m : Macros) (busy : List Name) (items : List Item) (count : ℕ) (one other : Outcome) → Expands m busy items count one → Expands m busy items count other → one ≡ other
+pub items_come_to_one : (m : Macros) (busy : List Name) (items : List Item) (count : ℕ) (one other : ExpansionResult) → Expands m busy items count one → Expands m busy items count other → one ≡ other
 items_come_to_one m busy items count one other e e2 = items_unique e e2
 
 pub one_expansion : (m : Macros) (text : List ℕ) (one other : Result (List ℕ) Reported) → IsExpansion m text one → IsExpansion m text other → one ≡ other

@@ -15,7 +15,7 @@ use Rattle.mk_macro.specs.Answers.{AnswersText}
 use Rattle.mk_macro.specs.declared.open.Open.{Open}
 use Rattle.mk_macro.specs.Expansion.{Expands, Gives, IsExpansion, byte_limit, is_late, macro_fault, refusal}
 use Rattle.mk_macro.specs.Expansion.{broken, refused, undefined, itself, late, nothing}
-use Rattle.mk_macro.specs.Layer.{Holds, Output, Puts, Text, grown}
+use Rattle.mk_macro.specs.Layer.{Output, OutputHolds, Puts, Text, grown}
 use Rattle.mk_macro.specs.Limits.{IsFinal, IsOver, IsRefusal, IsReferred, IsOverReferred, IsTooMuch}
 use Rattle.mk_macro.specs.Macros.{Definition, Macros}
 use Rattle.mk_macro.specs.Reference.{Change, Item, Reference, Plain, Refers, Broken}
@@ -61,7 +61,7 @@ module _ (P : Result (List ℕ) Reported → Type 0) where
   refusal_halts halts.Memory r is k = tt
   refusal_halts (halts.Fault f) r is k = k f is
 
-  referred_halts : (o : Option Definition) (change : Option Change) (output : Output) (text : Text) (texts : List Text) (halt : Halt) → Holds output text texts → IsOverReferred o change output halt
+  referred_halts : (o : Option Definition) (change : Option Change) (output : Output) (text : Text) (texts : List Text) (halt : Halt) → OutputHolds output text texts → IsOverReferred o change output halt
       → ((d : Definition) → o ≡ Some d → IsFinal d → byte_limit < length text.own + length (changed change d.value) → P (Err too_large)) → HaltsAmong halt P
   referred_halts None change output text texts halt holds is k = absurd is
   referred_halts (Some d) change output text texts halt holds is k = over_halts halt byte_limit _ (is.1 text texts holds) (k d refl is.0)
@@ -77,7 +77,7 @@ module _ (P : Result (List ℕ) Reported → Type 0) where
   pub refusal_answer : (result : Result (Vec ℕ Global) Halt) (halt : Halt) (r : Option Reported) → IsErrAnd result (λ y. y ≡ halt) → IsRefusal halt r → ((f : Reported) → r ≡ Some f → P (Err f)) → AnswersText result P
   refusal_answer result halt r same is k = passed_on result halt same (refusal_halts halt r is k)
 
-  pub referred_answer : (result : Result (Vec ℕ Global) Halt) (halt : Halt) (o : Option Definition) (change : Option Change) (output : Output) (text : Text) (texts : List Text) → Holds output text texts
+  pub referred_answer : (result : Result (Vec ℕ Global) Halt) (halt : Halt) (o : Option Definition) (change : Option Change) (output : Output) (text : Text) (texts : List Text) → OutputHolds output text texts
       → IsErrAnd result (λ y. y ≡ halt) → IsOverReferred o change output halt
       → ((d : Definition) → o ≡ Some d → IsFinal d → byte_limit < length text.own + length (changed change d.value) → P (Err too_large)) → AnswersText result P
   referred_answer result halt o change output text texts holds same is k = passed_on result halt same (referred_halts o change output text texts halt holds is k)
@@ -122,7 +122,7 @@ module _ {m : Macros} {text : List ℕ} {output : Output} {left : List Item} {co
       at_once : (o : Option Definition) (after : Output) → m r.name ≡ o → IsReferred o r.change output after None → Stands m text opens after (items_of behind) (count + 1)
       at_once None after found is =
           goes_on opens [] after (left_is e s) (undefined allowed found)
-          (λ t ts holds. subst (λ (u : Text). Holds after u ts) (nothing_more t) (subst (λ (out : Output). Holds out t ts) (sym is) holds))
+          (λ t ts holds. subst (λ (u : Text). OutputHolds after u ts) (nothing_more t) (subst (λ (out : Output). OutputHolds out t ts) (sym is) holds))
         where
           nothing_more : (t : Text) → t ≡ grown t []
           nothing_more t = ap (λ xs. record t { own = xs }) (sym (append-nil t.own))
@@ -132,12 +132,12 @@ module _ {m : Macros} {text : List ℕ} {output : Output} {left : List Item} {co
       referred_on after is = at_once (m r.name) after refl is
 
       module _ (value : List ℕ) (between after : Output) (o : Open) (name_is : o.name.now ≡ r.name) (rest_is : o.rest.now ≡ behind)
-          (opened : (t : Text) (ts : List Text) → Holds between t ts → Holds after (record { change = r.change; own = [] }) (t ∷ ts)) where
+          (opened : (t : Text) (ts : List Text) → OutputHolds between t ts → OutputHolds after (record { change = r.change; own = [] }) (t ∷ ts)) where
         inside : (found : Option Definition) → m r.name ≡ found → IsReferred found r.change output between (Some value) → Stands m text (o ∷ opens) after (items_of value) (count + 1)
         inside None found is = absurd is
         inside (Some d) found is =
             subst (λ (xs : List ℕ). Stands m text (o ∷ opens) after (items_of xs) (count + 1)) (sym is.1)
-            (enters behind o d after (left_is e s) allowed found is.0 name_is rest_is (λ t ts holds. opened t ts (subst (λ (out : Output). Holds out t ts) (sym is.2) holds)))
+            (enters behind o d after (left_is e s) allowed found is.0 name_is rest_is (λ t ts holds. opened t ts (subst (λ (out : Output). OutputHolds out t ts) (sym is.2) holds)))
 
         pub referred_in : (old new : List Open) → opens ≡ reverse old → new ≡ old ++ o ∷ [] → IsReferred (m r.name) r.change output between (Some value) → Stands m text (reverse new) after (items_of value) (count + 1)
         referred_in old new was pushed is = opens_are (ap (λ os. o ∷ os) was ∙ sym (top_is new old o pushed)) (inside (m r.name) refl is)
@@ -147,17 +147,17 @@ module _ {m : Macros} {text : List ℕ} {output : Output} {left : List Item} {co
   closing : Stands m text (o ∷ reverse new) output [] count
   closing = left_is none (opens_are (top_is old new o top) s)
 
-  closed_by : (after : Output) → ((t next : Text) (ts : List Text) → Holds output t (next ∷ ts) → Holds after (grown next (changed t.change t.own)) ts)
-      → (texts : List Text) → Level m text (o ∷ reverse new) closing.inner.change texts closing.items closing.k → Holds output closing.inner texts → Stands m text (reverse new) after (items_of o.rest.now) count
+  closed_by : (after : Output) → ((t next : Text) (ts : List Text) → OutputHolds output t (next ∷ ts) → OutputHolds after (grown next (changed t.change t.own)) ts)
+      → (texts : List Text) → Level m text (o ∷ reverse new) closing.inner.change texts closing.items closing.k → OutputHolds output closing.inner texts → Stands m text (reverse new) after (items_of o.rest.now) count
   closed_by after closed [] level holds = absurd level
   closed_by after closed (next ∷ texts) level holds = closes text o (reverse new) closing.items closing.k closing.inner next texts level closing.progress after (closed closing.inner next texts holds)
 
-  pub closed_on : (after : Output) → ((t next : Text) (ts : List Text) → Holds output t (next ∷ ts) → Holds after (grown next (changed t.change t.own)) ts) → Stands m text (reverse new) after (items_of o.rest.now) count
+  pub closed_on : (after : Output) → ((t next : Text) (ts : List Text) → OutputHolds output t (next ∷ ts) → OutputHolds after (grown next (changed t.change t.own)) ts) → Stands m text (reverse new) after (items_of o.rest.now) count
   closed_on after closed = closed_by after closed closing.texts closing.level closing.holds
 
   module _ (result : Result (Vec ℕ Global) Halt) (halt : Halt) (same : IsErrAnd result (λ y. y ≡ halt))
-      (over : (t next : Text) (ts : List Text) → Holds output t (next ∷ ts) → IsOver halt byte_limit (length next.own + length (changed t.change t.own))) where
-    over_by : (texts : List Text) → Level m text (o ∷ reverse new) closing.inner.change texts closing.items closing.k → Holds output closing.inner texts → AnswersText result (IsExpansion m text)
+      (over : (t next : Text) (ts : List Text) → OutputHolds output t (next ∷ ts) → IsOver halt byte_limit (length next.own + length (changed t.change t.own))) where
+    over_by : (texts : List Text) → Level m text (o ∷ reverse new) closing.inner.change texts closing.items closing.k → OutputHolds output closing.inner texts → AnswersText result (IsExpansion m text)
     over_by [] level holds = absurd level
     over_by (next ∷ texts) level holds =
         over_answer (IsExpansion m text) result halt byte_limit _ same (over closing.inner next texts holds)
@@ -166,6 +166,6 @@ module _ {m : Macros} {text : List ℕ} {output : Output} {left : List Item} {co
     pub closed_over : AnswersText result (IsExpansion m text)
     closed_over = over_by closing.texts closing.level closing.holds
 
-pub ended : {m : Macros} {text : List ℕ} {output : Output} {left : List Item} {count : ℕ} (opens : List Open) (all : List ℕ) → reverse opens ≡ [] → left ≡ [] → ((t : Text) → Holds output t [] → all ≡ t.own)
+pub ended : {m : Macros} {text : List ℕ} {output : Output} {left : List Item} {count : ℕ} (opens : List Open) (all : List ℕ) → reverse opens ≡ [] → left ≡ [] → ((t : Text) → OutputHolds output t [] → all ≡ t.own)
     → Stands m text (reverse opens) output left count → IsExpansion m text (Ok all)
 ended {count = count} opens all empty none is s = record { outcome = the all count; expands = finishes all is (left_is none (opens_are empty s)); answers = refl }

@@ -26,8 +26,8 @@ pub record Expanded : Type 0 where
   pub count : ℕ
 
 -- what an expansion comes to: a text, or a fault
-abbrev pub Outcome : Type 0
-Outcome = Result Expanded Reported
+abbrev pub ExpansionResult : Type 0
+ExpansionResult = Result Expanded Reported
 
 -- a fault of an expansion: who expands sets its place
 abbrev pub macro_fault : Kind → List Name → Reported
@@ -52,14 +52,14 @@ refusal busy count name =
     else None))
 
 -- a text, and what the next item gives: together they must keep to the limit
-abbrev pub joined : List ℕ → Outcome → Outcome
+abbrev pub joined : List ℕ → ExpansionResult → ExpansionResult
 joined text (Err fault) = Err fault
 joined text (Ok next) =
     if nat_lt byte_limit (length text + length next.text) then Err (macro_fault ExpansionTooLarge [])
     else Ok (record { text = text ++ next.text; count = next.count })
 
 -- a value once it is expanded, with the substitution of the reference to it
-abbrev pub referred : Reference → Outcome → Outcome
+abbrev pub referred : Reference → ExpansionResult → ExpansionResult
 referred reference (Err fault) = Err fault
 referred reference (Ok value) = Ok (record { text = changed reference.change value.text; count = value.count })
 
@@ -71,16 +71,16 @@ is_late Given = true
 
 mutual
   -- what items come to, behind so many references, inside the values of the busy macros: by cases on the last item
-  pub data Expands (macros : Macros) : List Name → List Item → ℕ → Outcome → Type 0 where
+  pub data Expands (macros : Macros) : List Name → List Item → ℕ → ExpansionResult → Type 0 where
     nothing : {busy : List Name} {count : ℕ} → Expands macros busy [] count (Ok (record { text = []; count = count }))
     failed : {busy : List Name} {items all : List Item} (item : Item) {count : ℕ} {fault : Reported}
         → Expands macros busy items count (Err fault) → all ≡ items ++ item ∷ [] → Expands macros busy all count (Err fault)
-    one_more : {busy : List Name} {items all : List Item} {item : Item} {count : ℕ} {front : Expanded} {given outcome : Outcome}
+    one_more : {busy : List Name} {items all : List Item} {item : Item} {count : ℕ} {front : Expanded} {given outcome : ExpansionResult}
         → Expands macros busy items count (Ok front) → Gives macros busy item front.count given
         → all ≡ items ++ item ∷ [] → outcome ≡ joined front.text given → Expands macros busy all count outcome
 
   -- what one item gives there
-  pub data Gives (macros : Macros) : List Name → Item → ℕ → Outcome → Type 0 where
+  pub data Gives (macros : Macros) : List Name → Item → ℕ → ExpansionResult → Type 0 where
     byte : {busy : List Name} {b count : ℕ} → Gives macros busy (Plain b) count (Ok (record { text = b ∷ []; count = count }))
     broken : {busy : List Name} {count : ℕ} → Gives macros busy Broken count (Err (macro_fault BadReference []))
     refused : {busy : List Name} {reference : Reference} {count : ℕ} {fault : Reported}
@@ -88,22 +88,22 @@ mutual
     undefined : {busy : List Name} {reference : Reference} {count : ℕ}
         → refusal busy count reference.name ≡ None → macros reference.name ≡ None
         → Gives macros busy (Refers reference) count (Ok (record { text = []; count = count + 1 }))
-    itself : {busy : List Name} {reference : Reference} {count : ℕ} {definition : Definition} {outcome : Outcome}
+    itself : {busy : List Name} {reference : Reference} {count : ℕ} {definition : Definition} {outcome : ExpansionResult}
         → refusal busy count reference.name ≡ None → macros reference.name ≡ Some definition → is_late definition.manner ≡ false
         → outcome ≡ referred reference (Ok (record { text = definition.value; count = count + 1 }))
         → Gives macros busy (Refers reference) count outcome
-    late : {busy : List Name} {reference : Reference} {count : ℕ} {definition : Definition} {inner outcome : Outcome}
+    late : {busy : List Name} {reference : Reference} {count : ℕ} {definition : Definition} {inner outcome : ExpansionResult}
         → refusal busy count reference.name ≡ None → macros reference.name ≡ Some definition → is_late definition.manner ≡ true
         → Expands macros (reference.name ∷ busy) (items_of definition.value) (count + 1) inner
         → outcome ≡ referred reference inner → Gives macros busy (Refers reference) count outcome
 
 -- the text of an outcome, or its fault
-abbrev pub text_of : Outcome → Result (List ℕ) Reported
+abbrev pub text_of : ExpansionResult → Result (List ℕ) Reported
 text_of (Err fault) = Err fault
 text_of (Ok expanded) = Ok expanded.text
 
 -- what a text expands to under these macros, by itself
 pub record IsExpansion (macros : Macros) (text : List ℕ) (answer : Result (List ℕ) Reported) : Type 0 where
-  pub outcome : Outcome
+  pub outcome : ExpansionResult
   pub expands : Expands macros [] (items_of text) 0 outcome
   pub answers : answer ≡ text_of outcome

@@ -2,13 +2,13 @@
 use Rattle.std.specs.Prelude.{◌≡◌, ℕ, List, Result}
 use Rattle.mk_name.specs.Names.{Name}
 use Rattle.mk_name.specs.Reported.{Reported}
-use Rattle.mk_macro.specs.Expansion.{Expands, IsExpansion, Outcome}
+use Rattle.mk_macro.specs.Expansion.{Expands, ExpansionResult, IsExpansion}
 use Rattle.mk_macro.specs.Macros.{Macros}
 use Rattle.mk_macro.specs.Reference.{Item}
 
 -- items come to no two outcomes
 abbrev pub ItemsComeToOne : Type 0
-ItemsComeToOne = (macros : Macros) (busy : List Name) (items : List Item) (count : ℕ) (one other : Outcome)
+ItemsComeToOne = (macros : Macros) (busy : List Name) (items : List Item) (count : ℕ) (one other : ExpansionResult)
     → Expands macros busy items count one → Expands macros busy items count other → one ≡ other
 
 -- a text has no two expansions

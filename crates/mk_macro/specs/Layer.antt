@@ -87,7 +87,7 @@ Around done inner whole (layer ∷ layers) (text ∷ texts) =
     (so_far : List ℕ) × StandsFor inner whole layer text so_far × Around done layer so_far layers texts
 
 -- an output holds these texts: the innermost, and those around it from the inside
-pub record Holds (output : Output) (text : Text) (texts : List Text) : Type 0 where
+pub record OutputHolds (output : Output) (text : Text) (texts : List Text) : Type 0 where
   pub change_is : output.top.change ≡ text.change
   pub within : size output.top ≤ byte_limit
   pub size_is : length text.own ≡ size output.top
@@ -95,4 +95,4 @@ pub record Holds (output : Output) (text : Text) (texts : List Text) : Type 0 wh
 
 -- an output comes to hold more at the end of the innermost text
 abbrev pub Puts : Output → Output → List ℕ → Type 0
-Puts old new more = (text : Text) (texts : List Text) → Holds old text texts → Holds new (grown text more) texts
+Puts old new more = (text : Text) (texts : List Text) → OutputHolds old text texts → OutputHolds new (grown text more) texts

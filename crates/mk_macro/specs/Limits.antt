@@ -5,7 +5,7 @@ use Rattle.mk_name.specs.declared.fault.Halt.{Halt}
 use Rattle.mk_name.specs.declared.fault.Halt.TheVariants as halts
 use Rattle.mk_name.specs.declared.fault.Kind.TheVariants.{ExpansionTooLarge}
 use Rattle.mk_macro.specs.Expansion.{byte_limit, is_late, macro_fault}
-use Rattle.mk_macro.specs.Layer.{Holds, Output, Puts, Text}
+use Rattle.mk_macro.specs.Layer.{Output, OutputHolds, Puts, Text}
 use Rattle.mk_macro.specs.Macros.{Definition}
 use Rattle.mk_macro.specs.Reference.{Change}
 use Rattle.mk_macro.specs.References.{holds}
@@ -25,7 +25,7 @@ IsRefusal (halts.Fault fault) refusal = refusal ≡ Some fault
 -- memory ran out, or so much more does not fit into the innermost text
 abbrev pub IsTooMuch : Output → List ℕ → Halt → Type 0
 IsTooMuch output more halt =
-    (text : Text) (texts : List Text) → Holds output text texts → IsOver halt byte_limit (length text.own + length more)
+    (text : Text) (texts : List Text) → OutputHolds output text texts → IsOver halt byte_limit (length text.own + length more)
 
 -- a value stands for itself: it is never expanded; or it has no dollar sign, and no more bytes than a text may have
 abbrev pub IsFinal : Definition → Type 0

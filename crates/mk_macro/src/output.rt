@@ -1,7 +1,7 @@
 //! What texts that are expanded one inside the other have come to.
 ghost use Rattle.std.specs.Prelude.{◌≡◌, ◌≤◌, ◌+◌, ◌++◌, ◌∷◌, ℕ, List, [], length, min, option_map, reverse, IfErr, IfOk, OnOk};
 ghost use Rattle.mk_macro.specs.Expansion.{byte_limit};
-ghost use Rattle.mk_macro.specs.Layer.{AreShort, Holds, IsCounted, Puts, Relays, Text, grown};
+ghost use Rattle.mk_macro.specs.Layer.{AreShort, IsCounted, OutputHolds, Puts, Relays, Text, grown};
 ghost use Rattle.mk_macro.specs.Limits.{IsOver, IsTooMuch};
 ghost use Rattle.mk_macro.specs.Substitution.{changed};
 
@@ -35,7 +35,7 @@ impl<'a> Model for Output<'a> {
 impl<'a> Output<'a> {
     /// One text, without bytes.
     pub fn new(alloc: Global) -> Output<'a>
-        ensures { Holds result (record { change = None; own = [] }) [] }
+        ensures { OutputHolds result (record { change = None; own = [] }) [] }
     {
         Output {
             done: Vec::new(alloc),
@@ -58,8 +58,8 @@ impl<'a> Output<'a> {
     /// Begins a text inside the innermost, which goes on to it with this substitution. The only
     /// error is out of memory.
     pub fn open(&mut self, alloc: Global, change: Option<Change<'a>>) -> Result<(), AllocError>
-        ensures opened { OnOk result ((text : Text) (texts : List Text) → Holds self.old text texts
-            → Holds self.new (record { change = change.entry; own = [] }) (text ∷ texts)) }
+        ensures opened { OnOk result ((text : Text) (texts : List Text) → OutputHolds self.old text texts
+            → OutputHolds self.new (record { change = change.entry; own = [] }) (text ∷ texts)) }
         ensures counted { OnOk result (IsCounted self.old self.new) }
         ensures within { OnOk result (self.new.loose ≤ byte_limit) }
     {
@@ -72,8 +72,8 @@ impl<'a> Output<'a> {
 
     /// Begins a text inside the innermost.
     fn begin(&mut self, alloc: Global, change: Option<Change<'a>>) -> Result<(), AllocError>
-        ensures opened { OnOk result ((text : Text) (texts : List Text) → Holds self.old text texts
-            → Holds self.new (record { change = change.entry; own = [] }) (text ∷ texts)) }
+        ensures opened { OnOk result ((text : Text) (texts : List Text) → OutputHolds self.old text texts
+            → OutputHolds self.new (record { change = change.entry; own = [] }) (text ∷ texts)) }
         ensures counted { OnOk result
             (self.new.loose ≡ min (self.old.loose + length self.old.top.kept) usize.MAX) }
     {
@@ -85,9 +85,9 @@ impl<'a> Output<'a> {
 
     /// Ends the innermost text, and puts it at the end of the one around it.
     pub fn close(&mut self, alloc: Global) -> Result<(), Halt>
-        ensures closed { OnOk result ((text next : Text) (texts : List Text) → Holds self.old text (next ∷ texts)
-            → Holds self.new (grown next (changed text.change text.own)) texts) }
-        ensures over { IfErr result (λ halt. (text next : Text) (texts : List Text) → Holds self.old text (next ∷ texts)
+        ensures closed { OnOk result ((text next : Text) (texts : List Text) → OutputHolds self.old text (next ∷ texts)
+            → OutputHolds self.new (grown next (changed text.change text.own)) texts) }
+        ensures over { IfErr result (λ halt. (text next : Text) (texts : List Text) → OutputHolds self.old text (next ∷ texts)
             → IsOver halt byte_limit (length next.own + length (changed text.change text.own))) }
         ensures counted { OnOk result (self.new.loose ≡ self.old.loose) }
     {
@@ -100,8 +100,8 @@ impl<'a> Output<'a> {
 
     /// Lets what later texts cannot change flow outwards. The only error is out of memory.
     fn settle(&mut self, alloc: Global) -> Result<(), AllocError>
-        ensures same { OnOk result ((text : Text) (texts : List Text) → Holds self.old text texts
-            → Holds self.new text texts) }
+        ensures same { OnOk result ((text : Text) (texts : List Text) → OutputHolds self.old text texts
+            → OutputHolds self.new text texts) }
         ensures short { OnOk result (AreShort self.new.outer) }
         ensures counted { OnOk result (self.new.loose ≡ 0) }
     {
@@ -114,7 +114,7 @@ impl<'a> Output<'a> {
 
     /// The text, where it is the only one. The only error is out of memory.
     pub fn finish(self) -> Result<Vec<u8>, AllocError>
-        ensures { IfOk result (λ all. (text : Text) → Holds self.entry text [] → all.items ≡ text.own) }
+        ensures { IfOk result (λ all. (text : Text) → OutputHolds self.entry text [] → all.items ≡ text.own) }
     {
         let mut all = self.done;
         all.extend_from_slice(self.top.kept())?;

@@ -4,7 +4,7 @@ use Rattle.std.proofs.lemmas.Bool.{cases_Bool, cases_order}
 use Rattle.std.proofs.lemmas.List.Elements.{Contains-append_left, Contains-push, Contains-push_cases}
 use Rattle.mk_path.specs.declared.path.Path.{Path}
 use Rattle.mk_path.specs.Paths.{path_at}
-use Rattle.mk_decide.specs.Pairs.{IsRising}
+use Rattle.mk_decide.specs.Pairs.{PairsRise}
 use Rattle.mk_missing.specs.Finding.{AreChecked, AreFound}
 
 module _ (files : List Path) (Holds Fine : ℕ → Path → Type 0) (old : List (ℕ × ℕ)) (k : ℕ) where
@@ -73,7 +73,7 @@ pub found_none : (files : List Path) (Holds Fine : ℕ → Path → Type 0) → 
 found_none files Holds Fine = record { only = λ k n there. absurd (omega (arith, there.1)); all = λ k n below. absurd (omega (arith, below)) }
 
 -- the same pairs in order
-pub found_in_order : (files : List Path) (Holds Fine : ℕ → Path → Type 0) (pairs new : List (ℕ × ℕ)) (end : ℕ) → AreFound files Holds Fine pairs end → end ≡ length files → IsRising new
+pub found_in_order : (files : List Path) (Holds Fine : ℕ → Path → Type 0) (pairs new : List (ℕ × ℕ)) (end : ℕ) → AreFound files Holds Fine pairs end → end ≡ length files → PairsRise new
     → ((k n : ℕ) → Contains new (k, n) ↔ Contains pairs (k, n)) → AreChecked files Holds Fine new
 found_in_order files Holds Fine pairs new end found whole rise same = record {
   rise = rise;

@@ -15,7 +15,7 @@ use Rattle.mk_missing.specs.declared.users.Users.{Users}
 use Rattle.mk_missing.specs.Files.{IsFile, IsLastIfAny, writes_file}
 use Rattle.mk_missing.specs.Kinds.{IsPresentName}
 use Rattle.mk_missing.specs.Users.{AreUsers, files_of}
-use Rattle.mk_missing.specs.Violations.{ArePlaces, IsListedOutput, IsPresent, IsWrittenTree, ListsNoOutputs, WriteNoTrees}
+use Rattle.mk_missing.specs.Violations.{ArePlacesWhere, IsListedOutput, IsPresent, IsWrittenTree, ListsNoOutputs, WriteNoTrees}
 use Rattle.mk_missing.proofs.Fresh.{covers_file}
 use Rattle.mk_missing.proofs.Presents.{AreThose, not_true}
 use Rattle.mk_missing.proofs.Standing.{writes_name}
@@ -73,7 +73,7 @@ pub present_nobody : (jobs : Jobs) (x : Name) → ((n : ℕ) → n < node_count 
 present_nobody jobs x none = (λ so. absurd (both_ways false refl so), λ at. absurd (none at.0 (live_node jobs at.0 at.2.live) at.1))
 
 -- places up to the end of the files are all places
-pub places_are : (users : List Users) (Holds : Path → Type 0) (found : List ℕ) (end : ℕ) → end ≡ length users → AreThose (λ k. Holds (path_at (files_of users) k)) found end → ArePlaces (files_of users) Holds found
+pub places_are : (users : List Users) (Holds : Path → Type 0) (found : List ℕ) (end : ℕ) → end ≡ length users → AreThose (λ k. Holds (path_at (files_of users) k)) found end → ArePlacesWhere (files_of users) Holds found
 places_are users Holds found end whole are =
     let long = length-map users (λ (user : Users). user.file) in
     record {
@@ -93,7 +93,7 @@ nothing_if (k ∷ ks) none = absurd (none k (0, omega arith, refl))
 
 module _ (jobs : Jobs) (listing : List Name) (shape : IsWellFormed jobs) (files : List Path) (up : (p : Path) → IsFile jobs p → Contains files p) where
   -- a file that holds has a place
-  has_place : (Holds : Path → Type 0) (places : List ℕ) (p : Path) → ArePlaces files Holds places → places ≡ [] → IsFile jobs p → Holds p → ⊥
+  has_place : (Holds : Path → Type 0) (places : List ℕ) (p : Path) → ArePlacesWhere files Holds places → places ≡ [] → IsFile jobs p → Holds p → ⊥
   has_place Holds places p are none is holds =
       let k = up p is in
       let at : path_at files k.0 ≡ p = get_or_default files k.0 (record { name = []; tree = false }) p k.1 ∙ k.2 in
@@ -102,7 +102,7 @@ module _ (jobs : Jobs) (listing : List Name) (shape : IsWellFormed jobs) (files 
   writes_self : (n : ℕ) (p : Path) → Contains (writes_of jobs n) p → writes_file jobs n p ≡ true
   writes_self n p there = list_any-from_Any (λ q. is_over jobs.root q p) (writes_of jobs n) (there.0, p, there.1, there.2, over_self jobs.root p)
 
-  module _ (outputs trees : List ℕ) (are_outputs : ArePlaces files (IsListedOutput jobs listing) outputs) (are_trees : ArePlaces files (IsWrittenTree jobs) trees) where
+  module _ (outputs trees : List ℕ) (are_outputs : ArePlacesWhere files (IsListedOutput jobs listing) outputs) (are_trees : ArePlacesWhere files (IsWrittenTree jobs) trees) where
     pub no_trees_if : trees ≡ [] → WriteNoTrees jobs
     no_trees_if none n p there = elim (cases_Bool p.tree) [
       | inr nay ↦ nay

@@ -6,7 +6,7 @@ use Rattle.std.proofs.lemmas.List.{get_or_append_left}
 use Rattle.std.proofs.Math.Seq.{get_or-append_seam}
 use Rattle.std.proofs.lemmas.List.Folds.{Any-from_list_any, list_any-from_Any}
 use Rattle.mk_jobs.specs.Jobs.{Jobs, IsPrerequisite, IsValid, is_live, prerequisites_of}
-use Rattle.mk_stale.specs.Watching.{RunsAlways, itself, needs, behind, is_restless, makes_own}
+use Rattle.mk_missing.specs.Watching.{RunsAlways, itself, needs, behind, is_restless, makes_own}
 use Rattle.mk_missing.specs.Hearing.{AreAlways}
 
 -- a prerequisite that makes each run that needs it

@@ -9,7 +9,7 @@ use Rattle.mk_path.specs.Paths.{path_at}
 use Rattle.mk_jobs.specs.Jobs.{Jobs, is_listed, may_write, node_count, reads_of}
 use Rattle.mk_jobs.specs.Shape.{IsWellFormed}
 use Rattle.mk_jobs.proofs.JobsLemmas.{live_node, reader_live}
-use Rattle.mk_stale.specs.Watching.{Carries, IsDeclared, IsInput, IsLastWriter, IsNamed, Watches, always, named, through, written, never}
+use Rattle.mk_missing.specs.Watching.{Carries, IsDeclared, IsInput, IsLastWriter, IsNamed, Watches, always, named, through, written, never}
 use Rattle.mk_missing.specs.declared.violations.Violations.{Violations}
 use Rattle.mk_missing.specs.Unlisted.{unlisted_names, is_unlisted}
 use Rattle.mk_missing.specs.Files.{IsFile, IsInputFile, IsLastWriterOf, WatchesFile, often, by_name, by_chain, by_writer, not_there, reads_file, writes_file}

@@ -7,7 +7,7 @@ use Rattle.mk_path.specs.declared.path.Path.{Path}
 use Rattle.mk_path.specs.Paths.{path_cmp, path_at}
 use Rattle.mk_jobs.specs.Jobs.{Jobs}
 use Rattle.mk_jobs.specs.Shape.{IsWellFormed}
-use Rattle.mk_stale.specs.Watching.{IsDeclared}
+use Rattle.mk_missing.specs.Watching.{IsDeclared}
 use Rattle.mk_missing.specs.declared.kind.Kind.{Kind}
 use Rattle.mk_missing.specs.declared.kind.Kind.TheVariants.{Unwatched, Late, Shared}
 use Rattle.mk_missing.specs.declared.users.Users.{Users}
@@ -17,7 +17,7 @@ use Rattle.mk_missing.specs.Files.{IsFile}
 use Rattle.mk_missing.specs.Finding.{AreChecked, IsKnown, IsSeen, IsWatched}
 use Rattle.mk_missing.specs.Kinds.{IsFine, IsWrong}
 use Rattle.mk_missing.specs.Users.{AreUsers, files_of, is_nowhere}
-use Rattle.mk_missing.specs.Violations.{AreLast, AreLateBy, ArePlaces, AreSoMany, AreViolations, HasNone, IsLate, IsListedOutput, IsMissing, IsUnlistedInput, IsPresent, IsShared, IsUnwatched, IsWrittenTree, ListsNoOutputs, WriteNoTrees}
+use Rattle.mk_missing.specs.Violations.{AreLast, AreLateBy, ArePlacesWhere, AreSoMany, AreViolations, HasNone, IsLate, IsListedOutput, IsMissing, IsUnlistedInput, IsPresent, IsShared, IsUnwatched, IsWrittenTree, ListsNoOutputs, WriteNoTrees}
 use Rattle.mk_missing.proofs.NotListed.{mark_at}
 use Rattle.mk_missing.proofs.Filters.{kept_checked}
 use Rattle.mk_missing.proofs.Declaring.{unlisted_apart, all_are, declared_if, late_apart, missing_apart, none_if, shared_apart}
@@ -70,8 +70,8 @@ pub record AreResults (jobs : Jobs) (listing : List Name) (users : List Users) (
   pub shared : AreChecked (files_of users) (IsWrong jobs Shared) (IsFine jobs Shared) found.shared.items
   pub present_rise : IsStrictlyIncreasing found.present.items
   pub present : (n : ℕ) → Contains found.present.items n ↔ IsPresent jobs n
-  pub outputs : ArePlaces (files_of users) (IsListedOutput jobs listing) found.outputs.items
-  pub trees : ArePlaces (files_of users) (IsWrittenTree jobs) found.trees.items
+  pub outputs : ArePlacesWhere (files_of users) (IsListedOutput jobs listing) found.outputs.items
+  pub trees : ArePlacesWhere (files_of users) (IsWrittenTree jobs) found.trees.items
 
 module _ (jobs : Jobs) (listing : List Name) (users : List Users) (found : Violations) (shape : IsWellFormed jobs) (are : AreResults jobs listing users found) where
   files : (p : Path) → Contains found.files.items p ↔ IsFile jobs p
@@ -104,11 +104,11 @@ module _ (jobs : Jobs) (listing : List Name) (users : List Users) (found : Viola
         count = sym are.unlisted;
       })
 
-  outputs : ArePlaces found.files.items (IsListedOutput jobs listing) found.outputs.items
-  outputs = subst (λ (ps : List Path). ArePlaces ps (IsListedOutput jobs listing) found.outputs.items) (sym are.same) are.outputs
+  outputs : ArePlacesWhere found.files.items (IsListedOutput jobs listing) found.outputs.items
+  outputs = subst (λ (ps : List Path). ArePlacesWhere ps (IsListedOutput jobs listing) found.outputs.items) (sym are.same) are.outputs
 
-  trees : ArePlaces found.files.items (IsWrittenTree jobs) found.trees.items
-  trees = subst (λ (ps : List Path). ArePlaces ps (IsWrittenTree jobs) found.trees.items) (sym are.same) are.trees
+  trees : ArePlacesWhere found.files.items (IsWrittenTree jobs) found.trees.items
+  trees = subst (λ (ps : List Path). ArePlacesWhere ps (IsWrittenTree jobs) found.trees.items) (sym are.same) are.trees
 
   pub violations_are : AreViolations jobs listing found
   violations_are = record {

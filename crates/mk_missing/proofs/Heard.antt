@@ -8,7 +8,7 @@ use Rattle.mk_jobs.proofs.JobsLemmas.{writer_live}
 use Rattle.mk_decide.specs.Bits.{row_at}
 use Rattle.mk_decide.proofs.Filling.{row-append}
 use Rattle.mk_decide.proofs.RowBits.{clear_bits}
-use Rattle.mk_stale.specs.Watching.{Carries, edge, further, makes_own}
+use Rattle.mk_missing.specs.Watching.{Carries, edge, further, makes_own}
 use Rattle.mk_missing.specs.Hearing.{AreHeard, Hears, IsFilled, itself, carried, IsNews}
 
 module _ (jobs : Jobs) where

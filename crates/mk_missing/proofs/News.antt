@@ -7,7 +7,7 @@ use Rattle.mk_index.specs.Bits.{HasBit}
 use Rattle.mk_decide.specs.Bits.{row_at}
 use Rattle.mk_decide.proofs.RowBits.{merged_bits}
 use Rattle.mk_jobs.specs.Jobs.{Jobs}
-use Rattle.mk_stale.specs.Watching.{makes_own}
+use Rattle.mk_missing.specs.Watching.{makes_own}
 use Rattle.mk_missing.specs.Hearing.{IsNews}
 
 -- the row has these bits, and the news of these nodes

@@ -5,7 +5,7 @@ use Rattle.mk_path.specs.declared.path.Path.{Path}
 use Rattle.mk_jobs.specs.Jobs.{Jobs, IsValid, name_of, node_count}
 use Rattle.mk_jobs.specs.Shape.{IsWellFormed}
 use Rattle.mk_jobs.proofs.JobsLemmas.{live_node}
-use Rattle.mk_stale.specs.Watching.{Carries, RunsAlways, is_never_there}
+use Rattle.mk_missing.specs.Watching.{Carries, RunsAlways, is_never_there}
 use Rattle.mk_missing.specs.Files.{IsLastIfAny, IsLastWriterOf, WatchesFile, by_chain, by_name, by_writer, not_there, often}
 use Rattle.mk_missing.specs.Finding.{WatchesName, WatchesWriter}
 use Rattle.mk_missing.specs.Hearing.{Hears, itself, carried}

@@ -5,7 +5,7 @@ use Rattle.std.proofs.lemmas.List.Elements.{All-contains}
 use Rattle.mk_path.specs.declared.path.Path.{Path}
 use Rattle.mk_jobs.specs.Jobs.{Before, Jobs, node_count}
 use Rattle.mk_jobs.specs.Shape.{IsWellFormed}
-use Rattle.mk_stale.specs.Watching.{RunsWith}
+use Rattle.mk_missing.specs.Watching.{RunsWith}
 use Rattle.mk_missing.specs.Files.{IsInputFile, IsLastIfAny, writes_file}
 use Rattle.mk_missing.specs.Finding.{IsInTime, IsTogether, IsWatched}
 use Rattle.mk_missing.specs.Kinds.{IsFine, nodes_of}

@@ -4,7 +4,7 @@ use Rattle.std.specs.List.{list_any}
 use Rattle.mk_path.specs.declared.path.Path.{Path}
 use Rattle.mk_path.specs.Paths.{is_over}
 use Rattle.mk_jobs.specs.Jobs.{Jobs, node_count, name_of, reads_of, writes_of, is_live}
-use Rattle.mk_stale.specs.Watching.{Carries, IsNamed, RunsAlways, is_never_there}
+use Rattle.mk_missing.specs.Watching.{Carries, IsNamed, RunsAlways, is_never_there}
 
 -- one of these paths is p, or a tree over it
 abbrev pub is_under : List ℕ → List Path → Path → Bool

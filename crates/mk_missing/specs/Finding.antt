@@ -4,8 +4,8 @@ use Rattle.mk_name.specs.Names.{Name}
 use Rattle.mk_path.specs.declared.path.Path.{Path}
 use Rattle.mk_path.specs.Paths.{path_at}
 use Rattle.mk_jobs.specs.Jobs.{Jobs, Before, name_of, node_count}
-use Rattle.mk_decide.specs.Pairs.{IsRising}
-use Rattle.mk_stale.specs.Watching.{Carries, RunsWith, is_never_there}
+use Rattle.mk_decide.specs.Pairs.{PairsRise}
+use Rattle.mk_missing.specs.Watching.{Carries, RunsWith, is_never_there}
 use Rattle.mk_missing.specs.Unlisted.{is_unlisted}
 use Rattle.mk_missing.specs.Files.{IsInputFile, IsLastWriterOf, WatchesFile, writes_file}
 use Rattle.mk_missing.specs.Hearing.{Hears}
@@ -50,5 +50,5 @@ pub record WatchesName (jobs : Jobs) (n : ℕ) (p : Path) : Type 0 where
 
 -- the same of all files, each pair once, in order
 pub record AreChecked (files : List Path) (Holds Fine : ℕ → Path → Type 0) (pairs : List (ℕ × ℕ)) : Type 0 where
-  pub rise : IsRising pairs
+  pub rise : PairsRise pairs
   pub found : AreFound files Holds Fine pairs (length files)

@@ -4,7 +4,7 @@ use Rattle.mk_index.specs.Bits.{HasBit}
 use Rattle.mk_decide.specs.Bits.{row_at}
 use Rattle.mk_jobs.specs.Jobs.{Jobs, IsPrerequisite, is_live, node_count}
 use Rattle.mk_jobs.specs.Shape.{IsWellFormed}
-use Rattle.mk_stale.specs.Watching.{Carries, RunsAlways, makes_own}
+use Rattle.mk_missing.specs.Watching.{Carries, RunsAlways, makes_own}
 
 -- n hears of k: k is a prerequisite of it, or of a live node that carries to it
 pub data Hears (jobs : Jobs) (k n : ℕ) : Type 0 where

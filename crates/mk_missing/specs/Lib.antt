@@ -1,7 +1,14 @@
+pub mod Doings
+pub mod EditedSource
 pub mod Files
 pub mod Finding
 pub mod Hearing
+pub mod Incremental
 pub mod Kinds
+pub mod Laws
+pub mod Running
 pub mod Unlisted
+pub mod Unpacking
 pub mod Users
 pub mod Violations
+pub mod Watching

@@ -5,8 +5,8 @@ use Rattle.mk_name.specs.Names.{Name, has, same_name}
 use Rattle.mk_path.specs.declared.path.Path.{Path}
 use Rattle.mk_path.specs.Paths.{path_cmp, path_at}
 use Rattle.mk_jobs.specs.Jobs.{Jobs, Before, is_listed, is_live, is_phony, may_write, name_of, writes_of}
-use Rattle.mk_decide.specs.Pairs.{IsRising}
-use Rattle.mk_stale.specs.Watching.{RunsWith}
+use Rattle.mk_decide.specs.Pairs.{PairsRise}
+use Rattle.mk_missing.specs.Watching.{RunsWith}
 use Rattle.mk_missing.specs.Unlisted.{is_unlisted}
 use Rattle.mk_missing.specs.Files.{IsFile, IsInputFile, IsLastIfAny, IsLastWriterOf, WatchesFile, writes_file}
 use Rattle.mk_missing.specs.declared.violations.Violations.{Violations}
@@ -62,13 +62,13 @@ pub record IsWrittenTree (jobs : Jobs) (p : Path) : Type 0 where
   pub writes : writes_file jobs writer p ≡ true
 
 -- the places of the files for which this holds, in order
-pub record ArePlaces (files : List Path) (Holds : Path → Type 0) (places : List ℕ) : Type 0 where
+pub record ArePlacesWhere (files : List Path) (Holds : Path → Type 0) (places : List ℕ) : Type 0 where
   pub rise : IsStrictlyIncreasing places
   pub exact : (k : ℕ) → Contains places k ↔ ((k < length files) × Holds (path_at files k))
 
 -- the pairs of a file's place and a node for which this holds, each once, in order
 pub record AreAll (files : List Path) (Holds : ℕ → Path → Type 0) (pairs : List (ℕ × ℕ)) : Type 0 where
-  pub rise : IsRising pairs
+  pub rise : PairsRise pairs
   pub exact : (k n : ℕ) → Contains pairs (k, n) ↔ ((k < length files) × Holds n (path_at files k))
 
 -- so many pairs there are for which this holds
@@ -105,8 +105,8 @@ pub record AreViolations (jobs : Jobs) (listing : List Name) (found : Violations
   pub shared : AreAll found.files.items (IsShared jobs) found.shared.items
   pub present_rise : IsStrictlyIncreasing found.present.items
   pub present : (n : ℕ) → Contains found.present.items n ↔ IsPresent jobs n
-  pub outputs : ArePlaces found.files.items (IsListedOutput jobs listing) found.outputs.items
-  pub trees : ArePlaces found.files.items (IsWrittenTree jobs) found.trees.items
+  pub outputs : ArePlacesWhere found.files.items (IsListedOutput jobs listing) found.outputs.items
+  pub trees : ArePlacesWhere found.files.items (IsWrittenTree jobs) found.trees.items
 
 -- there is no violation of any kind
 pub record HasNone (found : Violations) : Type 0 where

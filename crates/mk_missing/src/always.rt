@@ -3,8 +3,8 @@ ghost use Rattle.std.specs.Prelude.{◌≡◌, ◌<◌, ◌≤◌, ◌&&◌, ◌
 ghost use Rattle.std.specs.List.{list_any};
 ghost use Rattle.mk_jobs.specs.Jobs.{IsValid, node_count};
 ghost use Rattle.mk_jobs.specs.Shape.{IsWellFormed};
-ghost use Rattle.mk_stale.specs.Watching as watching;
-ghost use Rattle.mk_stale.specs.Watching.{RunsAlways};
+ghost use Rattle.mk_missing.specs.Watching as watching;
+ghost use Rattle.mk_missing.specs.Watching.{RunsAlways};
 ghost use Rattle.mk_missing.specs.Hearing.{AreAlways};
 
 use mk_jobs::jobs::Jobs;

@@ -3,7 +3,7 @@ ghost use Rattle.std.specs.Prelude.{ℕ, ◌≡◌, ◌<◌, ◌↔◌, ◌⊎�
 ghost use Rattle.mk_jobs.specs.Jobs as spec;
 ghost use Rattle.mk_jobs.specs.Jobs.{node_count};
 ghost use Rattle.mk_jobs.specs.Shape.{IsWellFormed};
-ghost use Rattle.mk_stale.specs.Watching.{RunsWith};
+ghost use Rattle.mk_missing.specs.Watching.{RunsWith};
 ghost use Rattle.mk_missing.specs.Files.{WatchesFile, writes_file};
 ghost use Rattle.mk_missing.specs.Finding.{IsInTime};
 ghost use Rattle.mk_missing.specs.Kinds.{IsFine, IsWrong, nodes_of};

@@ -5,7 +5,7 @@ ghost use Rattle.mk_jobs.specs.Shape.{IsWellFormed};
 ghost use Rattle.mk_name.specs.Names.{has, same_name};
 ghost use Rattle.mk_missing.specs.Kinds.{HasFlaw, IsPresentName};
 ghost use Rattle.mk_missing.specs.Users.{AreUsers, files_of};
-ghost use Rattle.mk_missing.specs.Violations.{ArePlaces, IsListedOutput};
+ghost use Rattle.mk_missing.specs.Violations.{ArePlacesWhere, IsListedOutput};
 
 use crate::kept::keep;
 use crate::kind::Flaw;
@@ -27,7 +27,7 @@ pub(crate) fn flawed_files(
     requires shape { IsWellFormed jobs.now }
     requires few { length users.now < row_limit }
     requires users { All (AreUsers jobs.now) users.now }
-    ensures { IfOk result (λ places. ArePlaces (files_of users.now) (HasFlaw jobs.now listing.now flaw) places.items) }
+    ensures { IfOk result (λ places. ArePlacesWhere (files_of users.now) (HasFlaw jobs.now listing.now flaw) places.items) }
 {
     let mut found = Vec::new(alloc);
     for k in 0..users.len() {

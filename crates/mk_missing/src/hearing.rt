@@ -3,8 +3,8 @@ ghost use Rattle.std.specs.Prelude.{ℕ, ◌≡◌, ◌<◌, ◌≤◌, ◌+◌,
 ghost use Rattle.mk_index.specs.Bits.{HasBit};
 ghost use Rattle.mk_jobs.specs.Jobs.{IsValid, is_live, node_count, prerequisites_of};
 ghost use Rattle.mk_decide.specs.Bits.{row_at};
-ghost use Rattle.mk_stale.specs.Watching as watching;
-ghost use Rattle.mk_stale.specs.Watching.{Carries};
+ghost use Rattle.mk_missing.specs.Watching as watching;
+ghost use Rattle.mk_missing.specs.Watching.{Carries};
 ghost use Rattle.mk_missing.specs.Hearing.{AreHeard, Hears, IsNews};
 
 use crate::always::makes_own;

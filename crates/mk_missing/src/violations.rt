@@ -1,6 +1,6 @@
 //! Whether jobs are declared, and all that keeps them from it.
 ghost use Rattle.std.specs.Prelude.{◌↔◌, IfOk};
-ghost use Rattle.mk_stale.specs.Watching.{IsDeclared};
+ghost use Rattle.mk_missing.specs.Watching.{IsDeclared};
 ghost use Rattle.mk_missing.specs.Unlisted.{unlisted_names};
 ghost use Rattle.mk_missing.specs.Violations.{AreViolations, HasNone, ListsNoOutputs, WriteNoTrees};
 

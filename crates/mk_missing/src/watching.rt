@@ -2,7 +2,7 @@
 ghost use Rattle.std.specs.Prelude.{◌≡◌, ◌<◌, ◌↔◌, ◌⊎◌, IfSome, IsTrue};
 ghost use Rattle.mk_jobs.specs.Jobs.{node_count};
 ghost use Rattle.mk_jobs.specs.Shape.{IsWellFormed};
-ghost use Rattle.mk_stale.specs.Watching.{RunsWith};
+ghost use Rattle.mk_missing.specs.Watching.{RunsWith};
 ghost use Rattle.mk_missing.specs.Files.{WatchesFile};
 ghost use Rattle.mk_missing.specs.Finding.{WatchesName, WatchesWriter};
 ghost use Rattle.mk_missing.specs.Hearing.{AreAlways};

@@ -1,5 +1,5 @@
 -- Lemmas on answers over texts that are the same.
-use Rattle.std.proofs.Common.{◌≡◌, ◌≢◌, ◌∙◌, ℕ, Bool, true, false, List, Result, Ok, Err, ap, map, subst, sym, refl, IsTrue}
+use Rattle.std.proofs.Common.{◌≡◌, ◌≢◌, ◌∙◌, ℕ, Bool, true, false, List, Result, Ok, Err, map, subst, sym, refl, IsTrue}
 use Rattle.std.specs.Borrow.{Bor}
 use Rattle.mk_name.specs.Gives.{HaltsAmong}
 use Rattle.mk_name.specs.Names.{Name}
@@ -7,24 +7,23 @@ use Rattle.mk_name.specs.Shown.{refused_text}
 use Rattle.mk_name.specs.Reported.{Reported}
 use Rattle.mk_name.specs.declared.fault.Halt.{Halt}
 use Rattle.mk_name.specs.declared.fault.Halt.TheVariants.{Fault}
-use Rattle.mk_text.specs.Listing.{listing_of}
-use Rattle.mk_text.specs.Spelling.{root_of}
-use Rattle.mk_foot.specs.Footprints.{Footprints}
-use Rattle.mk_race.specs.Parts.{AreReadFrom, IsListedFrom}
+use Rattle.mk_read.specs.declared.input.Input.{Input}
+use Rattle.mk_race.specs.Parts.{IsListedFrom}
 use Rattle.mk_race.specs.Played.{IsPlayed}
-use Rattle.mk_race.specs.Stages.{IsPlanned, Texts}
+use Rattle.mk_race.specs.Stages.{IsPlanned, Texts, texts_with}
 use Rattle.mk_race.specs.declared.planning.Planned.{Planned}
 use Rattle.mk_race.specs.declared.replaying.Played.{Played}
 use Rattle.mk_race.specs.declared.replaying.Played.TheVariants.{Allowed, NotAllowed}
-use Rattle.mk_program.specs.Answers.{IsOrderAnswer, IsReplayAnswer, SaysVerdict, status_of, verdict_status, verdict_text}
-use Rattle.mk_files.specs.Builds.{AreFoundBelow, IsListedBelow}
+use Rattle.mk_program.specs.Answers.{IsOrderAnswer, IsReplayAnswer, SaysVerdict, base_of, status_of, texts_for, verdict_status, verdict_text}
+use Rattle.mk_files.specs.Builds.{IsListedBelow}
 use Rattle.mk_files.specs.Includes.{Pair}
 use Rattle.mk_request.specs.declared.inputs.InputFile.{InputFile}
 use Rattle.mk_request.specs.declared.inputs.InputFile.TheVariants as inputs
+use Rattle.mk_request.specs.declared.requests.BuildArgs.{BuildArgs}
 use Rattle.mk_program.specs.PlanText.{plan_text}
 use Rattle.mk_program.specs.OutcomeText.{IsOutcomeText}
 use Rattle.mk_program.specs.declared.statuses.Status.{Status}
-use Rattle.mk_program.specs.declared.statuses.Status.TheVariants.{Done, Failed, Refused}
+use Rattle.mk_program.specs.declared.statuses.Status.TheVariants.{Done, Failed, No, Refused}
 
 -- the bytes of words, and of pairs of texts
 abbrev pub words : List (Bor (List ℕ)) → List (List ℕ)
@@ -34,18 +33,23 @@ abbrev pub pairs : List (Bor (List ℕ) × Bor (List ℕ)) → List (List ℕ ×
 pairs = map (λ (pair : Bor (List ℕ) × Bor (List ℕ)). (pair.0.now, pair.1.now))
 
 -- a listing that was read below the root was read from these texts
-pub listed_from : (root same : List ℕ) (text : InputFile → List ℕ) (listing : Result (List Name) Reported) → IsListedBelow root text listing
-    → same ≡ root → (texts : Texts) → texts.root ≡ same → texts.listing ≡ text inputs.Listing → IsListedFrom texts listing
-listed_from root same text listing below is texts at listed =
-    λ r good. ap (listing_of r) listed ∙ below r (ap root_of (sym is ∙ sym at) ∙ good)
+pub listed_from : (args : BuildArgs) (includes : List Pair) (text : InputFile → List ℕ) (listing : Result (List Name) Reported)
+    → IsListedBelow args.root.now text listing → IsListedFrom (texts_for args includes text) listing
+listed_from args includes text listing below root good = below root good
 
--- texts that agree in each part
-pub texts_are : (root root' : List ℕ) (operands operands' : List (List ℕ)) (base base' makefile makefile' listing listing' : List ℕ)
-    (includes includes' : List Pair) → root ≡ root' → operands ≡ operands' → base ≡ base' → makefile ≡ makefile' → listing ≡ listing'
-    → includes ≡ includes' → (x : Texts) → (y : Texts)
-    → x ≡ record { root = root; operands = operands; base = base; makefile = makefile; includes = includes; listing = listing }
-    → y ≡ record { root = root'; operands = operands'; base = base'; makefile = makefile'; includes = includes'; listing = listing' } → x ≡ y
-texts_are root root' operands operands' base base' makefile makefile' listing listing' includes includes' r o b m l i x y is_x is_y = cc
+-- texts of the same parts are the same
+pub parts_are : (root root' : List ℕ) (operands operands' : List (List ℕ)) (base base' makefile makefile' : List ℕ) (includes includes' : List Pair) (listing : List ℕ)
+    → root' ≡ root → operands' ≡ operands → base' ≡ base → makefile' ≡ makefile → includes' ≡ includes
+    → ◌≡◌ {A = Texts} (record { root = root; operands = operands; base = base; makefile = makefile; includes = includes; listing = listing })
+    (record { root = root'; operands = operands'; base = base'; makefile = makefile'; includes = includes'; listing = listing })
+parts_are root root' operands operands' base base' makefile makefile' includes includes' listing r o b m i = cc
+
+-- the texts of a build are those of its input, with the listing
+pub texts_are : (input : Input) (args : BuildArgs) (includes : List Pair) (text : InputFile → List ℕ)
+    → input.root.now ≡ args.root.now → words input.operands.now ≡ words args.operands.items → input.base.now ≡ base_of args (text inputs.Base)
+    → input.makefile.now ≡ text inputs.Makefile → pairs input.includes.now ≡ includes
+    → texts_for args includes text ≡ texts_with input (text inputs.Listing)
+texts_are input args includes text = parts_are _ _ _ _ _ _ _ _ _ _ (text inputs.Listing)
 
 -- the report of the fault of a replay is its answer
 pub refused_is : (texts : Texts) (footprints log : List ℕ) (limit limit' : ℕ) (tie : Bool) (halt : Halt) (fault : Reported) (status : Status) (text : List ℕ)
@@ -96,11 +100,10 @@ pub verdict_is : (Is : Result Bool Reported → Type 0) (Shown : Type 0) (accept
 verdict_is Is Shown true status text verified shows ends reported = rw ends (verified, shows refl, reported)
 verdict_is Is Shown false status text verified shows ends reported = rw ends (verified, reported)
 
--- what was read below the root was read from these texts
-pub read_from : (root same : List ℕ) (text : InputFile → List ℕ) (listing : Result (List Name) Reported) (footprints : Result Footprints Reported)
-    → IsListedBelow root text listing → AreFoundBelow root text footprints → same ≡ root → (texts : Texts) → texts.root ≡ same → texts.listing ≡ text inputs.Listing
-    → AreReadFrom texts (text inputs.Footprints) listing footprints
-read_from root same text listing footprints below found is texts at listed = record {
-  listing = listed_from root same text listing below is texts at listed;
-  footprints = λ r good. found r (ap root_of (sym is ∙ sym at) ∙ good);
-}
+-- so is what is said of more, where that has what it has
+pub verdict_more : (Is Other : Result Bool Reported → Type 0) (Shown Claim : Type 0) → ((answer : Result Bool Reported) → Is answer → Other answer) → (Shown → Claim)
+    → (status : Status) (text : List ℕ) → SaysVerdict Is Shown status text → SaysVerdict Other Claim status text
+verdict_more Is Other Shown Claim more claims Done text said = (more _ said.0, claims said.1, said.2)
+verdict_more Is Other Shown Claim more claims No text said = (more _ said.0, said.1)
+verdict_more Is Other Shown Claim more claims Refused text said = (said.0, more _ said.1, said.2)
+verdict_more Is Other Shown Claim more claims Failed text said = said

@@ -1,15 +1,15 @@
 -- Lemmas on a build that was read.
-use Rattle.std.proofs.Common.{◌≡◌, ◌∙◌, ℕ, Bool, List, Result, IfErr, IfOk, ap, inl, inr, refl, subst, sym}
+use Rattle.std.proofs.Common.{◌≡◌, ◌∙◌, ℕ, Bool, List, Result, IfErr, IfOk, ap, inl, inr, subst, sym}
 use Rattle.std.proofs.lemmas.Result.{IfOk-weaker}
+use Rattle.mk_race.specs.Parts.{IsReadFrom}
 use Rattle.mk_race.specs.Stages.{Texts}
+use Rattle.mk_read.specs.declared.input.Build.{Build}
 use Rattle.mk_program.specs.Answers.{IsJobAnswer, IsNoTextOf, base_of, texts_for}
-use Rattle.mk_run.specs.Builds.{IsReadFrom}
 use Rattle.mk_program.specs.Noting.{SaysNoting}
 use Rattle.mk_program.specs.OrderText.{IsUnreported}
-use Rattle.mk_run.specs.declared.build.Build.{Build}
 use Rattle.mk_program.specs.declared.noting.Reply.{Reply}
 use Rattle.mk_program.specs.declared.statuses.Status.{Status}
-use Rattle.mk_program.proofs.Answering.{pairs, read_from, texts_are, words}
+use Rattle.mk_program.proofs.Answering.{listed_from, pairs, texts_are, words}
 use Rattle.mk_files.specs.Builds.{AreFoundBelow, IsListedBelow, other_text}
 use Rattle.mk_files.specs.Includes.{Pair}
 use Rattle.mk_files.specs.declared.failures.Failure.{Failure}
@@ -22,13 +22,14 @@ use Rattle.mk_request.specs.declared.requests.JobQuestion.{JobQuestion}
 
 -- what was read as these texts say was read from them
 pub is_read_from : (build : Build) (args : BuildArgs) (includes : List Pair) (text : InputFile → List ℕ)
-    → build.settings.now.root.now ≡ args.root.now → words build.settings.now.operands.now ≡ words args.operands.items
-    → build.base.now ≡ base_of args (text inputs.Base) → build.makefile.now ≡ text inputs.Makefile
-    → pairs build.settings.now.includes.now ≡ includes → IsListedBelow args.root.now text build.listing
+    → build.input.root.now ≡ args.root.now → words build.input.operands.now ≡ words args.operands.items
+    → build.input.base.now ≡ base_of args (text inputs.Base) → build.input.makefile.now ≡ text inputs.Makefile
+    → pairs build.input.includes.now ≡ includes → IsListedBelow args.root.now text build.listing
     → AreFoundBelow args.root.now text build.footprints → IsReadFrom build (texts_for args includes text) (text inputs.Footprints)
 is_read_from build args includes text root operands base makefile given listing found = record {
-  texts_are = sym (texts_are _ _ _ _ _ _ _ _ (text inputs.Listing) (text inputs.Listing) _ _ root operands base makefile refl given _ _ refl refl);
-  read = read_from args.root.now args.root.now text build.listing build.footprints listing found refl (texts_for args includes text) refl refl;
+  texts_are = texts_are build.input args includes text root operands base makefile given;
+  listing = listed_from args includes text build.listing listing;
+  footprints = found;
 }
 
 module _ (build : Build) (question asked : JobQuestion) (is : question ≡ asked) (strict : Bool) (other : List ℕ) where

@@ -5,9 +5,9 @@ use Rattle.std.proofs.lemmas.List.Elements.{All-cons, All-head, All-nil}
 use Rattle.std.specs.Borrow.{Bor}
 use Rattle.clap.specs.Words.{Row, Text}
 use Rattle.mk_report.specs.Reports.{IsReport}
-use Rattle.mk_report.specs.declared.answer.Answer.{Answer as Judged}
-use Rattle.mk_report.specs.declared.answer.Answer.TheVariants as judged
-use Rattle.mk_race.specs.Judged.{HoldsOfRace, IsSafe, NoScheduleShows}
+use Rattle.mk_report.specs.declared.answer.BuildAnswer.{BuildAnswer}
+use Rattle.mk_report.specs.declared.answer.BuildAnswer.TheVariants as judged
+use Rattle.mk_race.specs.Judged.{HoldsOfRace, IsSafeAnswer, NoScheduleShows}
 use Rattle.mk_race.specs.Stages.{Texts}
 use Rattle.mk_race.specs.Tasked as tasked
 use Rattle.mk_program.specs.Answers.{AskToCheck, IsAnswerTo, IsCheckAnswer, IsJobAnswer, IsTasksAnswer, SaysJudged, SaysSafe, judged_status}
@@ -37,8 +37,8 @@ noted_safe strict short texts footprints proof text note (Ok noted, is, says) = 
 noted_safe strict short texts footprints proof text note (Err reported, is, says) = absurd (let e : ◌≡◌ {A = Status} Done Refused = says.0 in cc)
 
 -- what is reported of a build or of tasks that were judged is their answer
-pub judged_is : (Is : Judged → Type 0) (Headline : Type 0) (answer : Judged) (proof : Bool) (status : Status) (text : List ℕ)
-    → Is answer → (IsSafe answer → Headline) → HoldsOfRace answer → status ≡ judged_status answer → IsReport answer proof text
+pub judged_is : (Is : BuildAnswer → Type 0) (Headline : Type 0) (answer : BuildAnswer) (proof : Bool) (status : Status) (text : List ℕ)
+    → Is answer → (IsSafeAnswer answer → Headline) → HoldsOfRace answer → status ≡ judged_status answer → IsReport answer proof text
     → SaysJudged Is Headline proof status text
 judged_is Is Headline (judged.Safe jobs chains) proof status text answered headline holds ends report =
     rw ends (record { jobs = jobs; chains = chains; answer = answered; report = report; headline = headline tt })
@@ -46,8 +46,18 @@ judged_is Is Headline (judged.Race jobs trace) proof status text answered headli
     rw ends (record { jobs = jobs; trace = trace; answer = answered; report = report; holds = holds })
 judged_is Is Headline (judged.Refused reported) proof status text answered headline holds ends report = rw ends (reported, answered, report)
 
+-- so is what is said of more, where that has what it has
+pub judged_more : (Is Other : BuildAnswer → Type 0) (Headline Claim : Type 0) → ((answer : BuildAnswer) → Is answer → Other answer) → (Headline → Claim)
+    → (proof : Bool) (status : Status) (text : List ℕ) → SaysJudged Is Headline proof status text → SaysJudged Other Claim proof status text
+judged_more Is Other Headline Claim more claims proof Done text said =
+    record { jobs = said.jobs; chains = said.chains; answer = more _ said.answer; report = said.report; headline = claims said.headline }
+judged_more Is Other Headline Claim more claims proof No text said =
+    record { jobs = said.jobs; trace = said.trace; answer = more _ said.answer; report = said.report; holds = said.holds }
+judged_more Is Other Headline Claim more claims proof Refused text said = (said.0, more _ said.1, said.2)
+judged_more Is Other Headline Claim more claims proof Failed text said = said
+
 -- a build that was judged is reported
-pub judged_ends : (answer : Judged) (status : Status) → status ≡ judged_status answer → status ≢ Failed
+pub judged_ends : (answer : BuildAnswer) (status : Status) → status ≡ judged_status answer → status ≢ Failed
 judged_ends (judged.Safe jobs chains) status ends failed = let e : ◌≡◌ {A = Status} Done Failed = sym ends ∙ failed in cc
 judged_ends (judged.Race jobs trace) status ends failed = let e : ◌≡◌ {A = Status} No Failed = sym ends ∙ failed in cc
 judged_ends (judged.Refused reported) status ends failed = let e : ◌≡◌ {A = Status} Refused Failed = sym ends ∙ failed in cc

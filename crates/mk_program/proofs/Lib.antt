@@ -1,4 +1,5 @@
 mod Answering
+mod BuildAnswers
 mod Builds
 mod Failing
 mod Fixings

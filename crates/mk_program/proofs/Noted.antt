@@ -6,14 +6,13 @@ use Rattle.mk_name.specs.Reported.{Reported}
 use Rattle.mk_name.specs.Shown.{refused_text}
 use Rattle.mk_name.specs.declared.fault.Halt.{Halt}
 use Rattle.mk_name.specs.declared.fault.Halt.TheVariants as halts
-use Rattle.mk_foot.specs.Footprints.{Footprints, IsRead}
-use Rattle.mk_race.specs.Parts.{AreReadFrom}
+use Rattle.mk_foot.specs.Footprints.{AreFootprintsRead, Footprints}
+use Rattle.mk_race.specs.Parts.{IsReadFrom}
 use Rattle.mk_race.specs.Stages.{Texts, ThenAny}
 use Rattle.mk_race.specs.Unused.{IsNotedBy, WereRead}
 use Rattle.mk_race.specs.declared.preparing.Prepared.{Prepared}
 use Rattle.mk_race.specs.declared.unused.Noted.{Noted}
-use Rattle.mk_run.specs.Builds.{IsReadFrom}
-use Rattle.mk_run.specs.declared.build.Build.{Build}
+use Rattle.mk_read.specs.declared.input.Build.{Build}
 use Rattle.mk_program.specs.Noting.{SaysNoting, note_of}
 use Rattle.mk_program.specs.declared.answers.Answer.{Answer}
 use Rattle.mk_program.specs.declared.noting.Reply.{Reply}
@@ -60,11 +59,12 @@ noting_is Says build strict noted answer result is said = with_note result _ _ _
 -- what was read of a build that was noted, with a copy of its footprints, was read from the same texts
 pub read_again : (texts : Texts) (build : Build) (lines : List ℕ) (prepared : Prepared) (copy : Option Footprints) (again : Footprints)
     → WereRead build.listing build.footprints prepared → IfOk build.footprints (λ found. copy ≡ Some found) → copy ≡ Some again
-    → AreReadFrom texts lines build.listing build.footprints → AreReadFrom texts lines (Ok prepared.listing) (Ok again)
+    → IsReadFrom build texts lines → IsReadFrom (record { input = build.input; listing = Ok prepared.listing; footprints = Ok again }) texts lines
 read_again texts build lines prepared copy again (listing, (found, is)) same some from =
     let alike : found ≡ again = same_Some _ _ (sym (subst (λ (r : Result Footprints Reported). IfOk r (λ f. copy ≡ Some f)) is same) ∙ some) in
     record {
+      texts_are = from.texts_are;
       listing = λ root rooted. from.listing root rooted ∙ listing;
-      footprints = λ root rooted. subst (λ (r : Result Footprints Reported). IsRead root lines r) (is ∙ ap (λ (f : Footprints). Ok f) alike)
+      footprints = λ root rooted. subst (λ (r : Result Footprints Reported). AreFootprintsRead root lines r) (is ∙ ap (λ (f : Footprints). Ok f) alike)
           (from.footprints root rooted);
     }

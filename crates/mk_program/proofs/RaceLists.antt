@@ -6,25 +6,12 @@ use Rattle.mk_name.specs.Gives.{HaltsAmong}
 use Rattle.mk_name.specs.Shown.{refused_text}
 use Rattle.mk_name.specs.Reported.{Reported}
 use Rattle.mk_name.specs.declared.fault.Halt.{Halt}
-use Rattle.mk_name.specs.declared.fault.Halt.TheVariants.{Fault, Memory}
-use Rattle.mk_race.specs.Listed.{IsListed, IsListedOf}
-use Rattle.mk_race.specs.Stages.{IsPrepared, Texts}
+use Rattle.mk_name.specs.declared.fault.Halt.TheVariants.{Fault}
 use Rattle.mk_race.specs.declared.listing.RaceList.{RaceList}
-use Rattle.mk_race.specs.declared.preparing.Prepared.{Prepared}
 use Rattle.mk_report.specs.RacesText.{IsRacesText}
 use Rattle.mk_program.specs.Answers.{SaysList, races_status}
 use Rattle.mk_program.specs.declared.statuses.Status.{Status}
 use Rattle.mk_program.specs.declared.statuses.Status.TheVariants.{Done, No, Failed, Refused}
-
--- all races of the jobs of a build are those of the build
-pub listed_there : (texts : Texts) (footprints : List ℕ) (prepared : Prepared) (answer : Result RaceList Reported)
-    → IsPrepared texts footprints (Ok prepared) → IsListedOf prepared.jobs answer → IsListed texts footprints answer
-listed_there texts footprints prepared answer is of = (Ok prepared, is, of)
-
-pub halts_there : (texts : Texts) (footprints : List ℕ) (prepared : Prepared) (halt : Halt)
-    → IsPrepared texts footprints (Ok prepared) → HaltsAmong halt (IsListedOf prepared.jobs) → HaltsAmong halt (IsListed texts footprints)
-halts_there texts footprints prepared Memory is of = tt
-halts_there texts footprints prepared (Fault reported) is of = (Ok prepared, is, of)
 
 -- the report of races ends as done where there is none, and else as no
 races_end : (races : List (ℕ × ℕ)) → ((races ≡ []) × (races_status races ≡ Done)) ⊎ (races_status races ≡ No)
@@ -50,6 +37,14 @@ listed_is Is Headline listed status text is shows ends reported = elim (races_en
   | inl done ↦ subst (λ (s : Status). SaysList Is Headline s text) (sym (ends ∙ done.1)) ((listed, is, sym done.1, reported), shows done.0)
   | inr some ↦ subst (λ (s : Status). SaysList Is Headline s text) (sym (ends ∙ some)) (listed, is, sym some, reported)
 ]
+
+-- so is what is said of more, where that has what it has
+pub list_more : (Is Other : Result RaceList Reported → Type 0) (Headline Claim : Type 0) → ((answer : Result RaceList Reported) → Is answer → Other answer) → (Headline → Claim)
+    → (status : Status) (text : List ℕ) → SaysList Is Headline status text → SaysList Other Claim status text
+list_more Is Other Headline Claim more claims Done text said = ((said.0.0, more _ said.0.1, said.0.2, said.0.3), claims said.1)
+list_more Is Other Headline Claim more claims No text said = (said.0, more _ said.1, said.2, said.3)
+list_more Is Other Headline Claim more claims Refused text said = (said.0, more _ said.1, said.2)
+list_more Is Other Headline Claim more claims Failed text said = said
 
 -- without a race it ends as done, and else as no
 pub races_done : (races : List (ℕ × ℕ)) → (length races == 0) ≡ true → Done ≡ races_status races

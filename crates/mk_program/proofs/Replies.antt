@@ -3,7 +3,7 @@ use Rattle.std.proofs.Common.{◌≡◌, ◌≢◌, ◌∙◌, List, Option, Res
 use Rattle.std.specs.Prelude.{IfErr, IfOk, IfSome}
 use Rattle.mk_program.specs.Answers.{IsAnswerOver, IsInputFailure, IsNoTextOver}
 use Rattle.mk_program.specs.declared.noting.Reply.{Reply}
-use Rattle.mk_files.specs.Builds.{IsReadAs}
+use Rattle.mk_files.specs.Builds.{IsJobReadAs}
 use Rattle.mk_files.specs.Files.{Files}
 use Rattle.mk_files.specs.Includes.{Pair}
 use Rattle.mk_files.specs.Inputs.{AreTexts, Hold, IsShortOr, IsUnread}
@@ -33,11 +33,11 @@ no_base jobs.Missing = tt
 -- what was read of the inputs of these jobs is what their files hold
 pub read_is : (args : JobArgs) (files : List ℕ → Option (List ℕ)) (other : Option InputPath) → other ≡ other_input args.question → (read : ReadJob)
     → ((text : InputFile → List ℕ) → IfSome other (λ (known : InputPath). known.input ≢ inputs.Base)
-    → Hold files (job_inputs args.build args.footprints other) text → IsReadAs args.build.root.now other text read)
+    → Hold files (job_inputs args.build args.footprints other) text → IsJobReadAs args.build.root.now other text read)
     → (text : InputFile → List ℕ) → Hold files (job_inputs args.build args.footprints (other_input args.question)) text
-    → IsReadAs args.build.root.now (other_input args.question) text read
+    → IsJobReadAs args.build.root.now (other_input args.question) text read
 read_is args files other is read reads text hold =
-    subst (λ (o : Option InputPath). IsReadAs args.build.root.now o text read) is
+    subst (λ (o : Option InputPath). IsJobReadAs args.build.root.now o text read) is
     (reads text (subst (λ (o : Option InputPath). IfSome o (λ (known : InputPath). known.input ≢ inputs.Base)) (sym is) (no_base args.question))
     (subst (λ (o : Option InputPath). Hold files (job_inputs args.build args.footprints o) text) (sym is) hold))
 

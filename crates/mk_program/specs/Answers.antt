@@ -12,16 +12,16 @@ use Rattle.mk_jobs.specs.Jobs.{Jobs}
 use Rattle.mk_proof.specs.Shapes.{Trace}
 use Rattle.mk_proof.specs.ProofText.{certificate_text}
 use Rattle.mk_race.specs.Fixed.{IsFixing, with_lines}
-use Rattle.mk_race.specs.Judged.{IsAnswered, NoScheduleShows}
-use Rattle.mk_race.specs.Listed.{IsListed}
+use Rattle.mk_race.specs.Judged.{IsAnswered, IsDecided, NoScheduleShows, ThenAnswer}
+use Rattle.mk_race.specs.Listed.{IsListed, IsListedOf}
 use Rattle.mk_race.specs.Missing.{BuildsAsClean, IsEmpty, IsMissingList}
 use Rattle.mk_race.specs.Played.{IsPlayed}
 use Rattle.mk_race.specs.Serialised.{IsLawfulBuild, IsSerialised}
-use Rattle.mk_race.specs.Stages.{IsPlanned, Texts}
+use Rattle.mk_race.specs.Stages.{ForAllBuilds, IsPlanned, Texts, Then}
 use Rattle.mk_race.specs.Tasked as tasked
 use Rattle.mk_race.specs.TasksFixed.{FixHolds, IsTaskFixing}
 use Rattle.mk_race.specs.TasksMissing.{IsMissingListBelow, TasksBuildAsClean}
-use Rattle.mk_race.specs.Verified.{IsVerified, ProofShows}
+use Rattle.mk_race.specs.Verified.{IsVerified, IsVerifiedOn, ProofShows}
 use Rattle.mk_race.specs.declared.fixing.Fixing.{Fixing}
 use Rattle.mk_race.specs.declared.fixing.Fixing.TheVariants.{Fixed, NotFixed}
 use Rattle.mk_race.specs.declared.listing.RaceList.{RaceList}
@@ -36,8 +36,8 @@ use Rattle.mk_report.specs.FixText.{not_fixed_text}
 use Rattle.mk_report.specs.MissingText.{missing_text}
 use Rattle.mk_report.specs.RacesText.{IsRacesText}
 use Rattle.mk_report.specs.Reports.{IsReport}
-use Rattle.mk_report.specs.declared.answer.Answer.{Answer as Judged}
-use Rattle.mk_report.specs.declared.answer.Answer.TheVariants as judged
+use Rattle.mk_report.specs.declared.answer.BuildAnswer.{BuildAnswer}
+use Rattle.mk_report.specs.declared.answer.BuildAnswer.TheVariants as judged
 use Rattle.mk_sched.specs.declared.refusal.Refusal.{Refusal}
 use Rattle.mk_sched.specs.declared.replay.Replayed.{Replayed}
 use Rattle.mk_program.specs.ChangeText.{change_text}
@@ -87,7 +87,7 @@ IsReplayAnswer texts footprints log limit tie statuses.Refused text =
 IsReplayAnswer texts footprints log limit tie statuses.Failed text = ⊥
 
 -- what was judged is safe by a certificate, and then the headline holds
-pub record IsReportedSafe (Is : Judged → Type 0) (Headline : Type 0) (proof : Bool) (text : List ℕ) : Type 0 where
+pub record IsReportedSafe (Is : BuildAnswer → Type 0) (Headline : Type 0) (proof : Bool) (text : List ℕ) : Type 0 where
   pub jobs : Jobs
   pub chains : List (List ℕ)
   pub answer : Is (judged.Safe jobs chains)
@@ -95,7 +95,7 @@ pub record IsReportedSafe (Is : Judged → Type 0) (Headline : Type 0) (proof : 
   pub headline : Headline
 
 -- two recipes of it race, as its trace shows
-pub record IsReportedRace (Is : Judged → Type 0) (proof : Bool) (text : List ℕ) : Type 0 where
+pub record IsReportedRace (Is : BuildAnswer → Type 0) (proof : Bool) (text : List ℕ) : Type 0 where
   pub jobs : Jobs
   pub trace : Trace
   pub answer : Is (judged.Race jobs trace)
@@ -103,7 +103,7 @@ pub record IsReportedRace (Is : Judged → Type 0) (proof : Bool) (text : List �
   pub holds : TraceHolds jobs trace
 
 -- that it is safe, or that two recipes race, each by the report or by its proof; or the report of the fault that refuses the texts
-abbrev pub SaysJudged : (Judged → Type 0) → Type 0 → Bool → Status → List ℕ → Type 0
+abbrev pub SaysJudged : (BuildAnswer → Type 0) → Type 0 → Bool → Status → List ℕ → Type 0
 SaysJudged Is Headline proof statuses.Done text = IsReportedSafe Is Headline proof text
 SaysJudged Is Headline proof statuses.No text = IsReportedRace Is proof text
 SaysJudged Is Headline proof statuses.Refused text = (reported : Reported) × Is (judged.Refused reported) × (text ≡ refused_text reported)
@@ -117,10 +117,18 @@ IsCheckAnswer short texts footprints proof status text =
 -- that of tasks below a root: where they are safe, each of them starts, and no schedule of them shows in their files
 abbrev pub IsTaskCheckAnswer : Bool → List ℕ → List ℕ → Bool → Status → List ℕ → Type 0
 IsTaskCheckAnswer short root tasks proof status text =
-    SaysJudged (tasked.IsAnswerOfTasks short (tasked.tasked root tasks)) (tasked.NoScheduleOfTasksShows root tasks) proof status text
+    SaysJudged (ThenAnswer (tasked.tasked root tasks) (IsDecided short)) (tasked.NoScheduleOfTasksShows root tasks) proof status text
+
+-- no schedule shows, of a build of these jobs or of tasks that mean them
+abbrev pub NoScheduleOfJobsShows : Jobs → Type 0
+NoScheduleOfJobsShows jobs = ForAllBuilds jobs NoScheduleShows × tasked.ForAllTasks jobs tasked.NoScheduleOfTasksShows
+
+-- that of jobs, of a build or of tasks
+abbrev pub IsJudgedAnswer : Bool → Jobs → Bool → Status → List ℕ → Type 0
+IsJudgedAnswer short jobs = SaysJudged (IsDecided short jobs) (NoScheduleOfJobsShows jobs)
 
 -- how the program ends after a build or tasks were judged
-abbrev pub judged_status : Judged → Status
+abbrev pub judged_status : BuildAnswer → Status
 judged_status (judged.Safe jobs chains) = statuses.Done
 judged_status (judged.Race jobs trace) = statuses.No
 judged_status (judged.Refused reported) = statuses.Refused
@@ -144,7 +152,17 @@ IsVerifyAnswer short texts footprints proof status text =
 -- that of a proof for tasks below a root
 abbrev pub IsTaskVerifyAnswer : Bool → List ℕ → List ℕ → List ℕ → Status → List ℕ → Type 0
 IsTaskVerifyAnswer short root tasks proof status text =
-    SaysVerdict (tasked.IsVerifiedOf short root tasks proof) (tasked.ProofOfTasksShows root tasks proof) status text
+    SaysVerdict (Then (tasked.tasked root tasks) (λ jobs. IsVerifiedOn short jobs proof)) (tasked.ProofOfTasksShows root tasks proof) status text
+
+-- what a proof shows is so of each build of these jobs, and of all tasks that mean them
+abbrev pub ProofOfJobsShows : Jobs → List ℕ → Type 0
+ProofOfJobsShows jobs proof =
+    ForAllBuilds jobs (λ texts footprints. ProofShows texts footprints proof)
+    × tasked.ForAllTasks jobs (λ root tasks. tasked.ProofOfTasksShows root tasks proof)
+
+-- that of a proof for jobs, of a build or of tasks
+abbrev pub IsVerdictAnswer : Bool → Jobs → List ℕ → Status → List ℕ → Type 0
+IsVerdictAnswer short jobs proof = SaysVerdict (IsVerifiedOn short jobs proof) (ProofOfJobsShows jobs proof)
 
 -- how the program ends after a proof was judged
 abbrev pub verdict_status : Bool → Status
@@ -198,7 +216,12 @@ IsListAnswer texts footprints status text = SaysList (IsListed texts footprints)
 
 -- that of tasks below a root: without a race each of them starts, and no schedule of them shows in their files
 abbrev pub IsTaskListAnswer : List ℕ → List ℕ → Status → List ℕ → Type 0
-IsTaskListAnswer root tasks status text = SaysList (tasked.AreTasksListed root tasks) (tasked.NoScheduleOfTasksShows root tasks) status text
+IsTaskListAnswer root tasks status text =
+    SaysList (Then (tasked.tasked root tasks) IsListedOf) (tasked.NoScheduleOfTasksShows root tasks) status text
+
+-- that of jobs, of a build or of tasks
+abbrev pub IsRacesAnswer : Jobs → Status → List ℕ → Type 0
+IsRacesAnswer jobs = SaysList (IsListedOf jobs) (NoScheduleOfJobsShows jobs)
 
 -- how the program ends after all races and violations were listed: with 0 where there is none, and no change
 abbrev pub MissingEnds : MissingList → Status → Type 0
@@ -286,6 +309,14 @@ texts_for build includes text = record {
   includes = includes;
   listing = text inputs.Listing;
 }
+
+-- a question about tasks that their jobs alone answer
+abbrev pub IsOfJobs : TaskQuestion → Type 0
+IsOfJobs (questions.Check print_proof short) = Unit {0}
+IsOfJobs (questions.Verify proof short) = Unit {0}
+IsOfJobs questions.List = Unit {0}
+IsOfJobs (questions.Fix print_proof) = ⊥
+IsOfJobs (questions.Missing listing) = ⊥
 
 -- the answer to a question about tasks below a root, over the texts of its inputs
 abbrev pub IsTasksAnswer : TaskQuestion → List ℕ → (InputFile → List ℕ) → Status → List ℕ → Type 0

@@ -1,5 +1,5 @@
 -- What the program says of a build whose footprints may lie unused: an answer, and a note of them.
-use Rattle.std.specs.Prelude.{◌≡◌, ◌==◌, ℕ, Bool, false, List, [], ◌++◌, Result, Ok, Err, Option, None, Some, codes, if◌then◌else◌}
+use Rattle.std.specs.Prelude.{◌≡◌, ◌==◌, ℕ, Bool, List, [], ◌++◌, Result, Ok, Err, Option, None, Some, codes, if◌then◌else◌}
 use Rattle.std.specs.Fmt.{decimal}
 use Rattle.mk_name.specs.Reported.{Reported}
 use Rattle.mk_name.specs.Shown.{line, refused_text, shown}

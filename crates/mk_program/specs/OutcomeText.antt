@@ -6,7 +6,7 @@ use Rattle.hex.specs.Hex.{encode_lower}
 use Rattle.mk_name.specs.Names.{Name}
 use Rattle.mk_name.specs.Shown.{line, shown}
 use Rattle.mk_sched.specs.Shown.{number_of, word_of}
-use Rattle.mk_sched.specs.Stored.{Files, IsInOrder}
+use Rattle.mk_sched.specs.Stored.{IsInOrder, StoredFiles}
 use Rattle.mk_sched.specs.Stores.{Bytes, File}
 use Rattle.mk_sched.specs.declared.refusal.Refusal.{Refusal}
 use Rattle.mk_sched.specs.declared.replay.Replayed.{Replayed}
@@ -24,7 +24,7 @@ file_line named =
     line (codes "file " ++ shown named.0 ++ codes " " ++ decimal named.1.time ++ codes " " ++ hexadecimal named.1.bytes)
 
 -- the lines of files, in their order
-abbrev pub file_lines : Files → List ℕ
+abbrev pub file_lines : StoredFiles → List ℕ
 file_lines files = flat_map file_line files
 
 -- whether every node has passed

@@ -20,7 +20,6 @@ use mk_files::includes::{pairs_of, read_includes};
 use mk_files::openers::Opener;
 use mk_name::fault::{Fault, Halt};
 use mk_name::report::refused_report;
-use mk_race::input::Settings;
 use mk_request::inputs::InputFile;
 use mk_request::requests::{BuildArgs, Request, includes_path};
 use std::alloc::{AllocError, Global};
@@ -100,24 +99,6 @@ fn answer_with<P: Opener>(
         Request::Order(build) => order_reply(alloc, opener, build, includes),
         Request::Jobs(args) => job_reply(alloc, opener, args, includes),
         Request::Tasks(args) => tasks_reply(alloc, opener, args),
-    }
-}
-
-/// What the command line says of a build: its root and operands as they were given, and the texts for its include lines.
-pub(crate) fn settings_of<'a>(
-    build: &BuildArgs<'a>,
-    operands: &'a [&'a [u8]],
-    includes: &'a [(&'a [u8], &'a [u8])],
-) -> Settings<'a>
-    ensures root { result.root.now ≡ build.now.root.now }
-    ensures operands { result.operands.now ≡ operands.entry.now }
-    ensures includes { result.includes.now ≡ includes.entry.now }
-{
-    Settings {
-        root: build.root.as_bytes(),
-        operands,
-        includes,
-        proof: false,
     }
 }
 

@@ -5,21 +5,21 @@ ghost use Rattle.mk_program.specs.ChangeText as spec;
 
 use mk_jobs::jobs::Jobs;
 use mk_name::report::push_shown;
-use mk_race::again::Change;
+use mk_race::again::BuildChange;
 use std::alloc::AllocError;
 
 /// Puts the line of a change at the end, if there is one. The only error is out of memory.
 pub(crate) fn push_change(
     out: &mut Vec<u8>,
     jobs: &Jobs,
-    change: Option<Change>,
+    change: Option<BuildChange>,
 ) -> Result<(), AllocError>
     ensures { OnOk result (out.new.items ≡ out.old.items ++ spec.change_text jobs.now change) }
 {
     match change {
         None => Ok(()),
-        Some(Change::Node(n)) => push_node(out, jobs, n),
-        Some(Change::Refused) => out.extend_from_slice(b"plan : refused\n"),
+        Some(BuildChange::Node(n)) => push_node(out, jobs, n),
+        Some(BuildChange::Refused) => out.extend_from_slice(b"plan : refused\n"),
     }
 }
 

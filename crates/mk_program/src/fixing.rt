@@ -3,22 +3,23 @@ ghost use Rattle.std.specs.Prelude.{◌≢◌, IfOk, List, ℕ};
 ghost use Rattle.mk_decide.specs.Decisions.{AreSafe};
 ghost use Rattle.mk_name.specs.Gives.{Answers};
 ghost use Rattle.mk_race.specs.Fixed.{HoldsOfFixed, HoldsOfJobs, IsFixing};
+ghost use Rattle.mk_race.specs.Parts.{IsReadFrom};
 ghost use Rattle.mk_race.specs.Stages.{Texts};
 ghost use Rattle.mk_program.specs.Answers as spec;
 ghost use Rattle.mk_program.specs.Noting.{SaysNoting};
-ghost use Rattle.mk_run.specs.Builds.{IsReadFrom};
 
 use crate::answers::{Answer, refused};
-use crate::noting::{Reply, noted_of, refused_reply, with_note};
+use crate::noting::{Reply, refused_reply, with_note};
 use crate::statuses::Status;
 use mk_decide::decision::certify;
 use mk_jobs::jobs::Jobs;
 use mk_name::fault::Halt;
 use mk_proof::writing::write_certificate;
-use mk_race::fixing::{Fixing, copied, fix_prepared};
-use mk_race::unused::Noted;
+use mk_race::fixing::{Fixing, copied, fix_build};
+use mk_race::preparing::Prepared;
+use mk_race::unused::{Noted, note_build};
+use mk_read::input::Build;
 use mk_report::not_fixed::not_fixed_report;
-use mk_run::Build;
 use std::alloc::{AllocError, Global};
 
 /// The lines that fix a build that was read, or the proof of the build with them, or the edges that no lines give it; or the report of its
@@ -35,14 +36,20 @@ pub(crate) fn fix_reply(
         reply.answer.status reply.answer.text.items reply.note.items) }
 {
     let again = copied(alloc, &build.footprints)?;
-    let (settings, base, makefile) = (build.settings, build.base, build.makefile);
-    match noted_of(alloc, build, strict) {
+    let input = build.input;
+    match note_build(alloc, build, strict) {
         Ok(noted) => {
             let Some(footprints) = again else {
                 unreachable!();
             };
             let Noted { prepared, unused } = noted;
-            let fixing = fix_prepared(alloc, settings, base, makefile, prepared, footprints);
+            let Prepared { listing, jobs, .. } = prepared;
+            let build = Build {
+                input,
+                listing: Ok(listing),
+                footprints: Ok(footprints),
+            };
+            let fixing = fix_build(alloc, build, jobs);
             let answer = fix_answer(alloc, fixing, print_proof)?;
             with_note(alloc, answer, &unused)
         }

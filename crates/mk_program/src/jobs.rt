@@ -1,14 +1,14 @@
 //! Questions about the jobs of a build: what they ask of is read once, by one function, and then each is answered of that.
 ghost use Rattle.std.specs.Prelude.{◌≡◌, ◌≢◌, IfErr, IfOk, List, OnOk, map, ℕ};
+ghost use Rattle.mk_race.specs.Parts.{IsReadFrom};
 ghost use Rattle.mk_race.specs.Stages.{Texts};
 ghost use Rattle.mk_request.specs.Requests.{inputs_of, other_input as other_of};
-ghost use Rattle.mk_files.specs.Builds.{IsReadAs, other_text};
+ghost use Rattle.mk_files.specs.Builds.{IsJobReadAs, other_text};
 ghost use Rattle.mk_files.specs.Inputs.{Hold, InputsMayBeRead};
 ghost use Rattle.mk_program.specs.Answers as spec;
-ghost use Rattle.mk_run.specs.Builds.{IsReadFrom};
 ghost use Rattle.mk_program.specs.OrderText.{IsUnreported};
 
-use crate::answers::{base_of, bytes_of, settings_of};
+use crate::answers::{base_of, bytes_of};
 use crate::checking::Checking;
 use crate::fixing::fix_reply;
 use crate::listing::AllRaces;
@@ -22,9 +22,9 @@ use mk_files::builds::{ReadJob, read_build};
 use mk_files::failures::Failure;
 use mk_files::openers::Opener;
 use mk_read::builds::{ReadBuild, ReadPlan};
+use mk_read::input::{Build, Input};
 use mk_request::inputs::InputFile;
 use mk_request::requests::{JobArgs, JobQuestion, Request, other_input};
-use mk_run::Build;
 use std::alloc::Global;
 
 /// Reads a build and the further input of what is asked about its jobs, and gives the answer and its note. `Failure::Read` names the
@@ -50,24 +50,23 @@ pub(crate) fn job_reply<P: Opener>(
 }
 
 /// The answer about the jobs of the build that was read, and its note. The errors are `Failure::NotText` and out of memory.
-fn reply_over(
+fn reply_over<'a>(
     alloc: Global,
-    args: &JobArgs<'_>,
-    includes: &[(&[u8], &[u8])],
+    args: &JobArgs<'a>,
+    includes: &'a [(&'a [u8], &'a [u8])],
     read: ReadJob,
 ) -> Result<Reply, Failure>
     ensures status { IfOk result (λ reply. reply.answer.status ≢ Status.Failed) }
     ensures answer { IfOk result (λ reply. (text : InputFile → List ℕ)
-        → IsReadAs args.now.build.root.now (other_of args.now.question) text read
+        → IsJobReadAs args.now.build.root.now (other_of args.now.question) text read
         → spec.IsAnswerOver (Request.Jobs args.now) (map (λ pair. (pair.0.now, pair.1.now)) includes.now) text
         reply.answer.status reply.answer.text.items reply.note.items) }
     ensures failure { IfErr result (IsUnreported ((text : InputFile → List ℕ)
-        → IsReadAs args.now.build.root.now (other_of args.now.question) text read
+        → IsJobReadAs args.now.build.root.now (other_of args.now.question) text read
         → spec.IsNoTextOver (Request.Jobs args.now) (map (λ pair. (pair.0.now, pair.1.now)) includes.now) text)) }
 {
     let build = &args.build;
     let operands = bytes_of(alloc, build.operands.as_slice())?;
-    let settings = settings_of(build, operands.as_slice(), includes);
     let ReadJob {
         build: found,
         other,
@@ -78,10 +77,15 @@ fn reply_over(
         makefile,
         listing,
     } = plan;
-    let asked = Build {
-        settings: &settings,
+    let input = Input {
         base: base_of(build, base.as_slice()),
         makefile: makefile.as_slice(),
+        root: build.root.as_bytes(),
+        includes,
+        operands: operands.as_slice(),
+    };
+    let asked = Build {
+        input,
         listing,
         footprints,
     };

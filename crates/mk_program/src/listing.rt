@@ -1,6 +1,5 @@
 //! The answers to `race list`.
-ghost use Rattle.std.specs.Prelude.{◌≡◌, ◌≢◌, IfOk, List, None, Ok, ℕ};
-ghost use Rattle.mk_race.specs.Stages.{IsPrepared, Texts};
+ghost use Rattle.std.specs.Prelude.{◌≡◌, ◌≢◌, IfOk, List, None, ℕ};
 ghost use Rattle.mk_report.specs.RacesText.{IsRacesText};
 ghost use Rattle.mk_program.specs.Answers as spec;
 ghost use Rattle.mk_program.specs.FaultText.{refusal_in};
@@ -9,7 +8,8 @@ use crate::answers::{Answer, refused};
 use crate::noting::Question;
 use crate::statuses::Status;
 use mk_files::failures::Failure;
-use mk_race::listing::{RaceList, list_prepared};
+use mk_jobs::jobs::Jobs;
+use mk_race::listing::{RaceList, list_races};
 use mk_race::preparing::Prepared;
 use mk_report::races::races_report;
 use std::alloc::{AllocError, Global};
@@ -24,25 +24,23 @@ impl Question for AllRaces {
     ghost has_no_text = { λ _ _ _ _. ⊥ };
 
     fn answer(&self, alloc: Global, prepared: Prepared, _other: &[u8]) -> Result<Answer, Failure> {
-        Ok(list_over(alloc, prepared)?)
+        Ok(list_over(alloc, prepared.jobs)?)
     }
 }
 
-/// The report of all races of a build of these jobs, or of their fault. The only error is out of memory.
-fn list_over(alloc: Global, prepared: Prepared) -> Result<Answer, AllocError>
+/// The report of all races of these jobs, of a build or of tasks, or of their fault. The only error is out of memory.
+pub(crate) fn list_over(alloc: Global, jobs: Jobs) -> Result<Answer, AllocError>
     ensures status { IfOk result (λ answer. answer.status ≢ Status.Failed) }
-    ensures answer { IfOk result (λ answer. (texts : Texts) (footprints : List ℕ)
-        → IsPrepared texts footprints (Ok prepared)
-        → spec.IsListAnswer texts footprints answer.status answer.text.items) }
+    ensures answer { IfOk result (λ answer. spec.IsRacesAnswer jobs answer.status answer.text.items) }
 {
-    match list_prepared(alloc, prepared) {
+    match list_races(alloc, jobs) {
         Ok(listed) => races_answer(alloc, &listed),
         Err(halt) => refused(alloc, halt),
     }
 }
 
-/// The races of a build or of tasks, reported. The only error is out of memory.
-pub(crate) fn races_answer(alloc: Global, listed: &RaceList) -> Result<Answer, AllocError>
+/// The races of jobs, reported. The only error is out of memory.
+fn races_answer(alloc: Global, listed: &RaceList) -> Result<Answer, AllocError>
     ensures { IfOk result (λ answer. (answer.status ≡ spec.races_status listed.now.found.races.items)
         × IsRacesText listed.now.jobs listed.now.found.pairs listed.now.found.races.items answer.text.items) }
 {

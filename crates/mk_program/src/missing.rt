@@ -2,24 +2,24 @@
 ghost use Rattle.std.specs.Prelude.{◌≡◌, ◌≢◌, ◌↔◌, IfOk, IsTrue, List, None, ℕ};
 ghost use Rattle.mk_name.specs.Gives.{Answers};
 ghost use Rattle.mk_race.specs.Missing.{BuildsAsClean, IsEmpty, IsMissingList};
+ghost use Rattle.mk_race.specs.Parts.{IsReadFrom};
 ghost use Rattle.mk_race.specs.Stages.{Texts};
 ghost use Rattle.mk_missing.specs.Violations.{HasNone};
 ghost use Rattle.mk_program.specs.Answers as spec;
 ghost use Rattle.mk_program.specs.FaultText.{refusal_in};
 ghost use Rattle.mk_program.specs.Noting.{SaysNoting};
-ghost use Rattle.mk_run.specs.Builds.{IsReadFrom};
 
 use crate::answers::{Answer, refused};
 use crate::change_lines::push_change;
-use crate::noting::{Reply, noted_of, refused_reply, with_note};
+use crate::noting::{Reply, refused_reply, with_note};
 use crate::statuses::Status;
 use mk_missing::violations::Violations;
 use mk_name::fault::Halt;
-use mk_race::again::Change;
-use mk_race::missing::{MissingList, missing_prepared};
-use mk_race::unused::Noted;
+use mk_race::again::BuildChange;
+use mk_race::missing::{MissingList, list_missing};
+use mk_race::unused::{Noted, note_build};
+use mk_read::input::Build;
 use mk_report::missing::missing_report;
-use mk_run::Build;
 use std::alloc::{AllocError, Global};
 
 /// All races and violations of a build that was read, and the change of a second build; or the report of its first fault; and the
@@ -34,11 +34,11 @@ pub(crate) fn missing_reply(
         → SaysNoting strict texts lines (spec.IsMissingAnswer texts lines)
         reply.answer.status reply.answer.text.items reply.note.items) }
 {
-    let (settings, base, makefile) = (build.settings, build.base, build.makefile);
-    match noted_of(alloc, build, strict) {
+    let input = build.input;
+    match note_build(alloc, build, strict) {
         Ok(noted) => {
             let Noted { prepared, unused } = noted;
-            let found = missing_prepared(alloc, settings, base, makefile, prepared);
+            let found = list_missing(alloc, &input, prepared);
             let answer = missing_answer(alloc, found)?;
             with_note(alloc, answer, &unused)
         }
@@ -109,7 +109,7 @@ fn has_none(found: &Violations) -> bool
 }
 
 /// Whether there is no change.
-fn has_no_change(change: Option<Change>) -> bool
+fn has_no_change(change: Option<BuildChange>) -> bool
     ensures { IsTrue result ↔ (change ≡ None) }
 {
     match change {

@@ -1,12 +1,10 @@
 //! Questions about the jobs of a build whose footprints may lie unused, and the note of that.
 ghost use Rattle.std.specs.Prelude.{◌≡◌, ◌≢◌, ◌++◌, [], IfErr, IfOk, List, Ok, OnOk, ℕ};
-ghost use Rattle.mk_name.specs.Gives.{Answers};
 ghost use Rattle.mk_name.specs.Shown.{refused_text};
 ghost use Rattle.mk_name.specs.Reported.{Reported};
 ghost use Rattle.mk_name.specs.declared.fault.Halt.TheVariants as halts;
+ghost use Rattle.mk_race.specs.Parts.{IsReadFrom};
 ghost use Rattle.mk_race.specs.Stages.{AreListed, IsPrepared, Texts};
-ghost use Rattle.mk_race.specs.Unused.{IsNotedBy, WereRead};
-ghost use Rattle.mk_run.specs.Builds.{IsReadFrom};
 ghost use Rattle.mk_program.specs.Noting as spec;
 ghost use Rattle.mk_program.specs.OrderText.{IsUnreported};
 ghost use Rattle.mk_program.specs.declared.statuses.Status.{Status as Ending};
@@ -17,8 +15,8 @@ use mk_files::failures::Failure;
 use mk_name::fault::Halt;
 use mk_name::report::push_shown;
 use mk_race::preparing::Prepared;
-use mk_race::unused::{Noted, Unused, note_parts};
-use mk_run::Build;
+use mk_race::unused::{Noted, Unused, note_build};
+use mk_read::input::Build;
 use std::alloc::{AllocError, Global};
 
 /// What the program says: an answer, and the note that is written on the standard error then, or nothing.
@@ -64,24 +62,10 @@ pub(crate) fn noted_reply<Q: Question>(
     ensures failure { IfErr result (IsUnreported ((texts : Texts) (lines : List ℕ) → IsReadFrom build.entry texts lines
         → Q.has_no_text question.now texts lines other.now)) }
 {
-    match noted_of(alloc, build, strict) {
+    match note_build(alloc, build, strict) {
         Ok(noted) => reply_on(alloc, noted, other, question),
         Err(halt) => Ok(refused_reply(alloc, halt)?),
     }
-}
-
-/// The jobs of a build that was read, with its footprints that lie unused; or its first fault.
-pub(crate) fn noted_of(alloc: Global, build: Build<'_>, strict: bool) -> Result<Noted, Halt>
-    ensures answer { (texts : Texts) (lines : List ℕ) → IsReadFrom build.entry texts lines
-        → Answers result (IsNotedBy strict texts lines) }
-    ensures prepared { IfOk result (λ noted. (texts : Texts) (lines : List ℕ) → IsReadFrom build.entry texts lines
-        → IsPrepared texts lines (Ok noted.prepared)) }
-    ensures listed { IfOk result (λ noted. AreListed noted.prepared) }
-    ensures read { IfOk result (λ noted. WereRead build.entry.listing build.entry.footprints noted.prepared) }
-{
-    let (settings, base, makefile) = (build.settings, build.base, build.makefile);
-    let (listing, footprints) = (build.listing, build.footprints);
-    note_parts(alloc, settings, base, makefile, listing, footprints, strict)
 }
 
 /// The answer to a question about a build of these jobs, and the note of the build. The errors are `Failure::NotText` and out of

@@ -7,16 +7,16 @@ ghost use Rattle.mk_program.specs.Answers as spec;
 ghost use Rattle.mk_program.specs.Answers.{texts_for};
 ghost use Rattle.mk_program.specs.PlanText.{plan_text as text_of_plan};
 
-use crate::answers::{Answer, base_of, bytes_of, refused, settings_of};
+use crate::answers::{Answer, base_of, bytes_of, refused};
 use crate::noting::{Reply, without_note};
 use crate::plan_lines::plan_text;
 use crate::statuses::Status;
 use mk_files::builds::read_plan;
 use mk_files::failures::Failure;
 use mk_files::openers::Opener;
-use mk_race::parts::plan_parts;
-use mk_race::planning::Planned;
+use mk_race::planning::{Planned, plan_of};
 use mk_read::builds::ReadPlan;
+use mk_read::input::Input;
 use mk_request::inputs::InputFile;
 use mk_request::requests::BuildArgs;
 use std::alloc::{AllocError, Global};
@@ -44,10 +44,10 @@ pub(crate) fn order_reply<P: Opener>(
 }
 
 /// The serial order of the build that was read, or the report of its first fault. The only error is out of memory.
-fn order_over(
+fn order_over<'a>(
     alloc: Global,
-    build: &BuildArgs<'_>,
-    includes: &[(&[u8], &[u8])],
+    build: &BuildArgs<'a>,
+    includes: &'a [(&'a [u8], &'a [u8])],
     read: ReadPlan,
 ) -> Result<Answer, AllocError>
     ensures status { IfOk result (λ answer. answer.status ≢ Status.Failed) }
@@ -57,14 +57,19 @@ fn order_over(
         answer.status answer.text.items) }
 {
     let operands = bytes_of(alloc, build.operands.as_slice())?;
-    let settings = settings_of(build, operands.as_slice(), includes);
     let ReadPlan {
         base,
         makefile,
         listing,
     } = read;
-    let base = base_of(build, base.as_slice());
-    match plan_parts(alloc, &settings, base, makefile.as_slice(), listing) {
+    let input = Input {
+        root: build.root.as_bytes(),
+        operands: operands.as_slice(),
+        base: base_of(build, base.as_slice()),
+        makefile: makefile.as_slice(),
+        includes,
+    };
+    match plan_of(alloc, &input, listing) {
         Ok(planned) => plan_answer(alloc, planned),
         Err(halt) => refused(alloc, halt),
     }

@@ -11,7 +11,7 @@ use crate::outcome_lines::outcome_text;
 use crate::statuses::Status;
 use mk_files::failures::Failure;
 use mk_race::preparing::Prepared;
-use mk_race::replaying::{Played, replay_prepared};
+use mk_race::replaying::{Played, replay_log};
 use mk_request::requests::LogArgs;
 use std::alloc::{AllocError, Global};
 
@@ -44,7 +44,7 @@ fn played_of(
         → IsPrepared texts footprints (Ok prepared.now) → spec.IsReplayAnswer texts
         footprints log.now limit tie answer.status answer.text.items) }
 {
-    match replay_prepared(alloc, prepared, log, u32::from(limit), tie) {
+    match replay_log(alloc, prepared, log, u32::from(limit), tie) {
         Ok(played) => outcome_answer(alloc, &played),
         Err(halt) => refused(alloc, halt),
     }

@@ -11,7 +11,7 @@ use crate::order_lines::order_text;
 use crate::statuses::Status;
 use mk_files::failures::Failure;
 use mk_race::preparing::Prepared;
-use mk_race::serialising::{Ordered, Serialised, serialise_prepared};
+use mk_race::serialising::{Ordered, Serialised, serialise_log};
 use mk_request::requests::LogArgs;
 use std::alloc::Global;
 
@@ -48,7 +48,7 @@ fn serialised_of(
     ensures failure { IfErr result (IsUnreported ((texts : Texts) (footprints : List ℕ)
         → IsPrepared texts footprints (Ok prepared) → spec.HasNoText texts footprints log.now limit tie)) }
 {
-    match serialise_prepared(alloc, prepared, log, u32::from(limit), tie) {
+    match serialise_log(alloc, prepared, log, u32::from(limit), tie) {
         Ok(given) => reported(alloc, &given),
         Err(halt) => Ok(refused(alloc, halt)?),
     }

@@ -1,22 +1,24 @@
 //! The answers about tasks.
-ghost use Rattle.std.specs.Prelude.{◌≡◌, ◌≢◌, [], IfErr, IfOk, List, OnOk, ℕ};
+ghost use Rattle.std.specs.Prelude.{◌≡◌, ◌≢◌, [], IfErr, IfOk, List, Ok, OnOk, ℕ};
+ghost use Rattle.mk_race.specs.Tasked.{tasked};
 ghost use Rattle.mk_race.specs.TasksFixed.{AreSafeIfFixed, HoldsOfFixedTasks};
 ghost use Rattle.mk_request.specs.Requests.{inputs_of};
 ghost use Rattle.mk_program.specs.Answers as spec;
 ghost use Rattle.mk_files.specs.Inputs.{AreTexts, Hold, InputsMayBeRead, IsShortOr, IsUnread};
 
 use crate::answers::{Answer, refused};
-use crate::checking::judged_answer;
+use crate::checking::judged_of;
 use crate::fixing::fixed_text;
-use crate::listing::races_answer;
+use crate::listing::list_over;
 use crate::missing::listed_answer;
 use crate::noting::{Reply, without_note};
 use crate::statuses::Status;
-use crate::verifying::verdict_answer;
+use crate::verifying::verdict_of;
 use mk_files::failures::Failure;
 use mk_files::inputs::{InputText, read_inputs, text_of};
 use mk_files::openers::Opener;
-use mk_race::tasked::{judge_tasks, list_tasks, verify_tasks};
+use mk_jobs::jobs::Jobs;
+use mk_race::tasked::prepare_tasks;
 use mk_race::tasks_fixing::{TaskFixing, fix_tasks};
 use mk_race::tasks_missing::list_missing_tasks;
 use mk_request::inputs::InputFile;
@@ -57,64 +59,55 @@ fn tasks_answer(
     let root = args.root.as_bytes();
     let tasks = text_of(texts, InputFile::Tasks);
     match args.question {
-        TaskQuestion::Check { print_proof, short } => {
-            check_answer(alloc, root, tasks, print_proof, short)
-        }
-        TaskQuestion::Verify { short, .. } => {
-            verify_answer(alloc, root, tasks, text_of(texts, InputFile::Proof), short)
-        }
-        TaskQuestion::List => list_answer(alloc, root, tasks),
         TaskQuestion::Fix { print_proof } => fix_answer(alloc, root, tasks, print_proof),
         TaskQuestion::Missing { .. } => {
             let listing = text_of(texts, InputFile::Listing);
             missing_answer(alloc, root, listing, tasks)
         }
+        TaskQuestion::Check { .. } | TaskQuestion::Verify { .. } | TaskQuestion::List => {
+            jobs_answer(alloc, args, texts)
+        }
     }
 }
 
-/// The report of tasks, or their proof, or the report of their first fault. The only error is out of memory.
-fn check_answer(
+/// The answer to a question about the jobs of tasks, or the report of their first fault. The only error is out of memory.
+fn jobs_answer(
     alloc: Global,
-    root: &[u8],
-    tasks: &[u8],
-    proof: bool,
-    short: bool,
+    args: &TaskArgs<'_>,
+    texts: &[InputText],
 ) -> Result<Answer, AllocError>
+    requires { spec.IsOfJobs args.now.question }
     ensures status { IfOk result (λ answer. answer.status ≢ Status.Failed) }
-    ensures answer { IfOk result (λ answer.
-        spec.IsTaskCheckAnswer short root.now tasks.now proof answer.status answer.text.items) }
+    ensures answer { IfOk result (λ answer. (text : InputFile → List ℕ) → AreTexts texts.now text
+        → spec.IsTasksAnswer args.now.question args.now.root.now text answer.status answer.text.items) }
 {
-    let judged = judge_tasks(alloc, root, tasks, short)?;
-    judged_answer(alloc, judged, proof)
-}
-
-/// Whether a proof is accepted for tasks, or the report of the first fault of both. The only error is out of memory.
-fn verify_answer(
-    alloc: Global,
-    root: &[u8],
-    tasks: &[u8],
-    proof: &[u8],
-    short: bool,
-) -> Result<Answer, AllocError>
-    ensures status { IfOk result (λ answer. answer.status ≢ Status.Failed) }
-    ensures answer { IfOk result (λ answer.
-        spec.IsTaskVerifyAnswer short root.now tasks.now proof.now answer.status answer.text.items) }
-{
-    match verify_tasks(alloc, root, tasks, proof, short) {
-        Ok(accepted) => verdict_answer(alloc, accepted),
+    let root = args.root.as_bytes();
+    match prepare_tasks(alloc, root, text_of(texts, InputFile::Tasks)) {
+        Ok(jobs) => answer_on(alloc, jobs, args, texts),
         Err(halt) => refused(alloc, halt),
     }
 }
 
-/// The report of all races of tasks, or of their first fault. The only error is out of memory.
-fn list_answer(alloc: Global, root: &[u8], tasks: &[u8]) -> Result<Answer, AllocError>
+/// The answer to a question about tasks that mean these jobs. The only error is out of memory.
+fn answer_on(
+    alloc: Global,
+    jobs: Jobs,
+    args: &TaskArgs<'_>,
+    texts: &[InputText],
+) -> Result<Answer, AllocError>
+    requires { spec.IsOfJobs args.now.question }
     ensures status { IfOk result (λ answer. answer.status ≢ Status.Failed) }
-    ensures answer { IfOk result (λ answer.
-        spec.IsTaskListAnswer root.now tasks.now answer.status answer.text.items) }
+    ensures answer { IfOk result (λ answer. (text : InputFile → List ℕ) → AreTexts texts.now text
+        → tasked args.now.root.now (text InputFile.Tasks) ≡ Ok jobs
+        → spec.IsTasksAnswer args.now.question args.now.root.now text answer.status answer.text.items) }
 {
-    match list_tasks(alloc, root, tasks) {
-        Ok(listed) => races_answer(alloc, &listed),
-        Err(halt) => refused(alloc, halt),
+    match args.question {
+        TaskQuestion::Check { print_proof, short } => judged_of(alloc, jobs, print_proof, short),
+        TaskQuestion::Verify { short, .. } => {
+            verdict_of(alloc, &jobs, text_of(texts, InputFile::Proof), short)
+        }
+        TaskQuestion::List => list_over(alloc, jobs),
+        TaskQuestion::Fix { .. } | TaskQuestion::Missing { .. } => unreachable!(),
     }
 }
 

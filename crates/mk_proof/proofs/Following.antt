@@ -6,7 +6,7 @@ use Rattle.std.proofs.lemmas.List.Elements.{All-head, All-tail}
 use Rattle.std.specs.Fmt.{decimal}
 use Rattle.std.specs.List.{All}
 use Rattle.mk_proof.specs.Drafts.{IsTimed}
-use Rattle.mk_proof.specs.ProofText.{Line, end_line, step_line, time_line}
+use Rattle.mk_proof.specs.ProofText.{ProofLine, end_line, step_line, time_line}
 use Rattle.mk_proof.specs.Shapes.{greatest_node, node_of}
 use Rattle.mk_proof.specs.declared.step.Step.{Step}
 use Rattle.mk_proof.specs.declared.step.Step.TheVariants.{Skip, Start, Finish}
@@ -48,11 +48,11 @@ pub decimal_same : (m n : ℕ) → m ≤ 10000000 → n ≤ 10000000 → decimal
 decimal_same m n small large same = decimal_injective m n (omega arith) (omega arith) same
 
 -- the third byte of a line's first word, by which the lines differ
-abbrev pub tag : Line → ℕ
+abbrev pub tag : ProofLine → ℕ
 tag line = get_or (get_or line 0 []) 2 0
 
 -- a step's line says it
-second_word : Line → List ℕ
+second_word : ProofLine → List ℕ
 second_word line = get_or line 1 []
 
 pub step_same : (s t : Step) → node_of s ≤ greatest_node → node_of t ≤ greatest_node → step_line s ≡ step_line t → s ≡ t
@@ -74,7 +74,7 @@ pair_same p q a b c d first second = ap₂ (λ (m n : ℕ). (m, n)) (decimal_sam
 pub time_same : (t u : ℕ × ℕ) → IsTimed t → IsTimed u → time_line t ≡ time_line u → t ≡ u
 time_same t u small large same =
     pair_same t u (omega (arith, small.0)) (omega (arith, small.1)) (omega (arith, large.0)) (omega (arith, large.1))
-    (ap (λ (line : Line). get_or line 1 []) same) (ap (λ (line : Line). get_or line 2 []) same)
+    (ap (λ (line : ProofLine). get_or line 1 []) same) (ap (λ (line : ProofLine). get_or line 2 []) same)
 
 -- a step, a time and the end have different lines
 pub step_not_time : (s : Step) (t : ℕ × ℕ) → step_line s ≡ time_line t → ⊥
@@ -93,25 +93,25 @@ end_not_time t same = eqb-false 100 109 refl (ap tag same)
 -- ---- the lines of a trace's times and steps
 
 -- what stands behind some steps of a trace: its end, or another step
-abbrev pub NextStep : List Step → List Step → List Line → Type 0
+abbrev pub NextStep : List Step → List Step → List ProofLine → Type 0
 NextStep steps all back =
     ((all ≡ steps) × (back ≡ end_line ∷ []))
-    ⊎ ((step : Step) × (more : List Step) × (behind : List Line) × (all ≡ steps ++ step ∷ more) × (back ≡ step_line step ∷ behind))
+    ⊎ ((step : Step) × (more : List Step) × (behind : List ProofLine) × (all ≡ steps ++ step ∷ more) × (back ≡ step_line step ∷ behind))
 
 -- what stands behind some times and steps of a trace: its end or another step, or, where there are no steps yet, another time
-abbrev pub Next : List (ℕ × ℕ) → List (ℕ × ℕ) → List Step → List Step → List Line → Type 0
+abbrev pub Next : List (ℕ × ℕ) → List (ℕ × ℕ) → List Step → List Step → List ProofLine → Type 0
 Next times all_times steps all_steps back =
     ((all_times ≡ times) × NextStep steps all_steps back)
-    ⊎ ((timed : ℕ × ℕ) × (more : List (ℕ × ℕ)) × (behind : List Line) × (steps ≡ []) × (all_times ≡ times ++ timed ∷ more) × (back ≡ time_line timed ∷ behind))
+    ⊎ ((timed : ℕ × ℕ) × (more : List (ℕ × ℕ)) × (behind : List ProofLine) × (steps ≡ []) × (all_times ≡ times ++ timed ∷ more) × (back ≡ time_line timed ∷ behind))
 
 abbrev AreSmall : List Step → Type 0
 AreSmall steps = All (λ step. node_of step ≤ greatest_node) steps
 
-step_on : (first step : Step) (steps all : List Step) (back : List Line) → step ≡ first → NextStep steps all back → NextStep (first ∷ steps) (step ∷ all) back
+step_on : (first step : Step) (steps all : List Step) (back : List ProofLine) → step ≡ first → NextStep steps all back → NextStep (first ∷ steps) (step ∷ all) back
 step_on first step steps all back same (inl ends) = inl (ap₂ (λ (s : Step) (ss : List Step). s ∷ ss) same ends.0, ends.1)
 step_on first step steps all back same (inr goes) = inr (goes.0, goes.1, goes.2, ap₂ (λ (s : Step) (ss : List Step). s ∷ ss) same goes.3, goes.4)
 
-next_step : (steps all : List Step) (back : List Line) → AreSmall steps → AreSmall all
+next_step : (steps all : List Step) (back : List ProofLine) → AreSmall steps → AreSmall all
     → map step_line all ++ end_line ∷ [] ≡ map step_line steps ++ back → NextStep steps all back
 next_step [] [] back small large same = inl (refl, sym same)
 next_step [] (step ∷ more) back small large same = inr (step, more, map step_line more ++ end_line ∷ [], refl, sym same)
@@ -122,14 +122,14 @@ next_step (first ∷ steps) (step ∷ all) back small large same =
     (step_same step first (All-head P step all large) (All-head P first steps small) (heads (step_line step) (step_line first) (map step_line all ++ end_line ∷ []) (map step_line steps ++ back) same))
     (next_step steps all back (All-tail P first steps small) (All-tail P step all large) (tails (step_line step) (step_line first) (map step_line all ++ end_line ∷ []) (map step_line steps ++ back) same))
 
-time_on : (first timed : ℕ × ℕ) (times all_times : List (ℕ × ℕ)) (steps all_steps : List Step) (back : List Line) → timed ≡ first
+time_on : (first timed : ℕ × ℕ) (times all_times : List (ℕ × ℕ)) (steps all_steps : List Step) (back : List ProofLine) → timed ≡ first
     → Next times all_times steps all_steps back → Next (first ∷ times) (timed ∷ all_times) steps all_steps back
 time_on first timed times all_times steps all_steps back same (inl goes) = inl (ap₂ (λ (t : ℕ × ℕ) (ts : List (ℕ × ℕ)). t ∷ ts) same goes.0, goes.1)
 time_on first timed times all_times steps all_steps back same (inr goes) =
     inr (goes.0, goes.1, goes.2, goes.3, ap₂ (λ (t : ℕ × ℕ) (ts : List (ℕ × ℕ)). t ∷ ts) same goes.4, goes.5)
 
 -- where no time has come
-no_time : (all_times : List (ℕ × ℕ)) (steps all_steps : List Step) (back : List Line) → AreSmall steps → AreSmall all_steps
+no_time : (all_times : List (ℕ × ℕ)) (steps all_steps : List Step) (back : List ProofLine) → AreSmall steps → AreSmall all_steps
     → (map time_line all_times ++ map step_line all_steps) ++ end_line ∷ [] ≡ map step_line steps ++ back → Next [] all_times steps all_steps back
 no_time [] steps all_steps back small large same = inl (refl, next_step steps all_steps back small large same)
 no_time (timed ∷ more) [] all_steps back small large same = inr (timed, more, (map time_line more ++ map step_line all_steps) ++ end_line ∷ [], refl, refl, sym same)
@@ -137,7 +137,7 @@ no_time (timed ∷ more) (step ∷ steps) all_steps back small large same =
     absurd (step_not_time step timed (sym (heads (time_line timed) (step_line step) ((map time_line more ++ map step_line all_steps) ++ end_line ∷ []) (map step_line steps ++ back) same)))
 
 -- the lines that some times and steps begin are those of all times and steps, and of the end
-pub next : (times all_times : List (ℕ × ℕ)) (steps all_steps : List Step) (back : List Line) → All IsTimed times → All IsTimed all_times → AreSmall steps → AreSmall all_steps
+pub next : (times all_times : List (ℕ × ℕ)) (steps all_steps : List Step) (back : List ProofLine) → All IsTimed times → All IsTimed all_times → AreSmall steps → AreSmall all_steps
     → (map time_line all_times ++ map step_line all_steps) ++ end_line ∷ [] ≡ (map time_line times ++ map step_line steps) ++ back
     → Next times all_times steps all_steps back
 next [] all_times steps all_steps back t u small large same = no_time all_times steps all_steps back small large same

@@ -17,7 +17,7 @@ use Rattle.hex.specs.declared.error.FromHexError.{FromHexError}
 use Rattle.mk_proof.proofs.Following.{decimal_same, heads, not_nil, tails}
 use Rattle.mk_proof.proofs.Words.{Lacks, Lacks-decimal, Lacks-encode_lower, cut_parts, one_word, words_same}
 use Rattle.mk_proof.specs.Drafts.{Finds, IsCut, IsPath, IsShort}
-use Rattle.mk_proof.specs.ProofText.{Line, Word, path_line, step_line, words_of}
+use Rattle.mk_proof.specs.ProofText.{ProofLine, Word, path_line, step_line, words_of}
 use Rattle.mk_proof.specs.Shapes.{greatest_node, node_of}
 use Rattle.mk_proof.specs.declared.step.Step.{Step}
 use Rattle.mk_proof.specs.declared.step.Step.TheVariants.{Skip, Start, Finish}
@@ -94,11 +94,11 @@ pub word_number : (n : ℕ) (text : List ℕ) → n ≤ 10000000 → decimal n �
 word_number n text small is = words_same (decimal n) text (number_word n (decimal n) small refl ∙ is)
 
 -- a text without a space is not two words
-pub no_two : (text : List ℕ) (first second : Word) (more : Line) → Lacks 32 text → words_of text ≡ first ∷ second ∷ more → ⊥
+pub no_two : (text : List ℕ) (first second : Word) (more : ProofLine) → Lacks 32 text → words_of text ≡ first ∷ second ∷ more → ⊥
 no_two text first second more none is = not_nil second more (tails text first [] (second ∷ more) (sym (one_word text none) ∙ is))
 
 -- one of the words of mapped values
-pub at_word : (numbers : List ℕ) (front : Line) (word : Word) (back : Line) → All IsShort numbers → map decimal numbers ≡ front ++ word ∷ back
+pub at_word : (numbers : List ℕ) (front : ProofLine) (word : Word) (back : ProofLine) → All IsShort numbers → map decimal numbers ≡ front ++ word ∷ back
     → (n : ℕ) × IsShort n × (decimal n ≡ word)
 at_word [] [] word back small same = absurd (not_nil word back same)
 at_word [] (first ∷ front) word back small same = absurd (not_nil first (front ++ word ∷ back) same)
@@ -115,8 +115,8 @@ pub record ReadsWords (text rest numbers : List ℕ) : Type 0 where
 pub one_more : (text rest numbers : List ℕ) (word behind : List ℕ) (n : ℕ) → ReadsWords text rest numbers → IsCut 32 rest word behind
     → IsShort n → decimal n ≡ word → ReadsWords text behind (numbers ++ n ∷ [])
 one_more text rest numbers word behind n reads cut small is = record {
-  words = reads.words ∙ ap (λ (ls : Line). map decimal numbers ++ ls) (cut_parts 32 rest word behind cut ∙ ap (λ (w : Word). w ∷ words_of behind) (sym is))
-      ∙ sym (append_assoc (map decimal numbers) (decimal n ∷ []) (words_of behind)) ∙ ap (λ (ls : Line). ls ++ words_of behind) (sym (map_push decimal numbers n));
+  words = reads.words ∙ ap (λ (ls : ProofLine). map decimal numbers ++ ls) (cut_parts 32 rest word behind cut ∙ ap (λ (w : Word). w ∷ words_of behind) (sym is))
+      ∙ sym (append_assoc (map decimal numbers) (decimal n ∷ []) (words_of behind)) ∙ ap (λ (ls : ProofLine). ls ++ words_of behind) (sym (map_push decimal numbers n));
   small = All-push IsShort numbers n reads.small small;
 }
 
@@ -124,19 +124,19 @@ pub all_words : (text rest numbers : List ℕ) (n : ℕ) → ReadsWords text res
     → All IsShort (numbers ++ n ∷ []) × (map decimal (numbers ++ n ∷ []) ≡ words_of text)
 all_words text rest numbers n reads small is = (
   All-push IsShort numbers n reads.small small,
-  map_push decimal numbers n ∙ sym (reads.words ∙ ap (λ (ls : Line). map decimal numbers ++ ls) (number_word n rest (omega arith) is)),
+  map_push decimal numbers n ∙ sym (reads.words ∙ ap (λ (ls : ProofLine). map decimal numbers ++ ls) (number_word n rest (omega arith) is)),
 )
 
 pub bad_word : (text rest numbers : List ℕ) (word behind : List ℕ) → ReadsWords text rest numbers → IsCut 32 rest word behind
     → ((n : ℕ) → IsShort n → decimal n ≡ word → ⊥) → (all : List ℕ) → All IsShort all → map decimal all ≡ words_of text → ⊥
 bad_word text rest numbers word behind reads cut none all small same =
-    let found = at_word all (map decimal numbers) word (words_of behind) small (same ∙ reads.words ∙ ap (λ (ls : Line). map decimal numbers ++ ls) (cut_parts 32 rest word behind cut)) in
+    let found = at_word all (map decimal numbers) word (words_of behind) small (same ∙ reads.words ∙ ap (λ (ls : ProofLine). map decimal numbers ++ ls) (cut_parts 32 rest word behind cut)) in
     none found.0 found.1 found.2
 
 pub bad_last : (text rest numbers : List ℕ) → ReadsWords text rest numbers → Lacks 32 rest
     → ((n : ℕ) → IsShort n → decimal n ≡ rest → ⊥) → (all : List ℕ) → All IsShort all → map decimal all ≡ words_of text → ⊥
 bad_last text rest numbers reads last none all small same =
-    let found = at_word all (map decimal numbers) rest [] small (same ∙ reads.words ∙ ap (λ (ls : Line). map decimal numbers ++ ls) (one_word rest last)) in
+    let found = at_word all (map decimal numbers) rest [] small (same ∙ reads.words ∙ ap (λ (ls : ProofLine). map decimal numbers ++ ls) (one_word rest last)) in
     none found.0 found.1 found.2
 
 -- ---- lines of a word and one number
@@ -147,7 +147,7 @@ behind_number word line rest n cut small same = word_number n rest small (tails 
 
 pub number_behind : (word : Word) (line rest : List ℕ) (n : ℕ) → words_of line ≡ word ∷ words_of rest → n ≤ 10000000
     → decimal n ≡ rest → word ∷ decimal n ∷ [] ≡ words_of line
-number_behind word line rest n cut small is = ap (λ (ws : Line). word ∷ ws) (sym (number_word n rest small is)) ∙ sym cut
+number_behind word line rest n cut small is = ap (λ (ws : ProofLine). word ∷ ws) (sym (number_word n rest small is)) ∙ sym cut
 
 pub behind_found : (word : Word) (line rest : List ℕ) (found : Option ℕ) → words_of line ≡ word ∷ words_of rest → Finds decimal IsShort rest found
     → Finds (λ n. word ∷ decimal n ∷ []) IsShort (words_of line) found
@@ -155,14 +155,14 @@ behind_found word line rest None cut none = λ n small same. none n small (behin
 behind_found word line rest (Some n) cut found = (found.0, number_behind word line rest n cut (omega (arith, found.0)) found.1)
 
 -- one line says one number
-pub number_same : (word : Word) (line : Line) (m n : ℕ) → m ≤ 10000000 → n ≤ 10000000 → word ∷ decimal m ∷ [] ≡ line → word ∷ decimal n ∷ [] ≡ line → m ≡ n
-number_same word line m n small large first second = decimal_same m n small large (ap (λ (l : Line). get_or l 1 []) (first ∙ sym second))
+pub number_same : (word : Word) (line : ProofLine) (m n : ℕ) → m ≤ 10000000 → n ≤ 10000000 → word ∷ decimal m ∷ [] ≡ line → word ∷ decimal n ∷ [] ≡ line → m ≡ n
+number_same word line m n small large first second = decimal_same m n small large (ap (λ (l : ProofLine). get_or l 1 []) (first ∙ sym second))
 
-pub numbers_same : (word : Word) (line : Line) (p q : ℕ × ℕ) → p.0 ≤ 10000000 → p.1 ≤ 10000000 → q.0 ≤ 10000000 → q.1 ≤ 10000000
+pub numbers_same : (word : Word) (line : ProofLine) (p q : ℕ × ℕ) → p.0 ≤ 10000000 → p.1 ≤ 10000000 → q.0 ≤ 10000000 → q.1 ≤ 10000000
     → word ∷ decimal p.0 ∷ decimal p.1 ∷ [] ≡ line → word ∷ decimal q.0 ∷ decimal q.1 ∷ [] ≡ line → (p.0 ≡ q.0) × (p.1 ≡ q.1)
 numbers_same word line p q a b c d first second = (
-  decimal_same p.0 q.0 a c (ap (λ (l : Line). get_or l 1 []) (first ∙ sym second)),
-  decimal_same p.1 q.1 b d (ap (λ (l : Line). get_or l 2 []) (first ∙ sym second)),
+  decimal_same p.0 q.0 a c (ap (λ (l : ProofLine). get_or l 1 []) (first ∙ sym second)),
+  decimal_same p.1 q.1 b d (ap (λ (l : ProofLine). get_or l 2 []) (first ∙ sym second)),
 )
 
 -- ---- the line of a path
@@ -174,7 +174,7 @@ pub path_found : (line text : List ℕ) (found : Option (List ℕ)) → words_of
     → Finds path_line IsPath (words_of line) found
 path_found line text None cut none = λ path is same.
     none path is (words_same (encode_lower path) text (bytes_word path (encode_lower path) is.1 refl ∙ tails (codes "path") (codes "path") (encode_lower path ∷ []) (words_of text) (same ∙ cut)))
-path_found line text (Some path) cut found = (found.0, ap (λ (ws : Line). codes "path" ∷ ws) (sym (bytes_word path text found.0.1 found.1)) ∙ sym cut)
+path_found line text (Some path) cut found = (found.0, ap (λ (ws : ProofLine). codes "path" ∷ ws) (sym (bytes_word path text found.0.1 found.1)) ∙ sym cut)
 
 -- what does not decode spells nothing
 pub not_decoded : (text path : List ℕ) (e : FromHexError) → IsBytes path → encode_lower path ≡ text → decode_of text ≡ Err e → ⊥
@@ -187,7 +187,7 @@ decoded_bytes text bytes is = (decode_of-ok text bytes is).3
 
 -- ---- the line of a step
 
-pub no_step : (line : Line) → ((n : ℕ) → n ≤ greatest_node → codes "skip" ∷ decimal n ∷ [] ≡ line → ⊥)
+pub no_step : (line : ProofLine) → ((n : ℕ) → n ≤ greatest_node → codes "skip" ∷ decimal n ∷ [] ≡ line → ⊥)
     → ((n : ℕ) → n ≤ greatest_node → codes "start" ∷ decimal n ∷ [] ≡ line → ⊥) → ((n : ℕ) → n ≤ greatest_node → codes "finish" ∷ decimal n ∷ [] ≡ line → ⊥)
     → (step : Step) → node_of step ≤ greatest_node → step_line step ≡ line → ⊥
 no_step line skip start finish (Skip n) small same = skip n small same

@@ -12,7 +12,7 @@ use Rattle.hex.specs.Hex.{IsBytes}
 use Rattle.mk_proof.proofs.Texts.{begins, whole}
 use Rattle.mk_proof.proofs.Words.{whole_lines-cons, whole_lines-none}
 use Rattle.mk_proof.specs.Drafts.{AreNodes, IsCut, IsDraft, IsPath, lines_of}
-use Rattle.mk_proof.specs.ProofText.{BeginProof, IsGood, IsNoProof, IsRead, IsShapedProof, Line, end_line, path_line, proof_lines, proof_text, text_of, reported, whole_lines, words_of, written}
+use Rattle.mk_proof.specs.ProofText.{BeginProof, IsGood, IsNoProof, IsProofRead, IsShapedProof, ProofLine, end_line, path_line, proof_lines, proof_text, text_of, reported, whole_lines, words_of, written}
 use Rattle.mk_proof.specs.Shapes.{AreShapedSteps, AreShapedTimes, IsShapedTrace, greatest_node, greatest_time, node_of}
 use Rattle.mk_proof.specs.declared.draft.Draft.{Draft}
 use Rattle.mk_proof.specs.declared.draft.Draft.TheVariants.{Empty, Chains, Nodes, Steps}
@@ -82,7 +82,7 @@ draft_begins (Steps trace false) shaped some = inr (record { trace = trace; rest
 module _ (text : List ℕ) (good : ℕ) (rest : List ℕ) (draft : Draft) (reads : ReadsTo text good rest draft) (line behind : List ℕ) (cut : IsCut 10 rest line behind) where
   whole_rest : whole_lines text ≡ (lines_of draft ++ words_of line ∷ []) ++ whole_lines behind
   whole_rest =
-      reads.whole_is ∙ ap (λ (ls : List Line). lines_of draft ++ ls) (ap whole_lines cut.whole ∙ whole_lines-cons line behind cut.first)
+      reads.whole_is ∙ ap (λ (ls : List ProofLine). lines_of draft ++ ls) (ap whole_lines cut.whole ∙ whole_lines-cons line behind cut.first)
       ∙ sym (append_assoc (lines_of draft) (words_of line ∷ []) (whole_lines behind))
 
   long : length (lines_of draft ++ words_of line ∷ []) ≡ good + 1
@@ -126,7 +126,7 @@ module _ (text : List ℕ) (good : ℕ) (rest : List ℕ) (draft : Draft) (reads
   good_here next shaped more = record {
     shaped = shaped;
     text_is = text_more next more;
-    whole_is = whole_rest ∙ ap (λ (ls : List Line). ls ++ whole_lines behind) (sym more);
+    whole_is = whole_rest ∙ ap (λ (ls : List ProofLine). ls ++ whole_lines behind) (sym more);
     count = sym long ∙ ap length (sym more);
     fits = let all = length-append line (10 ∷ behind) in omega (arith, reads.fits, ap length cut.whole);
     before = λ k below. good_before next shaped more k below (cases_lt k good);
@@ -136,7 +136,7 @@ module _ (text : List ℕ) (good : ℕ) (rest : List ℕ) (draft : Draft) (reads
 
 module _ (text : List ℕ) (good : ℕ) (rest : List ℕ) (draft : Draft) (reads : ReadsTo text good rest draft) (none : All (λ b. (b == 10) ≡ false) rest) where
   all_lines : whole_lines text ≡ lines_of draft
-  all_lines = reads.whole_is ∙ ap (λ (ls : List Line). lines_of draft ++ ls) (whole_lines-none rest none) ∙ append-nil (lines_of draft)
+  all_lines = reads.whole_is ∙ ap (λ (ls : List ProofLine). lines_of draft ++ ls) (whole_lines-none rest none) ∙ append-nil (lines_of draft)
 
   not_whole : ((proof : Proof) → IsShapedProof proof → proof_text proof ≡ text → ⊥) → IsNoProof text (reported (good + 1))
   not_whole never = record {
@@ -158,7 +158,7 @@ module _ (text : List ℕ) (good : ℕ) (rest : List ℕ) (draft : Draft) (reads
       omega (arith, ap length nothing))
 
   -- all lines have come, and nothing follows
-  pub is_whole : (proof : Proof) → IsShapedProof proof → proof_lines proof ≡ lines_of draft → length rest ≡ 0 → IsRead text (Ok proof)
+  pub is_whole : (proof : Proof) → IsShapedProof proof → proof_lines proof ≡ lines_of draft → length rest ≡ 0 → IsProofRead text (Ok proof)
   is_whole proof shaped same nothing = (
     shaped,
     ap text_of same ∙ sym (append-nil (text_of (lines_of draft))) ∙ ap (λ (t : List ℕ). text_of (lines_of draft) ++ t) (sym (nil_from_length rest nothing)) ∙ sym reads.text_is,

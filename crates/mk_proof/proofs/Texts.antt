@@ -12,7 +12,7 @@ use Rattle.mk_proof.proofs.Beginnings.{chain_same, chains_front, next_of}
 use Rattle.mk_proof.proofs.Following.{Next, decimal_same, end_not_step, end_not_time, heads, map_same, next, not_nil, tag, tails}
 use Rattle.mk_proof.proofs.Words.{IsClean, IsCleanLine, Lacks-decimal, Lacks-encode_lower, Lacks-from, whole_lines-text}
 use Rattle.mk_proof.specs.Drafts.{IsTimed}
-use Rattle.mk_proof.specs.ProofText.{BeginProof, IsRead, IsShapedProof, Line, ReadsAs, chain_line, count_line, end_line, nodes_line, open_lines, path_line, proof_lines, proof_text, step_line, time_line, trace_lines, whole_lines, certificate_lines}
+use Rattle.mk_proof.specs.ProofText.{BeginProof, IsProofRead, IsShapedProof, ProofLine, ReadsAs, chain_line, count_line, end_line, nodes_line, open_lines, path_line, proof_lines, proof_text, step_line, time_line, trace_lines, whole_lines, certificate_lines}
 use Rattle.mk_proof.specs.Shapes.{AreShapedChains, IsShapedChain, IsShapedTrace, Trace, greatest_node, most_chains, node_of}
 use Rattle.mk_proof.specs.declared.proof.Proof.{Proof}
 use Rattle.mk_proof.specs.declared.proof.Proof.TheVariants as proofs
@@ -88,9 +88,9 @@ same_trace : (trace other : Trace) → IsShapedTrace trace → IsShapedTrace oth
 same_trace trace other small large bytes more same =
     let first = heads (nodes_line (other.first, other.second)) (nodes_line (trace.first, trace.second)) _ _ same in
     let behind = tails (nodes_line (other.first, other.second)) (nodes_line (trace.first, trace.second)) _ _ same in
-    let path = spelled_same other.path trace.path more bytes (ap (λ (line : Line). get_or line 1 []) (heads (path_line other.path) (path_line trace.path) _ _ behind)) in
-    let one = decimal_same other.first trace.first (omega (arith, large.order, large.second)) (omega (arith, small.order, small.second)) (ap (λ (line : Line). get_or line 1 []) first) in
-    let two = decimal_same other.second trace.second (omega (arith, large.second)) (omega (arith, small.second)) (ap (λ (line : Line). get_or line 2 []) first) in
+    let path = spelled_same other.path trace.path more bytes (ap (λ (line : ProofLine). get_or line 1 []) (heads (path_line other.path) (path_line trace.path) _ _ behind)) in
+    let one = decimal_same other.first trace.first (omega (arith, large.order, large.second)) (omega (arith, small.order, small.second)) (ap (λ (line : ProofLine). get_or line 1 []) first) in
+    let two = decimal_same other.second trace.second (omega (arith, large.second)) (omega (arith, small.second)) (ap (λ (line : ProofLine). get_or line 2 []) first) in
     let steps = same_steps trace other (next_of trace other end_line [] small large (same ∙ sym (append-nil (trace_lines trace)))) in
     λ i. record { first = one i; second = two i; path = path i; times = steps.0 i; steps = steps.1 i }
 
@@ -110,14 +110,14 @@ one_text p q small large same = same_lines p q small large (sym (whole p (proof_
 
 -- ---- the answer on the text of a proof
 
-answer_is : (text : List ℕ) (proof : Proof) → IsShapedProof proof → proof_text proof ≡ text → (answer : Result Proof Reported) → IsRead text answer → answer ≡ Ok proof
+answer_is : (text : List ℕ) (proof : Proof) → IsShapedProof proof → proof_text proof ≡ text → (answer : Result Proof Reported) → IsProofRead text answer → answer ≡ Ok proof
 answer_is text proof shaped is (Ok other) read = ap (λ p. Ok p) (one_text other proof read.0 shaped (read.1 ∙ sym is))
 answer_is text proof shaped is (Err fault) read = absurd (read.none proof shaped is)
 
 pub reads_as : (text : List ℕ) (proof : Proof) → IsShapedProof proof → proof_text proof ≡ text → ReadsAs text proof
 reads_as text proof shaped is answer = (
   λ read. answer_is text proof shaped is answer read,
-  λ same. subst (IsRead text) (sym same) (shaped, is),
+  λ same. subst (IsProofRead text) (sym same) (shaped, is),
 )
 
 -- ---- beginnings
@@ -132,7 +132,7 @@ map_front {X} {Y} f (x ∷ xs) (y ∷ front) back same =
     (x ∷ later.0, later.1, ap (λ (zs : List X). x ∷ zs) later.2, ap₂ (λ (z : Y) (zs : List Y). z ∷ zs) (heads (f x) y (map f xs) (front ++ back) same) later.3)
 
 -- the first lines of a proof begin one
-pub begins : (proof : Proof) (front back : List Line) → IsShapedProof proof → 0 < length front → proof_lines proof ≡ front ++ back → BeginProof front
+pub begins : (proof : Proof) (front back : List ProofLine) → IsShapedProof proof → 0 < length front → proof_lines proof ≡ front ++ back → BeginProof front
 begins proof [] back shaped some same = absurd (omega arith)
 begins (proofs.Certificate chains) (first ∷ front) back shaped some same =
     let split = map_front chain_line chains front back (tails (count_line (length chains)) first (map chain_line chains) (front ++ back) same) in
@@ -143,7 +143,7 @@ begins (proofs.Certificate chains) (first ∷ front) back shaped some same =
       small = shaped.few;
       few = omega (arith, ap length split.2);
       shaped = chains_front split.0 split.1 (subst AreShapedChains split.2 shaped);
-      are = ap₂ (λ (l : Line) (ls : List Line). l ∷ ls) (heads (count_line (length chains)) first (map chain_line chains) (front ++ back) same) split.3;
+      are = ap₂ (λ (l : ProofLine) (ls : List ProofLine). l ∷ ls) (heads (count_line (length chains)) first (map chain_line chains) (front ++ back) same) split.3;
     })
 begins (proofs.Trace trace) (first ∷ front) back shaped some same =
     inr (record { trace = trace; rest = back; shaped = shaped.0; bytes = shaped.1; are = same })
@@ -154,13 +154,13 @@ pub not_all_chains : (count : ℕ) (chains : List (List ℕ)) → count ≤ most
     → (proof : Proof) → IsShapedProof proof → proof_lines proof ≡ certificate_lines count chains → ⊥
 not_all_chains count chains small other (proofs.Certificate all) shaped same =
     let counts = decimal_same (length all) count (omega (arith, shaped.few)) (omega arith)
-    (ap (λ (l : Line). get_or l 1 []) (heads (count_line (length all)) (count_line count) (map chain_line all) (map chain_line chains) same)) in
+    (ap (λ (l : ProofLine). get_or l 1 []) (heads (count_line (length all)) (count_line count) (map chain_line all) (map chain_line chains) same)) in
     let lines = ap length (tails (count_line (length all)) (count_line count) (map chain_line all) (map chain_line chains) same) in
     other (sym (length-map chains chain_line) ∙ sym lines ∙ length-map all chain_line ∙ counts)
 not_all_chains count chains small other (proofs.Trace trace) shaped same =
     eqb-false 97 114 refl (ap tag (heads (nodes_line (trace.first, trace.second)) (count_line count) _ (map chain_line chains) same))
 
-nothing_next : (trace all : Trace) (back : List Line) → back ≡ [] → Next trace.times all.times trace.steps all.steps back → ⊥
+nothing_next : (trace all : Trace) (back : List ProofLine) → back ≡ [] → Next trace.times all.times trace.steps all.steps back → ⊥
 nothing_next trace all back none (inl (times, inl ends)) = not_nil end_line [] (sym none ∙ ends.1)
 nothing_next trace all back none (inl (times, inr goes)) = not_nil (step_line goes.0) goes.2 (sym none ∙ goes.4)
 nothing_next trace all back none (inr goes) = not_nil (time_line goes.0) goes.2 (sym none ∙ goes.5)

@@ -11,7 +11,7 @@ use Rattle.std.specs.List.{All, join_with_byte, slice_split}
 use Rattle.std.specs.Str.Parse.{AllDigits, digits_value}
 use Rattle.hex.specs.Hex.{IsBytes, encode_lower, encode_with, lower_digits}
 use Rattle.mk_proof.specs.Drafts.{IsCut}
-use Rattle.mk_proof.specs.ProofText.{Line, Word, all_but_last, text_of, whole_lines, words_of, written}
+use Rattle.mk_proof.specs.ProofText.{ProofLine, Word, all_but_last, text_of, whole_lines, words_of, written}
 
 -- ---- bytes that a word lacks
 
@@ -88,15 +88,15 @@ Lacks-join c d word (next ∷ words) apart none =
 abbrev pub IsClean : Word → Type 0
 IsClean word = Lacks 32 word × Lacks 10 word
 
-abbrev pub IsCleanLine : Line → Type 0
+abbrev pub IsCleanLine : ProofLine → Type 0
 IsCleanLine line = (1 ≤ length line) × All IsClean line
 
 -- what is joined is cut into the same words, and holds no newline
-join_words : (line : Line) → IsCleanLine line → words_of (join_with_byte 32 line) ≡ line
+join_words : (line : ProofLine) → IsCleanLine line → words_of (join_with_byte 32 line) ≡ line
 join_words [] clean = absurd (omega (arith, clean.0))
 join_words (word ∷ words) clean = split_join 32 word words (All-weaker IsClean (Lacks 32) (λ w both. both.0) (word ∷ words) clean.1)
 
-join_newline : (line : Line) → IsCleanLine line → Lacks 10 (join_with_byte 32 line)
+join_newline : (line : ProofLine) → IsCleanLine line → Lacks 10 (join_with_byte 32 line)
 join_newline [] clean = absurd (omega (arith, clean.0))
 join_newline (word ∷ words) clean = Lacks-join 32 10 word words refl (All-weaker IsClean (Lacks 10) (λ w both. both.1) (word ∷ words) clean.1)
 
@@ -116,7 +116,7 @@ pub whole_lines-none : (text : List ℕ) → Lacks 10 text → whole_lines text 
 whole_lines-none text none = ap (λ (parts : List (List ℕ)). map words_of (all_but_last parts)) (slice_split_none (λ b. b == 10) text none)
 
 -- what is written is cut into the same lines
-pub whole_lines-text_of : (lines : List Line) (rest : List ℕ) → All IsCleanLine lines → whole_lines (text_of lines ++ rest) ≡ lines ++ whole_lines rest
+pub whole_lines-text_of : (lines : List ProofLine) (rest : List ℕ) → All IsCleanLine lines → whole_lines (text_of lines ++ rest) ≡ lines ++ whole_lines rest
 whole_lines-text_of [] rest clean = refl
 whole_lines-text_of (line ∷ lines) rest clean =
     let here = All-head IsCleanLine line lines clean in
@@ -124,7 +124,7 @@ whole_lines-text_of (line ∷ lines) rest clean =
     let apart : (written line ++ text_of lines) ++ rest ≡ joined ++ 10 ∷ (text_of lines ++ rest) =
     append_assoc (joined ++ 10 ∷ []) (text_of lines) rest ∙ append_assoc joined (10 ∷ []) (text_of lines ++ rest) in
     ap whole_lines apart ∙ whole_lines-cons joined (text_of lines ++ rest) (join_newline line here)
-    ∙ ap₂ (λ (first : Line) (more : List Line). first ∷ more) (join_words line here) (whole_lines-text_of lines rest (All-tail IsCleanLine line lines clean))
+    ∙ ap₂ (λ (first : ProofLine) (more : List ProofLine). first ∷ more) (join_words line here) (whole_lines-text_of lines rest (All-tail IsCleanLine line lines clean))
 
-pub whole_lines-text : (lines : List Line) → All IsCleanLine lines → whole_lines (text_of lines) ≡ lines
+pub whole_lines-text : (lines : List ProofLine) → All IsCleanLine lines → whole_lines (text_of lines) ≡ lines
 whole_lines-text lines clean = ap whole_lines (sym (append-nil (text_of lines))) ∙ whole_lines-text_of lines [] clean ∙ append-nil lines

@@ -4,7 +4,7 @@ use Rattle.std.specs.Bool.{MatchBool}
 use Rattle.std.specs.List.{All}
 use Rattle.hex.specs.Hex.{IsBytes}
 use Rattle.mk_proof.specs.Shapes.{AreShapedChains, IsShapedTrace, greatest_node, greatest_time, most_chains}
-use Rattle.mk_proof.specs.ProofText.{BeginProof, Line, certificate_lines, nodes_line, open_lines, trace_lines}
+use Rattle.mk_proof.specs.ProofText.{BeginProof, ProofLine, certificate_lines, nodes_line, open_lines, trace_lines}
 use Rattle.mk_proof.specs.declared.draft.Draft.{Draft}
 use Rattle.mk_proof.specs.declared.draft.Draft.TheVariants.{Empty, Chains, Nodes, Steps}
 
@@ -39,7 +39,7 @@ abbrev pub IsTimed : ℕ × ℕ → Type 0
 IsTimed timed = (timed.0 ≤ greatest_node) × (timed.1 ≤ greatest_time)
 
 -- the lines that have come
-abbrev pub lines_of : Draft → List Line
+abbrev pub lines_of : Draft → List ProofLine
 lines_of Empty = []
 lines_of (Chains count chains) = certificate_lines count chains
 lines_of (Nodes first second) = nodes_line (first, second) ∷ []
@@ -53,6 +53,6 @@ IsDraft (Nodes first second) = AreNodes (first, second)
 IsDraft (Steps trace is_whole) = IsShapedTrace trace × IsBytes trace.path
 
 -- a line comes behind those of a draft, where with these it begins a proof
-abbrev pub Adds : Draft → Line → Bool → Draft → Type 0
+abbrev pub Adds : Draft → ProofLine → Bool → Draft → Type 0
 Adds old line added new =
     MatchBool added (IsDraft new × (lines_of new ≡ lines_of old ++ line ∷ [])) (¬ (BeginProof (lines_of old ++ line ∷ [])))

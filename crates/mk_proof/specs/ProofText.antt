@@ -16,53 +16,53 @@ use Rattle.mk_proof.specs.declared.step.Step.TheVariants.{Skip, Start, Finish}
 abbrev pub Word : Type 0
 Word = List ℕ
 
-abbrev pub Line : Type 0
-Line = List Word
+abbrev pub ProofLine : Type 0
+ProofLine = List Word
 
 -- what is written of it: one space between two words, and a newline behind the last
-abbrev pub written : Line → List ℕ
+abbrev pub written : ProofLine → List ℕ
 written words = join_with_byte 32 words ++ 10 ∷ []
 
 -- the text of lines
-abbrev pub text_of : List Line → List ℕ
+abbrev pub text_of : List ProofLine → List ℕ
 text_of lines = flat_map written lines
 
 -- the first line of a certificate says how many chains follow, and each chain is a line
-abbrev pub count_line : ℕ → Line
+abbrev pub count_line : ℕ → ProofLine
 count_line count = codes "certificate" ∷ decimal count ∷ []
 
-abbrev pub chain_line : List ℕ → Line
+abbrev pub chain_line : List ℕ → ProofLine
 chain_line chain = map decimal chain
 
-abbrev pub certificate_lines : ℕ → List (List ℕ) → List Line
+abbrev pub certificate_lines : ℕ → List (List ℕ) → List ProofLine
 certificate_lines count chains = count_line count ∷ map chain_line chains
 
 -- the first lines of a trace have its nodes and its path
-abbrev pub nodes_line : ℕ × ℕ → Line
+abbrev pub nodes_line : ℕ × ℕ → ProofLine
 nodes_line nodes = codes "trace" ∷ decimal nodes.0 ∷ decimal nodes.1 ∷ []
 
-abbrev pub path_line : List ℕ → Line
+abbrev pub path_line : List ℕ → ProofLine
 path_line path = codes "path" ∷ encode_lower path ∷ []
 
 -- a time and a step have a line each
-abbrev pub time_line : ℕ × ℕ → Line
+abbrev pub time_line : ℕ × ℕ → ProofLine
 time_line timed = codes "time" ∷ decimal timed.0 ∷ decimal timed.1 ∷ []
 
-abbrev pub step_line : Step → Line
+abbrev pub step_line : Step → ProofLine
 step_line (Skip n) = codes "skip" ∷ decimal n ∷ []
 step_line (Start n) = codes "start" ∷ decimal n ∷ []
 step_line (Finish n) = codes "finish" ∷ decimal n ∷ []
 
 -- the last line of a trace
-abbrev pub end_line : Line
+abbrev pub end_line : ProofLine
 end_line = codes "end" ∷ []
 
 -- the lines of a trace before its last one
-abbrev pub open_lines : Trace → List Line
+abbrev pub open_lines : Trace → List ProofLine
 open_lines trace =
     nodes_line (trace.first, trace.second) ∷ path_line trace.path ∷ (map time_line trace.times ++ map step_line trace.steps)
 
-abbrev pub trace_lines : Trace → List Line
+abbrev pub trace_lines : Trace → List ProofLine
 trace_lines trace = open_lines trace ++ end_line ∷ []
 
 -- the texts of a certificate, of a trace and of a proof
@@ -72,7 +72,7 @@ certificate_text chains = text_of (certificate_lines (length chains) chains)
 abbrev pub trace_text : Trace → List ℕ
 trace_text trace = text_of (trace_lines trace)
 
-abbrev pub proof_lines : Proof → List Line
+abbrev pub proof_lines : Proof → List ProofLine
 proof_lines (proofs.Certificate chains) = certificate_lines (length chains) chains
 proof_lines (proofs.Trace trace) = trace_lines trace
 
@@ -85,7 +85,7 @@ IsShapedProof (proofs.Certificate chains) = AreShapedChains chains
 IsShapedProof (proofs.Trace trace) = IsShapedTrace trace × IsBytes trace.path
 
 -- the whole lines of a text: what stands before each newline, cut at its spaces
-abbrev pub words_of : List ℕ → Line
+abbrev pub words_of : List ℕ → ProofLine
 words_of line = slice_split (λ b. b == 32) line
 
 abbrev pub all_but_last : List (List ℕ) → List (List ℕ)
@@ -93,11 +93,11 @@ all_but_last [] = []
 all_but_last (part ∷ []) = []
 all_but_last (part ∷ next ∷ parts) = part ∷ all_but_last (next ∷ parts)
 
-abbrev pub whole_lines : List ℕ → List Line
+abbrev pub whole_lines : List ℕ → List ProofLine
 whole_lines text = map words_of (all_but_last (slice_split (λ b. b == 10) text))
 
 -- lines begin a certificate: they have a number of chains, and no more chains than that
-pub record BeginCertificate (lines : List Line) : Type 0 where
+pub record BeginCertificate (lines : List ProofLine) : Type 0 where
   pub count : ℕ
   pub chains : List (List ℕ)
   pub small : count ≤ most_chains
@@ -106,14 +106,14 @@ pub record BeginCertificate (lines : List Line) : Type 0 where
   pub are : certificate_lines count chains ≡ lines
 
 -- lines begin a trace: they are the first lines of one
-pub record BeginTrace (lines : List Line) : Type 0 where
+pub record BeginTrace (lines : List ProofLine) : Type 0 where
   pub trace : Trace
-  pub rest : List Line
+  pub rest : List ProofLine
   pub shaped : IsShapedTrace trace
   pub bytes : IsBytes trace.path
   pub are : trace_lines trace ≡ lines ++ rest
 
-abbrev pub BeginProof : List Line → Type 0
+abbrev pub BeginProof : List ProofLine → Type 0
 BeginProof lines = BeginCertificate lines ⊎ BeginTrace lines
 
 -- the line behind the first n lines is good: it is whole, and with the lines before it it begins a proof
@@ -137,10 +137,10 @@ pub record IsNoProof (text : List ℕ) (fault : Reported) : Type 0 where
   pub says : fault ≡ reported (good + 1)
 
 -- what `read_proof` answers: the proof that is written so, or the first line that is not good
-abbrev pub IsRead : List ℕ → Result Proof Reported → Type 0
-IsRead text (Ok proof) = IsShapedProof proof × (proof_text proof ≡ text)
-IsRead text (Err fault) = IsNoProof text fault
+abbrev pub IsProofRead : List ℕ → Result Proof Reported → Type 0
+IsProofRead text (Ok proof) = IsShapedProof proof × (proof_text proof ≡ text)
+IsProofRead text (Err fault) = IsNoProof text fault
 
 -- a text reads as this proof and as nothing else
 abbrev pub ReadsAs : List ℕ → Proof → Type 0
-ReadsAs text proof = (answer : Result Proof Reported) → IsRead text answer ↔ (answer ≡ Ok proof)
+ReadsAs text proof = (answer : Result Proof Reported) → IsProofRead text answer ↔ (answer ≡ Ok proof)

@@ -2,7 +2,7 @@
 ghost use Rattle.std.specs.Prelude.{◌≡◌, ◌+◌, ◌<◌, ◌^◌};
 ghost use Rattle.mk_name.specs.Gives.{Answers};
 ghost use Rattle.mk_name.specs.declared.fault.Halt.TheVariants as halts;
-ghost use Rattle.mk_proof.specs.ProofText.{IsRead, reported};
+ghost use Rattle.mk_proof.specs.ProofText.{IsProofRead, reported};
 
 use crate::draft::Draft;
 use crate::number::cut;
@@ -15,7 +15,7 @@ use std::alloc::Global;
 ///
 /// The first line that is missing, has no newline or does not fit behind those before it is `BadProof`, at that line.
 pub fn read_proof(alloc: Global, text: &[u8]) -> Result<Proof, Halt>
-    ensures { Answers result (IsRead text.now) }
+    ensures { Answers result (IsProofRead text.now) }
 {
     let mut draft = Draft::Empty;
     let mut good = 0;

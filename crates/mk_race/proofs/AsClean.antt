@@ -3,7 +3,6 @@ use Rattle.std.proofs.Common.{ℕ, zero, suc, ◌≡◌, ◌<◌, ◌+◌, ◌�
 use Rattle.std.proofs.lemmas.Bool.{cases_order}
 use Rattle.mk_name.specs.Names.{Name}
 use Rattle.mk_name.specs.Gives.{Answers}
-use Rattle.mk_name.specs.Reported.{Reported}
 use Rattle.mk_name.specs.declared.fault.Halt.{Halt}
 use Rattle.mk_name.specs.declared.fault.Halt.TheVariants as halts
 use Rattle.mk_jobs.specs.Jobs.{Jobs, Before, edge, further, Clash, IsPrerequisite, IsRaceFree, IsValid, prerequisites_of}
@@ -12,18 +11,18 @@ use Rattle.mk_jobs.proofs.JobsLemmas.{shape_valid}
 use Rattle.mk_jobs.proofs.Reaching.{turned_clash}
 use Rattle.mk_sched.specs.Schedules.{IsDeterminateFromOneRun}
 use Rattle.mk_sched.proofs.Staying.{from_one_run}
-use Rattle.mk_stale.specs.Watching.{IsDeclared}
-use Rattle.mk_stale.proofs.Keeping.{as_from_clean}
+use Rattle.mk_missing.specs.Watching.{IsDeclared}
+use Rattle.mk_missing.proofs.FromClean.{as_from_clean}
 use Rattle.mk_decide.proofs.Finding.{race_is}
 use Rattle.mk_fix.specs.AllRaces.{AreRaces}
 use Rattle.mk_fix.proofs.Adding.{cons_cases, here, none_in, there}
 use Rattle.mk_missing.specs.Unlisted.{unlisted_names}
 use Rattle.mk_race.specs.Again.{IsChange}
 use Rattle.mk_race.specs.Missing.{BuildsAsClean, IsEmpty, IsMissingList, IsMissingListOf, LeavesAsClean}
-use Rattle.mk_race.specs.Parts.{listed_as}
-use Rattle.mk_race.specs.Stages.{IsPrepared, Texts}
+use Rattle.mk_read.specs.declared.input.Input.{Input}
+use Rattle.mk_race.specs.Stages.{IsPrepared, Texts, texts_with}
 use Rattle.mk_race.specs.TasksMissing.{IsPreparedBelow, TasksBuildAsClean}
-use Rattle.mk_race.specs.declared.again.Change.{Change}
+use Rattle.mk_race.specs.declared.again.BuildChange.{BuildChange}
 use Rattle.mk_race.specs.declared.missing.MissingList.{MissingList}
 use Rattle.mk_race.specs.declared.preparing.Prepared.{Prepared}
 use Rattle.mk_race.proofs.Alike.{runs_alike}
@@ -95,7 +94,7 @@ leaves_as_clean jobs listing races shape are none declared = λ programs opening
     kept is_clean same of_opening of_clean within
 
 -- and so it is of the build that texts mean
-pub builds_as_clean : (texts : Texts) (footprints : List ℕ) (prepared : Prepared) (change : Option Change) → IsPrepared texts footprints (Ok prepared)
+pub builds_as_clean : (texts : Texts) (footprints : List ℕ) (prepared : Prepared) (change : Option BuildChange) → IsPrepared texts footprints (Ok prepared)
     → IsChange texts prepared change → change ≡ None → LeavesAsClean prepared.jobs prepared.listing → IsDeterminateFromOneRun prepared.jobs → BuildsAsClean texts footprints
 builds_as_clean texts footprints prepared change build is none as_clean one = record {
   shows = record {
@@ -109,22 +108,29 @@ builds_as_clean texts footprints prepared change build is none as_clean one = re
 }
 
 -- what is listed of what was prepared, beside the change of a second build, is what is listed of the build
-pub changed_list : (texts : Texts) (footprints : List ℕ) (prepared : Prepared) (change : Option Change) (result : Result MissingList Halt)
+pub changed_list : (texts : Texts) (footprints : List ℕ) (prepared : Prepared) (change : Option BuildChange) (result : Result MissingList Halt)
     → IsPrepared texts footprints (Ok prepared) → IsChange texts prepared change → Answers result (IsMissingListOf prepared change)
     → Answers result (IsMissingList texts footprints)
 changed_list texts footprints prepared change (Ok listed) build is h = (Ok prepared, build, (change, is, h))
 changed_list texts footprints prepared change (Err halts.Memory) build is h = tt
 changed_list texts footprints prepared change (Err (halts.Fault reported)) build is h = (Ok prepared, build, (change, is, h))
 
+-- the change of a build with this input is that of its texts
+pub changed : (input : Input) (texts : Texts) (prepared : Prepared) (change : Option BuildChange) → texts ≡ texts_with input texts.listing
+    → IsChange (texts_with input []) prepared change → IsChange texts prepared change
+changed input texts prepared change are is =
+    let there : IsChange (texts_with input texts.listing) prepared change = is in
+    subst (λ (t : Texts). IsChange t prepared change) (sym are) there
+
 -- and where that is empty, builds of old trees leave what those of clean ones leave
-pub builds_headline : (texts : Texts) (prepared : Prepared) (change : Option Change) (result : Result MissingList Halt) → IsChange texts prepared change
+pub builds_headline : (input : Input) (prepared : Prepared) (change : Option BuildChange) (result : Result MissingList Halt) → IsChange (texts_with input []) prepared change
     → Answers result (IsMissingListOf prepared change) → IfOk result (λ given. IsEmpty given → LeavesAsClean prepared.jobs prepared.listing)
     → IfOk result (λ given. IsEmpty given → IsDeterminateFromOneRun prepared.jobs)
-    → IfOk result (λ given. IsEmpty given → (listed lines : List ℕ) → IsPrepared (listed_as texts listed) lines (Ok prepared)
-    → BuildsAsClean (listed_as texts listed) lines)
-builds_headline texts prepared change (Ok given) is h leaves one = λ empty listed lines build.
-    builds_as_clean (listed_as texts listed) lines prepared change build is (sym h.3 ∙ empty.change) (leaves empty) (one empty)
-builds_headline texts prepared change (Err halt) is h leaves one = tt
+    → IfOk result (λ given. IsEmpty given → (texts : Texts) (lines : List ℕ) → texts ≡ texts_with input texts.listing → IsPrepared texts lines (Ok prepared)
+    → BuildsAsClean texts lines)
+builds_headline input prepared change (Ok given) is h leaves one = λ empty texts lines are build.
+    builds_as_clean texts lines prepared change build (changed input texts prepared change are is) (sym h.3 ∙ empty.change) (leaves empty) (one empty)
+builds_headline input prepared change (Err halt) is h leaves one = tt
 
 -- the same of tasks
 pub tasks_as_clean : (root listing tasks : List ℕ) (prepared : Prepared) (result : Result MissingList Halt) → IsPreparedBelow root listing tasks (Ok prepared)

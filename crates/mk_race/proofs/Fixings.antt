@@ -1,12 +1,12 @@
 -- What comes of lines behind a makefile.
-use Rattle.std.proofs.Common.{◌≡◌, ◌==◌, ℕ, List, [], length, true, IfOk, Ok, Err, Option, Some, Result, arith, inl, refl, subst, sym}
+use Rattle.std.proofs.Common.{◌≡◌, ◌==◌, ℕ, List, [], length, true, IfOk, Ok, Err, Option, Result, arith, inl, refl, subst, sym}
 use Rattle.std.proofs.lemmas.Bool.{eqb-true}
 use Rattle.std.proofs.lemmas.List.{append-nil, nil_from_length}
 use Rattle.std.proofs.lemmas.List.Elements.{Contains-get_or}
 use Rattle.mk_name.specs.Gives.{Answers}
 use Rattle.mk_name.specs.Reported.{Reported}
 use Rattle.mk_name.specs.declared.fault.Halt.{Halt}
-use Rattle.mk_jobs.specs.Jobs.{Jobs, IsPrerequisite, IsValid, prerequisites_of}
+use Rattle.mk_jobs.specs.Jobs.{Jobs, IsValid, prerequisites_of}
 use Rattle.mk_sched.specs.Schedules.{IsDeterminateFromOneRun}
 use Rattle.mk_sched.proofs.Staying.{from_one_run}
 use Rattle.mk_decide.specs.Decisions.{AreSafe}
@@ -23,7 +23,7 @@ use Rattle.mk_race.specs.declared.fixing.Fixing.TheVariants.{Fixed, NotFixed}
 use Rattle.mk_race.specs.declared.fixing.Tried.{Tried}
 use Rattle.mk_race.specs.declared.fixing.Tried.TheVariants.{Safe, Unsafe}
 use Rattle.mk_race.specs.declared.preparing.Prepared.{Prepared}
-use Rattle.mk_race.proofs.Alike.{no_schedule_shows}
+use Rattle.mk_race.proofs.Alike.{no_build_shows}
 
 -- what the lines of a copy of the edges come to is what those of the edges come to
 pub lines_with : (makefile : List ℕ) (jobs : Jobs) (copy edges : List (ℕ × ℕ)) (given lines : FixLines) → copy ≡ edges → given ≡ lines
@@ -99,13 +99,13 @@ module _ (jobs : Jobs) (edges : List (ℕ × ℕ)) (fix : IsFix jobs edges) (few
 -- where lines fix a build, no schedule of it shows, with the lines behind its makefile
 shows_fixed : (texts : Texts) (footprints : List ℕ) (fixing : Fixing) → IsFixing texts footprints (Ok fixing) → HoldsOfJobs fixing → HoldsOfFixed texts footprints fixing
 shows_fixed texts footprints (Fixed lines new) (Ok prepared, build, fixed) holds =
-    no_schedule_shows (with_lines texts lines.items) footprints fixed.prepared fixed.build (subst IsDeterminateFromOneRun (sym fixed.jobs_are) holds.1)
+    no_build_shows new holds.1 fixed.prepared (with_lines texts lines.items) footprints fixed.jobs_are fixed.build
 shows_fixed texts footprints (Fixed lines new) (Err reported, build, is) holds = absurd (cc is)
 shows_fixed texts footprints (NotFixed jobs edges refusal) is holds = tt
 
 -- so it is of all texts that a build was read from
-pub fixing_shows : (texts : List ℕ → Texts) (From : List ℕ → List ℕ → Type 0) (result : Result Fixing Halt)
-    → ((listed lines : List ℕ) → From listed lines → Answers result (IsFixing (texts listed) lines)) → IfOk result HoldsOfJobs
-    → IfOk result (λ fixing. (listed lines : List ℕ) → From listed lines → HoldsOfFixed (texts listed) lines fixing)
-fixing_shows texts From (Ok fixing) is holds = λ listed lines from. shows_fixed (texts listed) lines fixing (is listed lines from) holds
-fixing_shows texts From (Err halt) is holds = tt
+pub fixing_shows : (From : Texts → List ℕ → Type 0) (result : Result Fixing Halt)
+    → ((texts : Texts) (lines : List ℕ) → From texts lines → Answers result (IsFixing texts lines)) → IfOk result HoldsOfJobs
+    → IfOk result (λ fixing. (texts : Texts) (lines : List ℕ) → From texts lines → HoldsOfFixed texts lines fixing)
+fixing_shows From (Ok fixing) is holds = λ texts lines from. shows_fixed texts lines fixing (is texts lines from) holds
+fixing_shows From (Err halt) is holds = tt

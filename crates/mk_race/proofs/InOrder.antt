@@ -8,11 +8,11 @@ use Rattle.mk_jobs.specs.Jobs.{Jobs, is_listed, name_of, node_count}
 use Rattle.mk_sched.specs.Replayed.{IsReplayed}
 use Rattle.mk_sched.specs.Serialising.{IsWholeRun}
 use Rattle.mk_sched.specs.Steps.{past_of}
-use Rattle.mk_sched.specs.Stored.{Files, store_of}
+use Rattle.mk_sched.specs.Stored.{StoredFiles, store_of}
 use Rattle.mk_sched.specs.Stores.{AgreesWith, AgreesWithListing}
 use Rattle.mk_log.specs.Logs.{Log}
-use Rattle.mk_log.specs.Reading.{IsRead}
-use Rattle.mk_race.specs.Serialised.{IsOrder, IsOrderOn, IsRunOf, IsWhole}
+use Rattle.mk_log.specs.Reading.{IsLogRead}
+use Rattle.mk_race.specs.Serialised.{IsCompleteLog, IsLogOrder, IsOrderOn, IsRunOf}
 use Rattle.mk_race.specs.declared.preparing.Prepared.{Prepared}
 use Rattle.mk_race.specs.declared.serialising.Ordered.{Ordered}
 
@@ -22,14 +22,14 @@ AreListed jobs listed = (n : ℕ) → n < node_count jobs → is_listed jobs n �
 
 module _ (jobs : Jobs) (listed : List Name) (tie : Bool) (limit : ℕ) (log : Log) where
   -- what was replayed is a run
-  pub run_of : (files : Files) (complete : Bool) → IsReplayed jobs (has same_name listed) tie limit log.store log.events files complete → IsRunOf jobs listed limit tie log
+  pub run_of : (files : StoredFiles) (complete : Bool) → IsReplayed jobs (has same_name listed) tie limit log.store log.events files complete → IsRunOf jobs listed limit tie log
   run_of files complete replayed = record { agrees = replayed.agrees; run = replayed.run }
 
   -- and where it is complete, a whole one
-  pub whole_of : (files : Files) (complete : Bool) → IsReplayed jobs (has same_name listed) tie limit log.store log.events files complete → IsTrue complete → IsWhole jobs listed limit tie log
+  pub whole_of : (files : StoredFiles) (complete : Bool) → IsReplayed jobs (has same_name listed) tie limit log.store log.events files complete → IsTrue complete → IsCompleteLog jobs listed limit tie log
   whole_of files complete replayed is = record { is_run = run_of files complete replayed; complete = replayed.whole.0 is }
 
-  pub whole_run : IsWhole jobs listed limit tie log → IsWholeRun jobs tie (store_of log.store) (past_of log.events)
+  pub whole_run : IsCompleteLog jobs listed limit tie log → IsWholeRun jobs tie (store_of log.store) (past_of log.events)
   whole_run whole = record { limit = limit; run = whole.is_run.run; complete = whole.complete }
 
   -- its files agree with the jobs
@@ -37,22 +37,22 @@ module _ (jobs : Jobs) (listed : List Name) (tie : Bool) (limit : ℕ) (log : Lo
   agreeing all agrees n inside = agrees (name_of jobs n) ∙ sym (all n inside)
 
 -- the same log, of which the files were copied
-pub replayed_log : (jobs : Jobs) (listed : List Name) (tie : Bool) (limit : ℕ) (inside log : Log) (store files : Files) (complete : Bool)
+pub replayed_log : (jobs : Jobs) (listed : List Name) (tie : Bool) (limit : ℕ) (inside log : Log) (store files : StoredFiles) (complete : Bool)
     → inside ≡ log → store ≡ inside.store → IsReplayed jobs (has same_name listed) tie limit store inside.events files complete
     → IsReplayed jobs (has same_name listed) tie limit log.store log.events files complete
 replayed_log jobs listed tie limit inside log store files complete same copied replayed =
     subst (λ (l : Log). IsReplayed jobs (has same_name listed) tie limit l.store l.events files complete) same
-    (subst (λ (s : Files). IsReplayed jobs (has same_name listed) tie limit s inside.events files complete) copied replayed)
+    (subst (λ (s : StoredFiles). IsReplayed jobs (has same_name listed) tie limit s inside.events files complete) copied replayed)
 
 -- a halt of the log is one of its order
 pub order_unread : (prepared : Prepared) (log : List ℕ) (limit : ℕ) (tie : Bool) (halt : Halt)
-    → HaltsAmong halt (IsRead prepared.jobs prepared.root log) → HaltsAmong halt (IsOrderOn prepared log limit tie)
+    → HaltsAmong halt (IsLogRead prepared.jobs prepared.root log) → HaltsAmong halt (IsOrderOn prepared log limit tie)
 order_unread prepared log limit tie halts.Memory h = tt
 order_unread prepared log limit tie (halts.Fault reported) h = (Err reported, h, refl)
 
 -- what comes of the log is what comes of its text
 pub order_on : (prepared : Prepared) (log : List ℕ) (limit : ℕ) (tie : Bool) (read : Log) (result : Result Ordered Halt)
-    → IsRead prepared.jobs prepared.root log (Ok read) → Answers result (IsOrder prepared.jobs prepared.listing limit tie read)
+    → IsLogRead prepared.jobs prepared.root log (Ok read) → Answers result (IsLogOrder prepared.jobs prepared.listing limit tie read)
     → Answers result (IsOrderOn prepared log limit tie)
 order_on prepared log limit tie read (Ok order) is h = (Ok read, is, h)
 order_on prepared log limit tie read (Err halts.Memory) is h = tt

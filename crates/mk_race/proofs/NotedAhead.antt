@@ -1,18 +1,18 @@
 -- The jobs of a build whose listing and footprints were read ahead, with its footprints that lie unused.
-use Rattle.std.proofs.Common.{◌≡◌, ◌∙◌, ℕ, Bool, IfOk, List, [], Ok, Err, Option, Some, Result, ap, refl, subst, sym}
+use Rattle.std.proofs.Common.{◌≡◌, ◌∙◌, ℕ, Bool, IfOk, List, [], Ok, Err, Option, Result, ap, refl, subst, sym}
 use Rattle.mk_name.specs.Gives.{Answers, HaltsAmong}
 use Rattle.mk_name.specs.Names.{Name}
 use Rattle.mk_name.specs.Reported.{Reported}
 use Rattle.mk_name.specs.declared.fault.Halt.{Halt}
 use Rattle.mk_name.specs.declared.fault.Halt.TheVariants as halts
+use Rattle.mk_text.specs.Spelling.{root_of}
 use Rattle.mk_jobs.specs.Jobs.{Jobs}
-use Rattle.mk_foot.specs.Footprints.{Footprints, IsRead}
-use Rattle.mk_race.specs.Parts.{AreReadFrom, IsPlannedWith, texts_with}
-use Rattle.mk_race.specs.Stages.{IsPlanned, IsPrepared, Texts, Then, with_jobs}
+use Rattle.mk_foot.specs.Footprints.{AreFootprintsRead, Footprints}
+use Rattle.mk_read.specs.declared.input.Build.{Build}
+use Rattle.mk_race.specs.Parts.{ForAllRead, IsListedFrom, IsPlannedWith}
+use Rattle.mk_race.specs.Stages.{IsPlanned, IsPrepared, Texts, Then, texts_with, with_jobs}
 use Rattle.mk_race.specs.Unused.{AreNotedOf, AreNotedOn, IsNoted, IsNotedBy, IsNotedWith, WereRead}
-use Rattle.mk_race.specs.declared.input.Settings.{Settings}
 use Rattle.mk_race.specs.declared.planning.Planned.{Planned}
-use Rattle.mk_race.specs.declared.preparing.Prepared.{Prepared}
 use Rattle.mk_race.specs.declared.unused.Noted.{Noted}
 use Rattle.mk_race.specs.declared.unused.Unused.{Unused}
 use Rattle.mk_race.proofs.Ahead.{planned_from, planned_there}
@@ -21,7 +21,7 @@ use Rattle.mk_race.proofs.Noting.{prepared_by}
 module _ (texts : Texts) (lines : List ℕ) (planned : Planned) (answer : Result Noted Reported) where
   -- what is said of footprints that were read ahead is said of the text that they were read from
   found_there : (read : Result Footprints Reported) (found : Result (Jobs × Option Unused) Reported)
-      → IsPlanned texts (Ok planned) → IsRead planned.root lines read → Then read (AreNotedOf planned.book planned.plan) found
+      → IsPlanned texts (Ok planned) → AreFootprintsRead planned.root lines read → Then read (AreNotedOf planned.book planned.plan) found
       → Then found (λ f a. a ≡ Ok (record { prepared = with_jobs planned f.0; unused = f.1 })) answer → IsNoted texts lines answer
   found_there (Ok read) (Ok found) is r on so =
       subst (λ (a : Result Noted Reported). IsNoted texts lines a) (sym so) ((Ok planned, is, (Ok found.0, (Ok read, r, on.0), refl)), (read, r, on.1))
@@ -33,48 +33,39 @@ module _ (texts : Texts) (lines : List ℕ) (planned : Planned) (answer : Result
       subst (λ (a : Result Noted Reported). IsNoted texts lines a) (sym ends) (Ok planned, is, (Err fault, (Err fault, r, refl), refl))
 
 module _ (texts : Texts) (lines : List ℕ) (listed : Result (List Name) Reported) (read : Result Footprints Reported)
-    (from : AreReadFrom texts lines listed read) where
+    (from : IsListedFrom texts listed) (found : (root : List ℕ) → root_of texts.root ≡ Ok root → AreFootprintsRead root lines read) where
   -- so a build of what was read ahead is a build of the texts
   noted_there : (answer : Result Noted Reported) → IsNotedWith texts listed read answer → IsNoted texts lines answer
   noted_there answer (Ok planned, is, more) =
-      found_there texts lines planned answer read more.0 (planned_there texts listed from.listing (Ok planned) is)
-      (from.footprints planned.root (planned_from texts listed planned is).0) more.1 more.2
+      found_there texts lines planned answer read more.0 (planned_there texts listed from (Ok planned) is)
+      (found planned.root (planned_from texts listed planned is).0) more.1 more.2
   noted_there answer (Err reported, is, so) =
-      subst (λ (a : Result Noted Reported). IsNoted texts lines a) (sym so) (Err reported, planned_there texts listed from.listing (Err reported) is, refl)
+      subst (λ (a : Result Noted Reported). IsNoted texts lines a) (sym so) (Err reported, planned_there texts listed from (Err reported) is, refl)
 
   answers_noted : (result : Result Noted Halt) → Answers result (IsNotedWith texts listed read) → Answers result (IsNoted texts lines)
   answers_noted (Ok noted) is = noted_there (Ok noted) is
   answers_noted (Err halts.Memory) is = tt
   answers_noted (Err (halts.Fault reported)) is = noted_there (Err reported) is
 
-  -- and its jobs are those of the texts
-  pub jobs_there : (noted : Noted) → IsNotedWith texts listed read (Ok noted) → IsPrepared texts lines (Ok noted.prepared)
-  jobs_there noted is = (noted_there (Ok noted) is).0
+-- so it is of all that a build was read from
+pub build_noted : (build : Build) (result : Result Noted Halt) → Answers result (IsNotedWith (texts_with build.input []) build.listing build.footprints)
+    → ForAllRead build (λ texts lines. Answers result (IsNoted texts lines))
+build_noted build result is texts lines from =
+    let there : Answers result (IsNotedWith (texts_with build.input texts.listing) build.listing build.footprints) = is in
+    answers_noted texts lines build.listing build.footprints from.listing from.footprints result
+    (subst (λ (t : Texts). Answers result (IsNotedWith t build.listing build.footprints)) (sym from.texts_are) there)
 
-  pub halts_there : (halt : Halt) → HaltsAmong halt (IsNotedWith texts listed read) → HaltsAmong halt (IsPrepared texts lines)
-  halts_there halts.Memory is = tt
-  halts_there (halts.Fault reported) is = noted_there (Err reported) is
+-- the jobs of what was noted are those of the build
+pub build_prepared : (build : Build) (strict : Bool) (result : Result Noted Halt)
+    → ForAllRead build (λ texts lines. Answers result (IsNotedBy strict texts lines))
+    → IfOk result (λ noted. ForAllRead build (λ texts lines. IsPrepared texts lines (Ok noted.prepared)))
+build_prepared build strict (Ok noted) is = λ texts lines from. prepared_by texts lines strict (Ok noted) (is texts lines from)
+build_prepared build strict (Err halt) is = tt
 
-module _ (settings : Settings) (base makefile : List ℕ) (listed : Result (List Name) Reported) (read : Result Footprints Reported) where
-  -- what was read ahead says nothing of the listing of the texts
-  pub parts_noted : (given : Texts) (result : Result Noted Halt) → given ≡ texts_with settings base makefile []
-      → Answers result (IsNotedWith given listed read)
-      → (listing lines : List ℕ) → AreReadFrom (texts_with settings base makefile listing) lines listed read
-      → Answers result (IsNoted (texts_with settings base makefile listing) lines)
-  parts_noted given result same is listing lines from =
-      let there : Answers result (IsNotedWith (texts_with settings base makefile []) listed read) =
-      subst (λ (texts : Texts). Answers result (IsNotedWith texts listed read)) same is in
-      answers_noted (texts_with settings base makefile listing) lines listed read from result there
-
-  -- the jobs of what was noted are those of the build
-  pub parts_prepared_by : (strict : Bool) (result : Result Noted Halt)
-      → ((listing lines : List ℕ) → AreReadFrom (texts_with settings base makefile listing) lines listed read
-      → Answers result (IsNotedBy strict (texts_with settings base makefile listing) lines))
-      → IfOk result (λ noted. (listing lines : List ℕ) → AreReadFrom (texts_with settings base makefile listing) lines listed read
-      → IsPrepared (texts_with settings base makefile listing) lines (Ok noted.prepared))
-  parts_prepared_by strict (Ok noted) is = λ listing lines from.
-      prepared_by (texts_with settings base makefile listing) lines strict (Ok noted) (is listing lines from)
-  parts_prepared_by strict (Err halt) is = tt
+-- and a halt of it is one of the build
+pub halts_prepared : (texts : Texts) (lines : List ℕ) (halt : Halt) → HaltsAmong halt (IsNoted texts lines) → HaltsAmong halt (IsPrepared texts lines)
+halts_prepared texts lines halts.Memory is = tt
+halts_prepared texts lines (halts.Fault reported) is = is
 
 -- a halt of the plan is one of the whole
 pub not_planned : (texts : Texts) (listed : Result (List Name) Reported) (read : Result Footprints Reported) (halt : Halt)
@@ -111,18 +102,3 @@ pub noted_were_read : (texts : Texts) (listed : Result (List Name) Reported) (re
     → Answers result (IsNotedWith texts listed read) → IfOk result (λ noted. WereRead listed read noted.prepared)
 noted_were_read texts listed read (Ok noted) is = were_read texts listed read noted is
 noted_were_read texts listed read (Err halt) is = tt
-
--- so a copy of the footprints was read from the same texts
-pub read_again : (texts : Texts) (listed : Result (List Name) Reported) (read : Result Footprints Reported) (prepared : Prepared) (copy : Option Footprints)
-    (again : Footprints) (lines : List ℕ) → WereRead listed read prepared → IfOk read (λ found. copy ≡ Some found) → copy ≡ Some again
-    → AreReadFrom texts lines listed read → AreReadFrom texts lines (Ok prepared.listing) (Ok again)
-read_again texts listed read prepared copy again lines (listing, (found, is)) same some from =
-    let alike : found ≡ again = inside (sym (subst (λ (r : Result Footprints Reported). IfOk r (λ f. copy ≡ Some f)) is same) ∙ some) in
-    let read_is : read ≡ Ok again = is ∙ ap (λ (f : Footprints). Ok f) alike in
-    record {
-      listing = λ root rooted. from.listing root rooted ∙ listing;
-      footprints = λ root rooted. subst (λ (r : Result Footprints Reported). IsRead root lines r) read_is (from.footprints root rooted);
-    }
-  where
-    inside : {x y : Footprints} → Some x ≡ Some y → x ≡ y
-    inside e = cc

@@ -6,7 +6,7 @@ use Rattle.mk_name.specs.declared.fault.Source.TheVariants as sources
 use Rattle.mk_text.specs.Listing.{listing_of}
 use Rattle.mk_lines.specs.LogicalLines.{logical_lines}
 use Rattle.mk_text.specs.Spelling.{root_of}
-use Rattle.mk_include.specs.Includes.{Texts as Included, includes_of}
+use Rattle.mk_include.specs.Includes.{IncludeTexts, includes_of}
 use Rattle.mk_macro.specs.Macros.{Macros}
 use Rattle.mk_macro.specs.Operands.{operand_macros}
 use Rattle.mk_rules.specs.Book.{Book}
@@ -45,14 +45,14 @@ any_agree stage next one other once on a b = pair_agree a.0 b.0 next one other (
 
 -- ---- the stages
 
-book_once : (texts : Texts) (root : List ℕ) (included : Included) (macros : Macros) (one other : Result Book Reported)
+book_once : (texts : Texts) (root : List ℕ) (included : IncludeTexts) (macros : Macros) (one other : Result Book Reported)
     → IsBookOf texts root included macros one → IsBookOf texts root included macros other → Agree one other
 book_once texts root included macros one other =
     then_agree (reported_in sources.Base (logical_lines texts.base)) _ one other
     (λ base. then_agree (reported_in sources.Makefile (logical_lines texts.makefile)) _ one other
     (λ makefile a b. agree_same one other (say_once root included macros (all_lines base makefile) one other a.0 b.0 a.1 b.1).0))
 
-graph_once : (texts : Texts) (root : List ℕ) (goals : List Name) (included : Included) (macros : Macros) (listed : List Name) (one other : Result Graphed Reported)
+graph_once : (texts : Texts) (root : List ℕ) (goals : List Name) (included : IncludeTexts) (macros : Macros) (listed : List Name) (one other : Result Graphed Reported)
     → IsGraphed texts root goals included macros listed one → IsGraphed texts root goals included macros listed other → Agree one other
 graph_once texts root goals included macros listed one other =
     any_agree _ _ one other (book_once texts root included macros)

@@ -19,8 +19,8 @@ use Rattle.mk_text.specs.Listing.{put_among}
 use Rattle.mk_race.specs.Again.{IsAlike, IsAlikeIfAny, IsChangeWith, KeepsNode, product_name, product_names}
 use Rattle.mk_race.specs.Parts.{IsPlannedWith}
 use Rattle.mk_race.specs.Stages.{Texts}
-use Rattle.mk_race.specs.declared.again.Change.{Change}
-use Rattle.mk_race.specs.declared.again.Change.TheVariants as changes
+use Rattle.mk_race.specs.declared.again.BuildChange.{BuildChange}
+use Rattle.mk_race.specs.declared.again.BuildChange.TheVariants as changes
 
 -- the number of a name is below that of the nodes
 pub number_inside : (nodes : List Node) (x : Name) (o : Option ℕ) (m : ℕ) → o ≡ number_of (names_of nodes) x → o ≡ Some m → m < length nodes
@@ -91,7 +91,7 @@ kept_if jobs nodes n m x o result is named some alike =
     )
 
 -- a build whose texts are refused is a change
-pub refused_is : (texts : Texts) (listed : List Name) (jobs : Jobs) (halt : Halt) (fault : Reported) (change : Option Change)
+pub refused_is : (texts : Texts) (listed : List Name) (jobs : Jobs) (halt : Halt) (fault : Reported) (change : Option BuildChange)
     → HaltsAmong halt (IsPlannedWith texts (Ok listed)) → halt ≡ Fault fault → change ≡ Some changes.Refused → IsChangeWith texts listed jobs change
 refused_is texts listed jobs halt fault change h is refused =
     (Err fault, subst (λ (x : Halt). HaltsAmong x (IsPlannedWith texts (Ok listed))) is h, refused)

@@ -5,12 +5,12 @@ use Rattle.mk_name.specs.Reported.{Reported}
 use Rattle.mk_jobs.specs.Jobs.{Jobs, is_phony, maker_of, name_of, node_count, prerequisites_of}
 use Rattle.mk_jobs.specs.Numbered.{number_of}
 use Rattle.mk_jobs.specs.Plan.{Node, names_of, node_at}
-use Rattle.mk_stale.specs.Watching.{makes_own}
+use Rattle.mk_missing.specs.Watching.{makes_own}
 use Rattle.mk_text.specs.Listing.{put_among}
 use Rattle.mk_race.specs.Parts.{IsPlannedWith}
 use Rattle.mk_race.specs.Stages.{Texts}
-use Rattle.mk_race.specs.declared.again.Change.{Change}
-use Rattle.mk_race.specs.declared.again.Change.TheVariants as changes
+use Rattle.mk_race.specs.declared.again.BuildChange.{BuildChange}
+use Rattle.mk_race.specs.declared.again.BuildChange.TheVariants as changes
 use Rattle.mk_race.specs.declared.planning.Planned.{Planned}
 use Rattle.mk_race.specs.declared.preparing.Prepared.{Prepared}
 
@@ -55,20 +55,20 @@ pub record IsFirstLost (jobs : Jobs) (nodes : List Node) (n : ℕ) : Type 0 wher
   pub before : (k : ℕ) → k < n → KeepsNode jobs nodes k
 
 -- the first change that a plan makes, if it makes one
-abbrev pub IsChangeTo : Jobs → List Node → Option Change → Type 0
+abbrev pub IsChangeTo : Jobs → List Node → Option BuildChange → Type 0
 IsChangeTo jobs nodes None = (n : ℕ) → n < node_count jobs → KeepsNode jobs nodes n
 IsChangeTo jobs nodes (Some (changes.Node n)) = IsFirstLost jobs nodes n
 IsChangeTo jobs nodes (Some changes.Refused) = ⊥
 
 -- that of a plan, if there is one; or there is none, since its texts are refused
-abbrev pub IsChangeBy : Jobs → Result Planned Reported → Option Change → Type 0
+abbrev pub IsChangeBy : Jobs → Result Planned Reported → Option BuildChange → Type 0
 IsChangeBy jobs (Ok planned) change = IsChangeTo jobs planned.plan.nodes change
 IsChangeBy jobs (Err reported) change = change ≡ Some changes.Refused
 
 -- that of the build that these texts mean, where these files are listed
-abbrev pub IsChangeWith : Texts → List Name → Jobs → Option Change → Type 0
+abbrev pub IsChangeWith : Texts → List Name → Jobs → Option BuildChange → Type 0
 IsChangeWith texts listed jobs change = (given : Result Planned Reported) × IsPlannedWith texts (Ok listed) given × IsChangeBy jobs given change
 
 -- that of a second build
-abbrev pub IsChange : Texts → Prepared → Option Change → Type 0
+abbrev pub IsChange : Texts → Prepared → Option BuildChange → Type 0
 IsChange texts prepared change = IsChangeWith texts (listed_again prepared.listing prepared.jobs) prepared.jobs change

@@ -14,8 +14,8 @@ use Rattle.mk_decide.specs.Pairs.{HasFewPairs, HasManyPairs, too_many}
 use Rattle.mk_decide.specs.ShortVerdicts.{HasManyNeighbours, IsShortVerdict}
 use Rattle.mk_decide.specs.declared.decision.Verdict.{Verdict}
 use Rattle.mk_decide.specs.declared.decision.Verdict.TheVariants as verdicts
-use Rattle.mk_report.specs.declared.answer.Answer.{Answer}
-use Rattle.mk_report.specs.declared.answer.Answer.TheVariants.{Safe, Race, Refused}
+use Rattle.mk_report.specs.declared.answer.BuildAnswer.{BuildAnswer}
+use Rattle.mk_report.specs.declared.answer.BuildAnswer.TheVariants.{Safe, Race, Refused}
 use Rattle.mk_race.specs.Stages.{IsPrepared, Texts}
 use Rattle.mk_race.specs.declared.preparing.Prepared.{Prepared}
 
@@ -30,32 +30,33 @@ HasTooMany false = HasManyPairs
 HasTooMany true = HasManyNeighbours
 
 -- what is decided of jobs, with them: safe by a certificate, or the trace of a race; else there are too many pairs, and they are refused
-abbrev pub IsDecided : Bool → Jobs → Answer → Type 0
+abbrev pub IsDecided : Bool → Jobs → BuildAnswer → Type 0
 IsDecided short jobs (Safe given chains) = (given ≡ jobs) × IsVerdictOn short jobs (verdicts.Safe chains)
 IsDecided short jobs (Race given trace) = (given ≡ jobs) × IsVerdictOn short jobs (verdicts.Race trace)
 IsDecided short jobs (Refused reported) = (reported ≡ too_many) × HasTooMany short jobs
 
--- a build is refused with its fault; without one its jobs are decided
-abbrev pub IsAnswerFor : Bool → Result Prepared Reported → Answer → Type 0
-IsAnswerFor short (Ok prepared) answer = IsDecided short prepared.jobs answer
-IsAnswerFor short (Err reported) answer = answer ≡ Refused reported
+-- a fault is answered by a refusal; a value goes on to its answer
+abbrev pub ThenAnswer : {X : Type 0} → Result X Reported → (X → BuildAnswer → Type 0) → BuildAnswer → Type 0
+ThenAnswer (Ok value) next answer = next value answer
+ThenAnswer (Err reported) next answer = answer ≡ Refused reported
 
 -- the answer of a build: the stages give its jobs or their first fault, and then it is answered
-abbrev pub IsAnswered : Bool → Texts → List ℕ → Answer → Type 0
-IsAnswered short texts footprints answer = (given : Result Prepared Reported) × IsPrepared texts footprints given × IsAnswerFor short given answer
+abbrev pub IsAnswered : Bool → Texts → List ℕ → BuildAnswer → Type 0
+IsAnswered short texts footprints answer =
+    (given : Result Prepared Reported) × IsPrepared texts footprints given × ThenAnswer given (λ prepared. IsDecided short prepared.jobs) answer
 
 -- the answer is that the build is safe
-abbrev pub IsSafe : Answer → Type 0
-IsSafe (Safe jobs chains) = Unit {0}
-IsSafe _ = ⊥
+abbrev pub IsSafeAnswer : BuildAnswer → Type 0
+IsSafeAnswer (Safe jobs chains) = Unit {0}
+IsSafeAnswer _ = ⊥
 
 -- the jobs that are handed out as safe are determinate
-abbrev pub HoldsOfSafe : Answer → Type 0
+abbrev pub HoldsOfSafe : BuildAnswer → Type 0
 HoldsOfSafe (Safe jobs chains) = IsDeterminate jobs
 HoldsOfSafe _ = Unit {0}
 
 -- the trace of a race holds of its jobs
-abbrev pub HoldsOfRace : Answer → Type 0
+abbrev pub HoldsOfRace : BuildAnswer → Type 0
 HoldsOfRace (Race jobs trace) = TraceHolds jobs trace
 HoldsOfRace _ = Unit {0}
 

@@ -7,19 +7,19 @@ use Rattle.mk_sched.specs.Events.{Event, store_after}
 use Rattle.mk_sched.specs.Programs.{Program}
 use Rattle.mk_sched.specs.Schedules.{stays}
 use Rattle.mk_sched.specs.Stores.{Store, bytes_of}
-use Rattle.mk_stale.specs.Incremental.{IsBuild, IsClean, IsKept, SameSources}
+use Rattle.mk_missing.specs.Incremental.{IsBuild, IsClean, IsKept, SameSources}
 use Rattle.mk_missing.specs.Unlisted.{unlisted_names}
 use Rattle.mk_missing.specs.Violations.{AreViolations, HasNone}
 use Rattle.mk_race.specs.Again.{IsChange}
 use Rattle.mk_race.specs.Judged.{NoScheduleShows}
 use Rattle.mk_race.specs.Listed.{AreFound}
 use Rattle.mk_race.specs.Stages.{IsPrepared, Texts, ThenAny}
-use Rattle.mk_race.specs.declared.again.Change.{Change}
+use Rattle.mk_race.specs.declared.again.BuildChange.{BuildChange}
 use Rattle.mk_race.specs.declared.missing.MissingList.{MissingList}
 use Rattle.mk_race.specs.declared.preparing.Prepared.{Prepared}
 
 -- what was prepared, with all races of its jobs, all their violations and this change; or more pairs clash than may
-abbrev pub IsMissingListOf : Prepared → Option Change → Result MissingList Reported → Type 0
+abbrev pub IsMissingListOf : Prepared → Option BuildChange → Result MissingList Reported → Type 0
 IsMissingListOf prepared change (Ok listed) =
     (listed.prepared ≡ prepared) × AreFound prepared.jobs (Ok listed.found) × AreViolations prepared.jobs prepared.listing listed.violations
     × (listed.change ≡ change)
@@ -27,7 +27,7 @@ IsMissingListOf prepared change (Err reported) = AreFound prepared.jobs (Err rep
 
 -- the same, with the change of a second build
 abbrev pub IsMissingListBy : Texts → Prepared → Result MissingList Reported → Type 0
-IsMissingListBy texts prepared answer = (change : Option Change) × IsChange texts prepared change × IsMissingListOf prepared change answer
+IsMissingListBy texts prepared answer = (change : Option BuildChange) × IsChange texts prepared change × IsMissingListOf prepared change answer
 
 -- the races and violations of a build: the stages give its jobs or their first fault, and then all are listed
 abbrev pub IsMissingList : Texts → List ℕ → Result MissingList Reported → Type 0

@@ -12,7 +12,7 @@ use Rattle.mk_sched.specs.Stores.{AgreesWithListing}
 use Rattle.mk_decide.specs.LeastTraces.{IsOfLeastRace}
 use Rattle.mk_decide.specs.Pairs.{HasFewPairs, HasManyPairs, too_many}
 use Rattle.mk_log.specs.Logs.{Log}
-use Rattle.mk_log.specs.Reading.{IsRead}
+use Rattle.mk_log.specs.Reading.{IsLogRead}
 use Rattle.mk_race.specs.Played.{IsNotAllowed}
 use Rattle.mk_race.specs.Stages.{IsPrepared, Texts, ThenAny}
 use Rattle.mk_race.specs.declared.preparing.Prepared.{Prepared}
@@ -26,7 +26,7 @@ pub record IsRunOf (jobs : Jobs) (listed : List Name) (limit : ℕ) (tie : Bool)
   pub run : IsRun jobs tie limit (store_of log.store) (past_of log.events)
 
 -- and in the run every node has passed
-pub record IsWhole (jobs : Jobs) (listed : List Name) (limit : ℕ) (tie : Bool) (log : Log) : Type 0 where
+pub record IsCompleteLog (jobs : Jobs) (listed : List Name) (limit : ℕ) (tie : Bool) (log : Log) : Type 0 where
   pub is_run : IsRunOf jobs listed limit tie log
   pub complete : IsComplete jobs (past_of log.events)
 
@@ -41,7 +41,7 @@ pub record IsInSerialOrder (jobs : Jobs) (log list : Log) : Type 0 where
 
 -- a complete run of race-free jobs, of which not too many pairs clash, with room for times, put in serial order
 pub record IsPutInOrder (jobs : Jobs) (listed : List Name) (limit : ℕ) (tie : Bool) (log list : Log) : Type 0 where
-  pub whole : IsWhole jobs listed limit tie log
+  pub whole : IsCompleteLog jobs listed limit tie log
   pub few : HasFewPairs jobs
   pub race_free : IsRaceFree jobs
   pub room : HasTimesLeft log
@@ -49,18 +49,18 @@ pub record IsPutInOrder (jobs : Jobs) (listed : List Name) (limit : ℕ) (tie : 
 
 -- what comes of a log: it has to be a run, that has to be complete, not too many pairs may clash, the jobs have to be race-free,
 -- and there has to be room
-abbrev pub IsOrder : Jobs → List Name → ℕ → Bool → Log → Result Ordered Reported → Type 0
-IsOrder jobs listed limit tie log (Ok (NotAllowed place refusal)) = IsNotAllowed jobs listed limit tie log place refusal
-IsOrder jobs listed limit tie log (Ok NotComplete) = IsRunOf jobs listed limit tie log × (IsComplete jobs (past_of log.events) → ⊥)
-IsOrder jobs listed limit tie log (Err reported) = IsWhole jobs listed limit tie log × (reported ≡ too_many) × HasManyPairs jobs
-IsOrder jobs listed limit tie log (Ok (Race trace)) = IsWhole jobs listed limit tie log × HasFewPairs jobs × IsOfLeastRace jobs trace
-IsOrder jobs listed limit tie log (Ok NoRoom) = IsWhole jobs listed limit tie log × HasFewPairs jobs × IsRaceFree jobs × (HasTimesLeft log → ⊥)
-IsOrder jobs listed limit tie log (Ok (Serial list)) = IsPutInOrder jobs listed limit tie log list
+abbrev pub IsLogOrder : Jobs → List Name → ℕ → Bool → Log → Result Ordered Reported → Type 0
+IsLogOrder jobs listed limit tie log (Ok (NotAllowed place refusal)) = IsNotAllowed jobs listed limit tie log place refusal
+IsLogOrder jobs listed limit tie log (Ok NotComplete) = IsRunOf jobs listed limit tie log × (IsComplete jobs (past_of log.events) → ⊥)
+IsLogOrder jobs listed limit tie log (Err reported) = IsCompleteLog jobs listed limit tie log × (reported ≡ too_many) × HasManyPairs jobs
+IsLogOrder jobs listed limit tie log (Ok (Race trace)) = IsCompleteLog jobs listed limit tie log × HasFewPairs jobs × IsOfLeastRace jobs trace
+IsLogOrder jobs listed limit tie log (Ok NoRoom) = IsCompleteLog jobs listed limit tie log × HasFewPairs jobs × IsRaceFree jobs × (HasTimesLeft log → ⊥)
+IsLogOrder jobs listed limit tie log (Ok (Serial list)) = IsPutInOrder jobs listed limit tie log list
 
 -- the log below the root, and then what comes of it
 abbrev pub IsOrderOn : Prepared → List ℕ → ℕ → Bool → Result Ordered Reported → Type 0
 IsOrderOn prepared log limit tie =
-    ThenAny (IsRead prepared.jobs prepared.root log) (λ read. IsOrder prepared.jobs prepared.listing limit tie read)
+    ThenAny (IsLogRead prepared.jobs prepared.root log) (λ read. IsLogOrder prepared.jobs prepared.listing limit tie read)
 
 -- with that go the jobs
 abbrev pub IsSerialisedOn : Prepared → List ℕ → ℕ → Bool → Result Serialised Reported → Type 0
@@ -88,7 +88,7 @@ IsLawful jobs tie log NoRoom = Unit {0}
 -- it is the same build as the log of this text on the jobs of a build
 pub record IsLawfulOn (prepared : Prepared) (log : List ℕ) (tie : Bool) (order : Ordered) : Type 0 where
   pub read : Log
-  pub is_read : IsRead prepared.jobs prepared.root log (Ok read)
+  pub is_read : IsLogRead prepared.jobs prepared.root log (Ok read)
   pub lawful : IsLawful prepared.jobs tie read order
 
 -- and the jobs are those of these texts

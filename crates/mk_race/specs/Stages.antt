@@ -8,7 +8,7 @@ use Rattle.mk_text.specs.Listing.{listing_of}
 use Rattle.mk_lines.specs.LogicalLine.{LogicalLine}
 use Rattle.mk_lines.specs.LogicalLines.{logical_lines}
 use Rattle.mk_text.specs.Spelling.{root_of}
-use Rattle.mk_include.specs.Includes.{Texts as Included, includes_of}
+use Rattle.mk_include.specs.Includes.{IncludeTexts, includes_of}
 use Rattle.mk_macro.specs.Macros.{Macros}
 use Rattle.mk_macro.specs.Operands.{operand_macros}
 use Rattle.mk_rules.specs.Book.{Book, targets_of}
@@ -18,10 +18,10 @@ use Rattle.mk_graph.specs.Answer.{IsAnswer}
 use Rattle.mk_graph.specs.Answer.{goals_of as goals_or_default}
 use Rattle.mk_jobs.specs.Plan.{Plan}
 use Rattle.mk_foot.specs.Attached.{attached}
-use Rattle.mk_foot.specs.Footprints.{Footprints, IsRead}
+use Rattle.mk_foot.specs.Footprints.{AreFootprintsRead, Footprints}
 use Rattle.mk_jobs.specs.Jobs.{Jobs, is_listed, name_of, node_count}
+use Rattle.mk_read.specs.declared.input.Input.{Input}
 use Rattle.mk_race.specs.Settings.{goals_of}
-use Rattle.mk_race.specs.declared.input.Input.{Input}
 use Rattle.mk_race.specs.declared.planning.Graphed.{Graphed}
 use Rattle.mk_race.specs.declared.planning.Planned.{Planned}
 use Rattle.mk_race.specs.declared.preparing.Prepared.{Prepared}
@@ -41,7 +41,7 @@ reported_in source (Ok lines) = Ok lines
 reported_in source (Err reported) = Err (record reported { source = source })
 
 -- the book that the lines of the base and of the makefile say, with these texts for their include lines and these macros before them
-abbrev pub IsBook : List ℕ → Included → Macros → List LogicalLine → List LogicalLine → Result Book Reported → Type 0
+abbrev pub IsBook : List ℕ → IncludeTexts → Macros → List LogicalLine → List LogicalLine → Result Book Reported → Type 0
 IsBook root included macros base makefile answer = (after : Macros) × MakefilesSay root included macros (all_lines base makefile) answer after
 
 -- the texts that a build is planned from
@@ -53,24 +53,25 @@ pub record Texts : Type 0 where
   pub includes : List (List ℕ × List ℕ)
   pub listing : List ℕ
 
-abbrev pub texts_of : Input → Texts
-texts_of input = record {
+-- those of a build with this input and this listing
+abbrev pub texts_with : Input → List ℕ → Texts
+texts_with input listing = record {
   root = input.root.now;
   operands = map (λ operand. operand.now) input.operands.now;
   base = input.base.now;
   makefile = input.makefile.now;
   includes = map (λ pair. (pair.0.now, pair.1.now)) input.includes.now;
-  listing = input.listing.now;
+  listing = listing;
 }
 
 -- the book of the base and of the makefile, with these texts for their include lines and these macros before them
-abbrev pub IsBookOf : Texts → List ℕ → Included → Macros → Result Book Reported → Type 0
+abbrev pub IsBookOf : Texts → List ℕ → IncludeTexts → Macros → Result Book Reported → Type 0
 IsBookOf texts root included macros =
     Then (reported_in sources.Base (logical_lines texts.base)) (λ base.
     Then (reported_in sources.Makefile (logical_lines texts.makefile)) (λ makefile. IsBook root included macros base makefile))
 
 -- the book, and then the plan of what the goals need
-abbrev pub IsGraphed : Texts → List ℕ → List Name → Included → Macros → List Name → Result Graphed Reported → Type 0
+abbrev pub IsGraphed : Texts → List ℕ → List Name → IncludeTexts → Macros → List Name → Result Graphed Reported → Type 0
 IsGraphed texts root goals included macros listed =
     ThenAny (IsBookOf texts root included macros) (λ book. ThenAny (IsAnswer book listed (goals_or_default book goals)) (λ plan answer.
     answer ≡ Ok (record { book = book; plan = plan })))
@@ -96,7 +97,7 @@ AreJobs plan book read answer = answer ≡ attached plan (targets_of book.rules)
 
 -- the footprints, and then the jobs of them and a plan
 abbrev pub IsJobs : List ℕ → Book → Plan → List ℕ → Result Jobs Reported → Type 0
-IsJobs root book plan footprints = ThenAny (IsRead root footprints) (AreJobs plan book)
+IsJobs root book plan footprints = ThenAny (AreFootprintsRead root footprints) (AreJobs plan book)
 
 -- with the jobs go the root and the listing
 abbrev pub with_jobs : Planned → Jobs → Prepared
@@ -107,6 +108,12 @@ abbrev pub IsPrepared : Texts → List ℕ → Result Prepared Reported → Type
 IsPrepared texts footprints =
     ThenAny (IsPlanned texts) (λ planned. ThenAny (IsJobs planned.root planned.book planned.plan footprints) (λ jobs answer.
     answer ≡ Ok (with_jobs planned jobs)))
+
+-- what is so of all texts and footprints that mean a build of these jobs
+abbrev pub ForAllBuilds : Jobs → (Texts → List ℕ → Type 0) → Type 0
+ForAllBuilds jobs Holds =
+    (prepared : Prepared) (texts : Texts) (footprints : List ℕ) → prepared.jobs ≡ jobs → IsPrepared texts footprints (Ok prepared)
+    → Holds texts footprints
 
 -- the jobs are listed exactly where the listing has their names
 abbrev pub AreListed : Prepared → Type 0

@@ -1,11 +1,9 @@
--- The answers of a text of tasks, and what they say of its runs where the tasks are safe.
+-- The jobs of a text of tasks, and what is said of their runs where the tasks are safe.
 use Rattle.std.specs.Prelude.{ℕ, ◌≡◌, ◌<◌, Bool, true, List, Result, Ok, Err}
 use Rattle.mk_name.specs.Reported.{Reported}
 use Rattle.mk_jobs.specs.Jobs.{Jobs, node_count}
-use Rattle.mk_proof.specs.ProofText.{IsRead}
+use Rattle.mk_proof.specs.ProofText.{IsProofRead}
 use Rattle.mk_proof.specs.declared.proof.Proof.{Proof}
-use Rattle.mk_report.specs.declared.answer.Answer.{Answer}
-use Rattle.mk_report.specs.declared.answer.Answer.TheVariants.{Refused}
 use Rattle.mk_sched.specs.Events.{Event, is_started, phase}
 use Rattle.mk_sched.specs.Laws.{SameOutcome}
 use Rattle.mk_sched.specs.Runs.{IsComplete, IsRun, RecipesAgree}
@@ -14,11 +12,7 @@ use Rattle.mk_sched.specs.Stores.{Store}
 use Rattle.mk_text.specs.Spelling.{root_of}
 use Rattle.mk_task.specs.JobsOf.{jobs_in}
 use Rattle.mk_task.specs.Started.{HasNoOwnNames}
-use Rattle.mk_race.specs.Judged.{IsDecided}
-use Rattle.mk_race.specs.Listed.{IsListedOf}
-use Rattle.mk_race.specs.Stages.{Then}
-use Rattle.mk_race.specs.Verified.{IsVerifiedOn, Shows}
-use Rattle.mk_race.specs.declared.listing.RaceList.{RaceList}
+use Rattle.mk_race.specs.Verified.{Shows}
 
 -- the jobs that a text of tasks means below the root of a path
 abbrev pub below : List ℕ → Result (List ℕ) Reported → Result Jobs Reported
@@ -29,10 +23,9 @@ below text (Err fault) = Err fault
 abbrev pub tasked : List ℕ → List ℕ → Result Jobs Reported
 tasked root text = below text (root_of root)
 
--- tasks are refused with their fault; without one their jobs are decided
-abbrev pub IsAnswerOfTasks : Bool → Result Jobs Reported → Answer → Type 0
-IsAnswerOfTasks short (Ok jobs) answer = IsDecided short jobs answer
-IsAnswerOfTasks short (Err reported) answer = answer ≡ Refused reported
+-- what is so of all roots and texts of tasks that mean these jobs
+abbrev pub ForAllTasks : Jobs → (List ℕ → List ℕ → Type 0) → Type 0
+ForAllTasks jobs Holds = (root text : List ℕ) → tasked root text ≡ Ok jobs → Holds root text
 
 -- from one store that has no task's own name: each complete schedule of the jobs has the outcome of a complete one that stays within
 -- the footprints, if their recipes agree
@@ -55,18 +48,10 @@ pub record NoScheduleOfTasksShows (root text : List ℕ) : Type 0 where
   pub start : EachStarts jobs
   pub alike : TasksRunAlike jobs
 
--- the jobs of tasks, and then a proof on them
-abbrev pub IsVerifiedOf : Bool → List ℕ → List ℕ → List ℕ → Result Bool Reported → Type 0
-IsVerifiedOf short root text proof = Then (tasked root text) (λ jobs. IsVerifiedOn short jobs proof)
-
 -- the text of tasks means jobs, that of a proof means a proof, and what this shows is so of these jobs
 pub record ProofOfTasksShows (root text proof_text : List ℕ) : Type 0 where
   pub jobs : Jobs
   pub proof : Proof
   pub given : tasked root text ≡ Ok jobs
-  pub read : IsRead proof_text (Ok proof)
+  pub read : IsProofRead proof_text (Ok proof)
   pub shown : Shows jobs proof
-
--- the jobs of tasks, and then all their races
-abbrev pub AreTasksListed : List ℕ → List ℕ → Result RaceList Reported → Type 0
-AreTasksListed root text = Then (tasked root text) (λ jobs. IsListedOf jobs)

@@ -2,7 +2,7 @@
 use Rattle.std.specs.Prelude.{ℕ, ◌≡◌, List, None, Result, Ok}
 use Rattle.mk_name.specs.Names.{Name}
 use Rattle.mk_name.specs.Reported.{Reported}
-use Rattle.mk_due.specs.JobsOf.{jobs_in}
+use Rattle.mk_due.specs.JobsOf.{AreJobsIn}
 use Rattle.mk_jobs.specs.Jobs.{Jobs}
 use Rattle.mk_sched.specs.Schedules.{IsDeterminateFromOneRun}
 use Rattle.mk_text.specs.Listing.{listing_of}
@@ -19,7 +19,7 @@ tasks_with root listed jobs = record { root = root; listing = listed; jobs = job
 -- the root, the listing, and then the jobs that tasks mean with it
 abbrev pub IsPreparedBelow : List ℕ → List ℕ → List ℕ → Result Prepared Reported → Type 0
 IsPreparedBelow root listing tasks =
-    Then (root_of root) (λ root. Then (listing_of root listing) (λ listed. Then (jobs_in root listed tasks) (λ jobs answer.
+    Then (root_of root) (λ root. Then (listing_of root listing) (λ listed. ThenAny (AreJobsIn root listed tasks) (λ jobs answer.
     answer ≡ Ok (tasks_with root listed jobs))))
 
 -- the races and violations of tasks: they mean jobs or have a first fault, and then all are listed; their graph is what they say, so

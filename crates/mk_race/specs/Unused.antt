@@ -8,7 +8,7 @@ use Rattle.mk_name.specs.declared.fault.Source.TheVariants as sources
 use Rattle.mk_jobs.specs.Jobs.{Jobs, has_commands}
 use Rattle.mk_jobs.specs.Plan.{Node, Plan, node_at}
 use Rattle.mk_rules.specs.Book.{Book}
-use Rattle.mk_foot.specs.Footprints.{Footprints, IsRead, footprint_at}
+use Rattle.mk_foot.specs.Footprints.{AreFootprintsRead, Footprints, footprint_at}
 use Rattle.mk_race.specs.Parts.{IsPlannedWith}
 use Rattle.mk_race.specs.Stages.{AreJobs, IsPrepared, Texts, Then, ThenAny, with_jobs}
 use Rattle.mk_race.specs.declared.planning.Planned.{Planned}
@@ -43,7 +43,7 @@ AreNotedOf book plan read (Err reported) = AreJobs plan book read (Err reported)
 -- that of the nodes of a build whose footprints, which this text says, lie unused
 abbrev pub IsUnused : Prepared → List ℕ → Option Unused → Type 0
 IsUnused prepared text unused =
-    (read : Footprints) × IsRead prepared.root text (Ok read) × AreSaidBy prepared.jobs.plan.nodes (unused_in read prepared.jobs.plan.nodes) unused
+    (read : Footprints) × AreFootprintsRead prepared.root text (Ok read) × AreSaidBy prepared.jobs.plan.nodes (unused_in read prepared.jobs.plan.nodes) unused
 
 -- the jobs of a build with that; or its first fault
 abbrev pub IsNoted : Texts → List ℕ → Result Noted Reported → Type 0

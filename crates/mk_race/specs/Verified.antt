@@ -2,7 +2,7 @@
 use Rattle.std.specs.Prelude.{◌≡◌, ◌↔◌, ℕ, Bool, true, false, List, Result, Ok, Err, IsTrue}
 use Rattle.mk_name.specs.Reported.{Reported}
 use Rattle.mk_jobs.specs.Jobs.{Jobs}
-use Rattle.mk_proof.specs.ProofText.{IsRead}
+use Rattle.mk_proof.specs.ProofText.{IsProofRead}
 use Rattle.mk_proof.specs.declared.proof.Proof.{Proof}
 use Rattle.mk_proof.specs.declared.proof.Proof.TheVariants.{Certificate, Trace}
 use Rattle.mk_cert.specs.Certificates.{IsCertificate}
@@ -40,7 +40,7 @@ IsProofVerdict short jobs proof (Err reported) = ⊥
 
 -- the text of a proof, and then whether these jobs accept it
 abbrev pub IsVerifiedOn : Bool → Jobs → List ℕ → Result Bool Reported → Type 0
-IsVerifiedOn short jobs text = ThenAny (IsRead text) (λ proof. IsProofVerdict short jobs proof)
+IsVerifiedOn short jobs text = ThenAny (IsProofRead text) (λ proof. IsProofVerdict short jobs proof)
 
 -- the jobs of a build, and then a proof on them
 abbrev pub IsVerified : Bool → Texts → List ℕ → List ℕ → Result Bool Reported → Type 0
@@ -52,5 +52,5 @@ pub record ProofShows (texts : Texts) (footprints text : List ℕ) : Type 0 wher
   pub proof : Proof
   pub build : IsPrepared texts footprints (Ok prepared)
   pub only : (other : Prepared) → IsPrepared texts footprints (Ok other) → prepared ≡ other
-  pub read : IsRead text (Ok proof)
+  pub read : IsProofRead text (Ok proof)
   pub shown : Shows prepared.jobs proof

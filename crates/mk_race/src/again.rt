@@ -1,24 +1,24 @@
 //! Whether a second build, which finds what the first one made, is planned as the first.
-ghost use Rattle.std.specs.Prelude.{◌≡◌, ◌<◌, ◌↔◌, IfOk, IsTrue, OnOk, Some, length, map};
+ghost use Rattle.std.specs.Prelude.{◌≡◌, ◌<◌, ◌↔◌, [], IfOk, IsTrue, OnOk, Some, length, map};
 ghost use Rattle.mk_name.specs.Reported.{Reported};
 ghost use Rattle.mk_name.specs.declared.fault.Halt.TheVariants as halts;
 ghost use Rattle.mk_jobs.specs.Jobs as nodes;
 ghost use Rattle.mk_text.specs.Listing.{put_among};
 ghost use Rattle.mk_race.specs.Again as spec;
-ghost use Rattle.mk_race.specs.Stages.{texts_of};
+ghost use Rattle.mk_race.specs.Stages.{texts_with};
 
-use crate::input::Input;
-use crate::planning::plan_ahead;
+use crate::planning::plan_read;
 use crate::preparing::Prepared;
 use mk_jobs::jobs::Jobs;
 use mk_jobs::plan::Plan;
 use mk_name::fault::Halt;
+use mk_read::input::Input;
 use mk_text::listing::Listing;
 use std::alloc::{AllocError, Global};
 
 /// What a second build does otherwise than the first.
 #[derive(Clone, Copy, Debug)]
-pub enum Change {
+pub enum BuildChange {
     /// It lacks the node of this number, or makes it in another way.
     Node(u32),
     /// Its texts are refused.
@@ -26,41 +26,41 @@ pub enum Change {
 }
 
 /// The first change of a second build, if it has one: the build is planned again with the names of the products of these jobs among
-/// those that were listed. A product is a node that is not phony, and whose recipe may write its own file. The listing of the input
-/// counts for nothing. The only error is out of memory.
+/// those that were listed. A product is a node that is not phony, and whose recipe may write its own file. The only error is out of
+/// memory.
 pub(crate) fn change_of(
     alloc: Global,
     input: &Input<'_>,
     prepared: &Prepared,
-) -> Result<Option<Change>, AllocError>
-    ensures { IfOk result (spec.IsChange (texts_of input.now) prepared.now) }
+) -> Result<Option<BuildChange>, AllocError>
+    ensures { IfOk result (spec.IsChange (texts_with input.now []) prepared.now) }
 {
     let listing = listing_again(alloc, &prepared.listing, &prepared.jobs)?;
     change_with(alloc, input, listing, &prepared.jobs)
 }
 
-/// The first change of a build with this listing in place of its own, if it has one. The only error is out of memory.
+/// The first change of a build with this listing, if it has one. The only error is out of memory.
 fn change_with(
     alloc: Global,
     input: &Input<'_>,
     listing: Listing,
     jobs: &Jobs,
-) -> Result<Option<Change>, AllocError>
-    ensures { IfOk result (spec.IsChangeWith (texts_of input.now) listing jobs.now) }
+) -> Result<Option<BuildChange>, AllocError>
+    ensures { IfOk result (spec.IsChangeWith (texts_with input.now []) listing jobs.now) }
 {
-    match plan_ahead(alloc, input, Ok(listing)) {
+    match plan_read(alloc, input, Ok(listing)) {
         Ok(planned) => Ok(first_change(jobs, &planned.plan)),
         Err(halt) => refusal_of(halt),
     }
 }
 
 /// The change of a build whose texts are refused; out of memory is none.
-fn refusal_of(halt: Halt) -> Result<Option<Change>, AllocError>
+fn refusal_of(halt: Halt) -> Result<Option<BuildChange>, AllocError>
     ensures { IfOk result (λ change. (reported : Reported) × (halt ≡ halts.Fault reported)
-        × (change ≡ Some Change.Refused)) }
+        × (change ≡ Some BuildChange.Refused)) }
 {
     match halt {
-        Halt::Fault(_fault) => Ok(Some(Change::Refused)),
+        Halt::Fault(_fault) => Ok(Some(BuildChange::Refused)),
         Halt::Memory => Err(AllocError),
     }
 }
@@ -97,12 +97,12 @@ fn is_product(jobs: &Jobs, n: u32) -> bool
 }
 
 /// The first node of jobs that a plan does not keep.
-fn first_change(jobs: &Jobs, plan: &Plan) -> Option<Change>
+fn first_change(jobs: &Jobs, plan: &Plan) -> Option<BuildChange>
     ensures { spec.IsChangeTo jobs.now plan.now.nodes result }
 {
     for n in 0..jobs.count() {
         if !is_kept(jobs, plan, n) {
-            return Some(Change::Node(n));
+            return Some(BuildChange::Node(n));
         }
     }
     None

@@ -1,27 +1,22 @@
 //! The fix of a build: lines behind its makefile, which is then read and judged again.
-ghost use Rattle.std.specs.Prelude.{◌≡◌, IfOk, List, Ok, Some, ℕ};
+ghost use Rattle.std.specs.Prelude.{◌≡◌, IfOk, Ok, Some};
 ghost use Rattle.mk_name.specs.Gives.{Answers};
 ghost use Rattle.mk_fix.specs.Fixes.{IsFix};
 ghost use Rattle.mk_report.specs.FixText.{IsFixText};
 ghost use Rattle.mk_race.specs.Fixed.{HoldsOfFixed, HoldsOfJobs, HoldsOfTried, IsFixing, IsFixingOf, IsTried, IsTriedOf, with_lines};
-ghost use Rattle.mk_race.specs.Parts.{AreReadFrom, ForTextsRead, texts_with};
-ghost use Rattle.mk_race.specs.Stages.{IsPrepared, texts_of};
+ghost use Rattle.mk_race.specs.Parts.{ForAllRead};
+ghost use Rattle.mk_race.specs.Stages.{IsPrepared};
+ghost use Rattle.mk_race.specs.declared.preparing.Prepared.{Prepared as SpecPrepared};
 
-use crate::input::{Input, Settings};
-use crate::parts::input_without;
-use crate::preparing::{Prepared, prepared_ahead};
-use crate::unused::noted_ahead;
+use crate::preparing::{Prepared, prepare_read};
 use mk_decide::decision::is_race_free;
 use mk_fix::again::have_all;
 use mk_fix::fix::fix;
-use mk_foot::foot_reader::FootReader;
 use mk_foot::footprints::Footprints;
 use mk_jobs::jobs::Jobs;
 use mk_name::fault::{Fault, Halt};
-use mk_read::texts::text_below;
+use mk_read::input::{Build, Input};
 use mk_report::fixes::{FixLines, fix_lines};
-use mk_text::list_reader::ListReader;
-use mk_text::listing::Listing;
 use std::alloc::{AllocError, Global};
 
 /// What comes of a build that is to be fixed.
@@ -41,13 +36,6 @@ pub enum Fixing {
     },
 }
 
-/// What was read of a build, to judge it again.
-#[derive(Drop)]
-struct WasRead {
-    listing: Listing,
-    footprints: Footprints,
-}
-
 /// What comes of lines behind a makefile.
 #[derive(Drop)]
 enum Tried {
@@ -57,47 +45,20 @@ enum Tried {
     Unsafe(Option<Fault>),
 }
 
-/// The lines that fix a build: behind its makefile they give its jobs the edges of their fix (see [`fix`]), and nothing else.
-/// Where there are any it was read with them, and is safe. [`certify`](mk_decide::decision::certify) gives the certificate of the jobs.
-///
-/// The first fault is that of the jobs (see [`prepare`](crate::preparing::prepare)), and then `TooManyPairs` in the jobs at place 0,
-/// where more than 1,000,000 pairs of recipes clash. The only other error is out of memory.
-pub fn fix_build(alloc: Global, input: &Input<'_>) -> Result<Fixing, Halt>
-    ensures answer { Answers result (IsFixing (texts_of input.now) input.now.footprints.now) }
-    // The headline: where lines fix the build, no schedule of it shows in the files, with them behind its makefile.
-    ensures headline { IfOk result (HoldsOfFixed (texts_of input.now) input.now.footprints.now) }
-    ensures safe { IfOk result HoldsOfJobs }
-{
-    let listing = text_below::<ListReader>(alloc, input.root, input.listing)?;
-    let footprints = text_below::<FootReader>(alloc, input.root, input.footprints)?;
-    fix_ahead(alloc, input, listing, footprints)
-}
-
-/// The lines that fix a build that was prepared, of which these footprints were read, as [`fix_build`] gives them.
+/// The lines that fix a build of these jobs: behind its makefile they give the jobs the edges of their fix (see [`fix`]), and nothing else.
+/// Where there are any it was prepared with them, and is safe. [`certify`](mk_decide::decision::certify) gives the certificate of the jobs.
 ///
 /// The first fault is `TooManyPairs` in the jobs at place 0, where more than 1,000,000 pairs of recipes clash. The only other error
 /// is out of memory.
-pub fn fix_prepared(
-    alloc: Global,
-    settings: &Settings<'_>,
-    base: &[u8],
-    makefile: &[u8],
-    prepared: Prepared,
-    footprints: Footprints,
-) -> Result<Fixing, Halt>
-    ensures answer { (listed lines : List ℕ)
-        → AreReadFrom (texts_with settings.now base.now makefile.now listed) lines (Ok prepared.listing) (Ok footprints)
-        → IsPrepared (texts_with settings.now base.now makefile.now listed) lines (Ok prepared)
-        → Answers result (IsFixing (texts_with settings.now base.now makefile.now listed) lines) }
+pub fn fix_build(alloc: Global, build: Build<'_>, jobs: Jobs) -> Result<Fixing, Halt>
+    ensures answer { ForAllRead build.entry (λ texts lines. (prepared : SpecPrepared) → IsPrepared texts lines (Ok prepared)
+        → prepared.jobs ≡ jobs → Answers result (IsFixing texts lines)) }
     // The headline: where lines fix the build, no schedule of it shows in the files, with them behind its makefile.
-    ensures headline { IfOk result (λ fixing. (listed lines : List ℕ)
-        → AreReadFrom (texts_with settings.now base.now makefile.now listed) lines (Ok prepared.listing) (Ok footprints)
-        → IsPrepared (texts_with settings.now base.now makefile.now listed) lines (Ok prepared)
-        → HoldsOfFixed (texts_with settings.now base.now makefile.now listed) lines fixing) }
+    ensures headline { IfOk result (λ fixing. ForAllRead build.entry (λ texts lines. (prepared : SpecPrepared)
+        → IsPrepared texts lines (Ok prepared) → prepared.jobs ≡ jobs → HoldsOfFixed texts lines fixing)) }
     ensures safe { IfOk result HoldsOfJobs }
 {
-    let input = input_without(settings, base, makefile);
-    fix_with(alloc, &input, prepared, footprints)
+    fix_with(alloc, build, jobs)
 }
 
 /// A copy of footprints that were read, where they have no fault. The only error is out of memory.
@@ -113,40 +74,12 @@ pub fn copied(
     }
 }
 
-/// The lines that fix a build whose listing and footprints were read ahead; those of the input count for nothing.
-fn fix_ahead(
-    alloc: Global,
-    input: &Input<'_>,
-    listing: Result<Listing, Fault>,
-    footprints: Result<Footprints, Fault>,
-) -> Result<Fixing, Halt>
-    ensures answer { ForTextsRead (texts_of input.now) listing footprints
-        (λ texts lines. Answers result (IsFixing texts lines)) }
-    ensures headline { IfOk result (λ fixing. ForTextsRead (texts_of input.now) listing footprints
-        (λ texts lines. HoldsOfFixed texts lines fixing)) }
+/// The lines that fix a build of these jobs. Where they need no edge, nothing is read again.
+fn fix_with(alloc: Global, build: Build<'_>, jobs: Jobs) -> Result<Fixing, Halt>
+    ensures answer { ForAllRead build.entry (λ texts lines. (prepared : SpecPrepared) → IsPrepared texts lines (Ok prepared)
+        → prepared.jobs ≡ jobs → Answers result (IsFixingOf texts lines jobs)) }
     ensures safe { IfOk result HoldsOfJobs }
 {
-    let again = copied(alloc, &footprints)?;
-    let noted = noted_ahead(alloc, input, listing, footprints)?;
-    let Some(footprints) = again else {
-        unreachable!();
-    };
-    fix_with(alloc, input, noted.prepared, footprints)
-}
-
-/// The lines that fix a build that was prepared, of which these footprints were read. Where they need no edge, nothing is read
-/// again. Where more than 1,000,000 pairs of nodes clash the fault is `TooManyPairs` in the jobs, at place 0.
-fn fix_with(
-    alloc: Global,
-    input: &Input<'_>,
-    prepared: Prepared,
-    footprints: Footprints,
-) -> Result<Fixing, Halt>
-    ensures answer { ForTextsRead (texts_of input.now) (Ok prepared.listing) (Ok footprints)
-        (λ texts lines. IsPrepared texts lines (Ok prepared) → Answers result (IsFixingOf texts lines prepared.jobs)) }
-    ensures safe { IfOk result HoldsOfJobs }
-{
-    let Prepared { listing, jobs, .. } = prepared;
     let _count = jobs.count();
     let edges = fix(alloc, &jobs)?;
     if edges.as_slice().is_empty() {
@@ -155,28 +88,23 @@ fn fix_with(
             jobs,
         });
     }
-    let read = WasRead {
-        listing,
-        footprints,
-    };
-    Ok(with_edges(alloc, input, read, jobs, edges)?)
+    Ok(with_edges(alloc, build, jobs, edges)?)
 }
 
 /// The lines that give a build of these jobs these edges, which are their fix. The only error is out of memory.
 fn with_edges(
     alloc: Global,
-    input: &Input<'_>,
-    read: WasRead,
+    build: Build<'_>,
     jobs: Jobs,
     edges: Vec<(u32, u32)>,
 ) -> Result<Fixing, AllocError>
     requires { IsFix jobs edges.items }
-    ensures answer { IfOk result (λ fixing. ForTextsRead (texts_of input.now) (Ok read.listing) (Ok read.footprints)
+    ensures answer { IfOk result (λ fixing. ForAllRead build.entry
         (λ texts lines. IsFixingOf texts lines jobs (Ok fixing))) }
     ensures safe { IfOk result HoldsOfJobs }
 {
-    match fix_lines(alloc, &jobs, input.makefile, &edges) {
-        Ok(FixLines::Text(lines)) => with_text(alloc, input, read, jobs, edges, lines),
+    match fix_lines(alloc, &jobs, build.input.makefile, &edges) {
+        Ok(FixLines::Text(lines)) => with_text(alloc, build, jobs, edges, lines),
         Ok(FixLines::NoWord) => Ok(Fixing::NotFixed {
             jobs,
             edges,
@@ -195,19 +123,18 @@ fn with_edges(
 /// only error is out of memory.
 fn with_text(
     alloc: Global,
-    input: &Input<'_>,
-    read: WasRead,
+    build: Build<'_>,
     jobs: Jobs,
     edges: Vec<(u32, u32)>,
     lines: Vec<u8>,
 ) -> Result<Fixing, AllocError>
     requires fix { IsFix jobs edges.items }
-    requires says { IsFixText input.now.makefile.now jobs edges.items lines.items }
-    ensures answer { IfOk result (λ fixing. ForTextsRead (texts_of input.now) (Ok read.listing) (Ok read.footprints)
+    requires says { IsFixText build.input.makefile.now jobs edges.items lines.items }
+    ensures answer { IfOk result (λ fixing. ForAllRead build.entry
         (λ texts footprints. IsFixingOf texts footprints jobs (Ok fixing))) }
     ensures safe { IfOk result HoldsOfJobs }
 {
-    match try_lines(alloc, input, read, &jobs, &edges, &lines) {
+    match try_lines(alloc, build, &jobs, &edges, &lines) {
         Ok(Tried::Safe(new)) => Ok(Fixing::Fixed { lines, jobs: new }),
         Ok(Tried::Unsafe(refusal)) => Ok(Fixing::NotFixed {
             jobs,
@@ -221,18 +148,17 @@ fn with_text(
 /// What comes of a build with these lines behind its makefile, which say the fix of these jobs. The only error is out of memory.
 fn try_lines(
     alloc: Global,
-    input: &Input<'_>,
-    read: WasRead,
+    build: Build<'_>,
     jobs: &Jobs,
     edges: &[(u32, u32)],
     lines: &[u8],
 ) -> Result<Tried, AllocError>
     requires fix { IsFix jobs.now edges.now }
-    ensures answer { IfOk result (λ tried. ForTextsRead (texts_of input.now) (Ok read.listing) (Ok read.footprints)
+    ensures answer { IfOk result (λ tried. ForAllRead build.entry
         (λ texts footprints. IsTried (with_lines texts lines.now) footprints jobs.now edges.now tried)) }
     ensures safe { IfOk result HoldsOfTried }
 {
-    match prepare_again(alloc, input, read, lines) {
+    match prepare_again(alloc, build, lines) {
         Ok(prepared) => try_jobs(alloc, jobs, edges, prepared.jobs),
         Err(Halt::Fault(fault)) => Ok(Tried::Unsafe(Some(fault))),
         Err(Halt::Memory) => Err(AllocError),
@@ -267,34 +193,32 @@ fn try_jobs(
 }
 
 /// The jobs of a build with these lines behind its makefile.
-fn prepare_again(
-    alloc: Global,
-    input: &Input<'_>,
-    read: WasRead,
-    lines: &[u8],
-) -> Result<Prepared, Halt>
-    ensures { ForTextsRead (texts_of input.now) (Ok read.listing) (Ok read.footprints)
+fn prepare_again(alloc: Global, build: Build<'_>, lines: &[u8]) -> Result<Prepared, Halt>
+    ensures { ForAllRead build.entry
         (λ texts footprints. Answers result (IsPrepared (with_lines texts lines.now) footprints)) }
 {
-    let mut makefile = Vec::from_slice(alloc, input.makefile)?;
+    let mut makefile = Vec::from_slice(alloc, build.input.makefile)?;
     makefile.extend_from_slice(lines)?;
-    prepare_with(alloc, input, read, &makefile)
+    prepare_with(alloc, build, &makefile)
 }
 
 /// The jobs of a build with this makefile in place of its own.
-fn prepare_with(
-    alloc: Global,
-    input: &Input<'_>,
-    read: WasRead,
-    makefile: &[u8],
-) -> Result<Prepared, Halt>
-    ensures { ForTextsRead (texts_of input.now) (Ok read.listing) (Ok read.footprints)
+fn prepare_with(alloc: Global, build: Build<'_>, makefile: &[u8]) -> Result<Prepared, Halt>
+    ensures { ForAllRead build.entry
         (λ texts footprints. Answers result (IsPrepared (record texts { makefile = makefile.now }) footprints)) }
 {
-    let again = Input { makefile, ..*input };
-    let WasRead {
+    let Build {
+        input,
         listing,
         footprints,
-    } = read;
-    prepared_ahead(alloc, &again, Ok(listing), Ok(footprints))
+    } = build;
+    let input = Input { makefile, ..input };
+    prepare_read(
+        alloc,
+        Build {
+            input,
+            listing,
+            footprints,
+        },
+    )
 }

@@ -1,14 +1,13 @@
 //! From the texts of a build to its plan: what is read in which order, so that the first fault is answered.
-ghost use Rattle.std.specs.Prelude.{◌≡◌};
+ghost use Rattle.std.specs.Prelude.{◌≡◌, []};
 ghost use Rattle.mk_include.specs.Includes as included;
 ghost use Rattle.mk_macro.specs.Macros.{macros_of};
 ghost use Rattle.mk_name.specs.Gives.{Answers};
 ghost use Rattle.mk_lines.specs.GivesLines.{GivesLines};
 ghost use Rattle.mk_lines.specs.LogicalLines.{logical_lines};
-ghost use Rattle.mk_race.specs.Parts.{IsPlannedWith};
-ghost use Rattle.mk_race.specs.Stages.{IsBookOf, IsGraphed, IsPlanned, texts_of, reported_in};
+ghost use Rattle.mk_race.specs.Parts.{IsListedFrom, IsPlannedWith};
+ghost use Rattle.mk_race.specs.Stages.{IsBookOf, IsGraphed, IsPlanned, Texts, reported_in, texts_with};
 
-use crate::input::Input;
 use crate::settings::Operands;
 use mk_graph::planning::plan;
 use mk_include::includes::Includes;
@@ -18,10 +17,9 @@ use mk_lines::lines::lines;
 use mk_macro::macros::Macros;
 use mk_name::fault::{Fault, Halt, Source};
 use mk_name::name::Name;
-use mk_read::texts::text_below;
+use mk_read::input::Input;
 use mk_rules::reading::read_rules;
 use mk_rules::rulebook::Rulebook;
-use mk_text::list_reader::ListReader;
 use mk_text::listing::Listing;
 use mk_text::root::Root;
 use std::alloc::Global;
@@ -46,26 +44,30 @@ pub(crate) struct Graphed {
     pub(crate) plan: Plan,
 }
 
-/// The plan of what the goals of a build need. Footprints are not read.
+/// The plan of what the goals of a build need, whose listing was read into what it says or its first fault. Footprints are not read.
 ///
 /// The first fault is answered, in this order: of the root, of the operands from the left, of the paths of the texts for
 /// include lines, of the listing by its lines, of the base makefile and of the makefile by their lines, of their entries,
 /// assignments and include lines with the texts that these name, and of the graph. The only other error is out of
 /// memory.
-pub fn plan_of(alloc: Global, input: &Input<'_>) -> Result<Planned, Halt>
-    ensures { Answers result (IsPlanned (texts_of input.now)) }
-{
-    let listing = text_below::<ListReader>(alloc, input.root, input.listing)?;
-    plan_ahead(alloc, input, listing)
-}
-
-/// The plan of a build whose listing was read ahead; that of the input counts for nothing.
-pub(crate) fn plan_ahead(
+pub fn plan_of(
     alloc: Global,
     input: &Input<'_>,
     listing: Result<Listing, Fault>,
 ) -> Result<Planned, Halt>
-    ensures { Answers result (IsPlannedWith (texts_of input.now) listing) }
+    ensures { (texts : Texts) → texts ≡ texts_with input.now texts.listing → IsListedFrom texts listing
+        → Answers result (IsPlanned texts) }
+{
+    plan_read(alloc, input, listing)
+}
+
+/// The plan of a build with this listing.
+pub(crate) fn plan_read(
+    alloc: Global,
+    input: &Input<'_>,
+    listing: Result<Listing, Fault>,
+) -> Result<Planned, Halt>
+    ensures { Answers result (IsPlannedWith (texts_with input.now []) listing) }
 {
     let root = Root::read(alloc, input.root)?;
     let Operands { goals, macros } = Operands::read(alloc, input.operands, &root)?;
@@ -96,7 +98,7 @@ pub(crate) fn graph_of(
     macros: &mut Macros,
     listing: &Listing,
 ) -> Result<Graphed, Halt>
-    ensures { Answers result (IsGraphed (texts_of input.now) root.now goals.now
+    ensures { Answers result (IsGraphed (texts_with input.now []) root.now goals.now
         (included.texts_of includes.now) (macros_of macros.old) listing.now) }
 {
     let book = book_of(alloc, input, root, includes, macros)?;
@@ -112,7 +114,7 @@ fn book_of(
     includes: &Includes<'_>,
     macros: &mut Macros,
 ) -> Result<Rulebook, Halt>
-    ensures { Answers result (IsBookOf (texts_of input.now) root.now
+    ensures { Answers result (IsBookOf (texts_with input.now []) root.now
         (included.texts_of includes.now) (macros_of macros.old)) }
 {
     let base = lines_in(alloc, Source::Base, input.base)?;

@@ -1,19 +1,16 @@
 //! From the texts of a build to its jobs.
 ghost use Rattle.mk_name.specs.Gives.{Answers};
-ghost use Rattle.mk_race.specs.Parts.{ForTextsRead};
-ghost use Rattle.mk_race.specs.Stages.{AreJobs, IsPrepared, texts_of};
+ghost use Rattle.mk_race.specs.Parts.{ForAllRead};
+ghost use Rattle.mk_race.specs.Stages.{AreJobs, IsPrepared};
 
-use crate::input::Input;
-use crate::unused::noted_ahead;
+use crate::unused::note_read;
 use mk_foot::attaching::attach;
-use mk_foot::foot_reader::FootReader;
 use mk_foot::footprints::Footprints;
 use mk_jobs::jobs::Jobs;
 use mk_jobs::plan::Plan;
-use mk_name::fault::{Fault, Halt};
-use mk_read::texts::text_below;
+use mk_name::fault::Halt;
+use mk_read::input::Build;
 use mk_rules::rulebook::Rulebook;
-use mk_text::list_reader::ListReader;
 use mk_text::listing::Listing;
 use mk_text::root::Root;
 use std::alloc::Global;
@@ -29,29 +26,12 @@ pub struct Prepared {
     pub jobs: Jobs,
 }
 
-/// The jobs of a build.
-///
-/// The first fault is answered: those of the plan (see [`plan_of`](crate::planning::plan_of)), then of the footprints by their lines,
-/// and then of the nodes with their footprints. The only other error is out of memory.
-pub fn prepare(alloc: Global, input: &Input<'_>) -> Result<Prepared, Halt>
-    ensures { Answers result (IsPrepared (texts_of input.now) input.now.footprints.now) }
+/// The jobs of a build. The first fault is that of [`note_build`](crate::unused::note_build) where it is not strict. The only other error is
+/// out of memory.
+pub(crate) fn prepare_read(alloc: Global, build: Build<'_>) -> Result<Prepared, Halt>
+    ensures { ForAllRead build.entry (λ texts lines. Answers result (IsPrepared texts lines)) }
 {
-    let listing = text_below::<ListReader>(alloc, input.root, input.listing)?;
-    let footprints = text_below::<FootReader>(alloc, input.root, input.footprints)?;
-    prepared_ahead(alloc, input, listing, footprints)
-}
-
-/// The jobs of a build whose listing and footprints were read ahead; those of the input count for nothing.
-pub(crate) fn prepared_ahead(
-    alloc: Global,
-    input: &Input<'_>,
-    listing: Result<Listing, Fault>,
-    footprints: Result<Footprints, Fault>,
-) -> Result<Prepared, Halt>
-    ensures { ForTextsRead (texts_of input.now) listing footprints
-        (λ texts lines. Answers result (IsPrepared texts lines)) }
-{
-    match noted_ahead(alloc, input, listing, footprints) {
+    match note_read(alloc, build) {
         Ok(noted) => Ok(noted.prepared),
         Err(halt) => Err(halt),
     }

@@ -1,10 +1,8 @@
-//! From the texts of a build and of a log to whether the log is a run of the build.
+//! Whether a log is a run of a build.
 ghost use Rattle.mk_name.specs.Gives.{Answers};
-ghost use Rattle.mk_race.specs.Played.{IsPlayed, IsPlayedOn};
-ghost use Rattle.mk_race.specs.Stages.{texts_of};
+ghost use Rattle.mk_race.specs.Played.{IsPlayedOn};
 
-use crate::input::Input;
-use crate::preparing::{Prepared, prepare};
+use crate::preparing::Prepared;
 use mk_log::reading::read_log;
 use mk_name::fault::Halt;
 use mk_sched::refusal::Refusal;
@@ -25,28 +23,10 @@ pub enum Played {
     },
 }
 
-/// Replays a log against a build: whether its events, from the files that it has, are a run of the build's jobs, in
-/// which at most `limit` nodes run at once and with `tie` files of equal times count as newer.
-///
-/// The first fault is answered: those of the jobs (see [`prepare`]), and then of the log by its lines. The only other error
-/// is out of memory.
+/// Replays a log against a build of these jobs: whether its events, from the files that it has, are a run of the jobs, in
+/// which at most `limit` nodes run at once and with `tie` files of equal times count as newer. The first fault is that of the log by its
+/// lines. The only other error is out of memory.
 pub fn replay_log(
-    alloc: Global,
-    input: &Input<'_>,
-    log: &[u8],
-    limit: u32,
-    tie: bool,
-) -> Result<Played, Halt>
-    ensures { Answers result
-        (IsPlayed (texts_of input.now) input.now.footprints.now log.now limit tie) }
-{
-    let prepared = prepare(alloc, input)?;
-    replay_prepared(alloc, &prepared, log, limit, tie)
-}
-
-/// Replays a log against a build of these jobs, as [`replay_log`] does. The first fault is that of the log. The only other
-/// error is out of memory.
-pub fn replay_prepared(
     alloc: Global,
     prepared: &Prepared,
     log: &[u8],

@@ -1,4 +1,4 @@
-//! From the texts of a build and of a log to the log in serial order.
+//! A log of a build in serial order.
 ghost use Rattle.std.specs.Prelude.{ℕ, ◌≡◌, ◌<◌, List, IfOk, Ok};
 ghost use Rattle.mk_name.specs.Gives.{Answers};
 ghost use Rattle.mk_name.specs.Names.{Name as SpecName, has, same_name};
@@ -9,11 +9,10 @@ ghost use Rattle.mk_sched.specs.Stored.{store_of};
 ghost use Rattle.mk_sched.specs.Stores.{AgreesWith};
 ghost use Rattle.mk_decide.specs.Pairs.{HasFewPairs};
 ghost use Rattle.mk_race.specs.Serialised as spec;
-ghost use Rattle.mk_race.specs.Serialised.{IsLawful, IsLawfulBuild, IsLawfulOn, IsOrder, IsOrderOn, IsSerialised, IsSerialisedOn, IsWhole};
-ghost use Rattle.mk_race.specs.Stages.{AreListed, IsPrepared, Texts, texts_of};
+ghost use Rattle.mk_race.specs.Serialised.{IsLawful, IsLawfulBuild, IsLawfulOn, IsLogOrder, IsOrderOn, IsSerialisedOn, IsCompleteLog};
+ghost use Rattle.mk_race.specs.Stages.{AreListed, IsPrepared, Texts};
 
-use crate::input::Input;
-use crate::preparing::{Prepared, prepare};
+use crate::preparing::Prepared;
 use mk_decide::decision::{Verdict, decide};
 use mk_jobs::jobs::Jobs;
 use mk_log::log::Log;
@@ -68,29 +67,9 @@ pub struct Serialised {
 /// count as newer; then it has to be complete; then not too many pairs of nodes may clash; then the jobs have to be
 /// race-free; then there has to be room for the new times. The first of these that fails is answered.
 ///
-/// The first fault is answered: those of the jobs (see [`prepare`](crate::preparing::prepare)), then of the log by its lines, and for
-/// a complete run `TooManyPairs` in the jobs, at place 0, where more than 1,000,000 pairs of nodes clash. The only other
-/// error is out of memory.
+/// The first fault is answered: that of the log by its lines, and for a complete run `TooManyPairs` in the jobs, at place 0, where more than
+/// 1,000,000 pairs of nodes clash. The only other error is out of memory.
 pub fn serialise_log(
-    alloc: Global,
-    input: &Input<'_>,
-    log: &[u8],
-    limit: u32,
-    tie: bool,
-) -> Result<Serialised, Halt>
-    ensures answer { Answers result
-        (IsSerialised (texts_of input.now) input.now.footprints.now log.now limit tie) }
-    // What is put in serial order is the same build, by the law of serial lists.
-    ensures law { IfOk result
-        (IsLawfulBuild (texts_of input.now) input.now.footprints.now log.now tie) }
-{
-    let prepared = prepare(alloc, input)?;
-    serialise_prepared(alloc, prepared, log, limit, tie)
-}
-
-/// Puts a log in serial order on the jobs of a build, as [`serialise_log`] does. The first fault is that of the log, and then
-/// `TooManyPairs`. The only other error is out of memory.
-pub fn serialise_prepared(
     alloc: Global,
     prepared: Prepared,
     log: &[u8],
@@ -144,7 +123,7 @@ fn order_of(
 ) -> Result<Ordered, Halt>
     requires { (n : ℕ) → n < node_count jobs.now
         → is_listed jobs.now n ≡ has same_name listing.now (name_of jobs.now n) }
-    ensures answer { Answers result (IsOrder jobs.now listing.now limit tie log) }
+    ensures answer { Answers result (IsLogOrder jobs.now listing.now limit tie log) }
     ensures law { IfOk result (IsLawful jobs.now tie log) }
 {
     let store = copy_store(alloc, &log.store)?;
@@ -168,8 +147,8 @@ fn order_of(
 fn whole_order(alloc: Global, jobs: &Jobs, log: Log, tie: bool) -> Result<Ordered, Halt>
     requires whole { IsWholeRun jobs.now tie (store_of log.store) (past_of log.events) }
     requires agrees { AgreesWith jobs.now (store_of log.store) }
-    ensures answer { (listed : List SpecName) (limit : ℕ) → IsWhole jobs.now listed limit tie log
-        → Answers result (IsOrder jobs.now listed limit tie log) }
+    ensures answer { (listed : List SpecName) (limit : ℕ) → IsCompleteLog jobs.now listed limit tie log
+        → Answers result (IsLogOrder jobs.now listed limit tie log) }
     ensures law { IfOk result (IsLawful jobs.now tie log) }
 {
     match decide(alloc, jobs)? {
@@ -184,8 +163,8 @@ fn free_order(alloc: Global, jobs: &Jobs, log: Log, tie: bool) -> Result<Ordered
     requires agrees { AgreesWith jobs.now (store_of log.store) }
     requires few { HasFewPairs jobs.now }
     requires race_free { IsRaceFree jobs.now }
-    ensures answer { (listed : List SpecName) (limit : ℕ) → IsWhole jobs.now listed limit tie log
-        → Answers result (IsOrder jobs.now listed limit tie log) }
+    ensures answer { (listed : List SpecName) (limit : ℕ) → IsCompleteLog jobs.now listed limit tie log
+        → Answers result (IsLogOrder jobs.now listed limit tie log) }
     ensures law { IfOk result (IsLawful jobs.now tie log) }
 {
     let Log { store, events } = log;

@@ -2,18 +2,16 @@
 //!
 //! A recorder that ran another makefile, or that spells a target in another way, writes footprints that no recipe of this
 //! build takes. Where such a target is a node that nothing makes, a race may hide behind it: so it is noted, or refused.
-ghost use Rattle.std.specs.Prelude.{◌≡◌, ◌++◌, ◌<◌, IfOk, List, Ok, OnOk, length, ℕ};
+ghost use Rattle.std.specs.Prelude.{◌≡◌, ◌++◌, ◌<◌, IfOk, Ok, OnOk, length};
 ghost use Rattle.std.specs.Option.{option_to_list};
 ghost use Rattle.mk_name.specs.Gives.{Answers, Gives};
 ghost use Rattle.mk_jobs.specs.Plan.{node_at};
 ghost use Rattle.mk_name.specs.declared.fault.Halt.TheVariants as halts;
-ghost use Rattle.mk_race.specs.Parts.{AreReadFrom, texts_with};
-ghost use Rattle.mk_race.specs.Stages.{AreListed, IsPrepared, Then, texts_of};
+ghost use Rattle.mk_race.specs.Parts.{ForAllRead};
+ghost use Rattle.mk_race.specs.Stages.{AreListed, IsPrepared, Then};
 ghost use Rattle.mk_race.specs.Unused as spec;
 
-use crate::input::{Input, Settings};
-use crate::parts::noted_parts;
-use crate::planning::{Planned, plan_ahead};
+use crate::planning::{Planned, plan_read};
 use crate::preparing::{Prepared, jobs_with};
 use mk_foot::footprints::Footprints;
 use mk_jobs::jobs::Jobs;
@@ -21,8 +19,8 @@ use mk_jobs::plan::Plan;
 use mk_jobs::recipe::has_recipe;
 use mk_name::fault::{Fault, Halt, Kind, Source};
 use mk_name::name::Name;
+use mk_read::input::Build;
 use mk_rules::rulebook::Rulebook;
-use mk_text::listing::Listing;
 use std::alloc::{AllocError, Global};
 
 /// The nodes that nothing makes, though their names are targets of footprints: the first of them, and how many they are.
@@ -43,32 +41,18 @@ pub struct Noted {
     pub unused: Option<Unused>,
 }
 
-/// The jobs of a build whose listing and footprints were read ahead, each into what it says or its first fault, with its footprints
-/// that lie unused.
+/// The jobs of a build, with its footprints that lie unused.
 ///
-/// Where these are the results of two texts below the root of the settings, the jobs are those that
-/// [`prepare`](crate::preparing::prepare) gives for those texts, with the same first fault. Where the root is refused they count for
-/// nothing. After those faults comes, where it is strict, `UnusedFootprint` in the jobs at the first node that nothing makes though its
-/// name is a footprint's target, which it names. The only other error is out of memory.
-pub fn note_parts(
-    alloc: Global,
-    settings: &Settings<'_>,
-    base: &[u8],
-    makefile: &[u8],
-    listing: Result<Listing, Fault>,
-    footprints: Result<Footprints, Fault>,
-    strict: bool,
-) -> Result<Noted, Halt>
-    ensures answer { (listed lines : List ℕ)
-        → AreReadFrom (texts_with settings.now base.now makefile.now listed) lines listing footprints
-        → Answers result (spec.IsNotedBy strict (texts_with settings.now base.now makefile.now listed) lines) }
-    ensures prepared { IfOk result (λ noted. (listed lines : List ℕ)
-        → AreReadFrom (texts_with settings.now base.now makefile.now listed) lines listing footprints
-        → IsPrepared (texts_with settings.now base.now makefile.now listed) lines (Ok noted.prepared)) }
+/// The first fault is answered: those of the plan (see [`plan_of`](crate::planning::plan_of)), then of the footprints by their lines, and then of the nodes with
+/// their footprints; after these comes, where it is strict, `UnusedFootprint` in the jobs at the first node that nothing makes though
+/// its name is a footprint's target, which it names. The only other error is out of memory.
+pub fn note_build(alloc: Global, build: Build<'_>, strict: bool) -> Result<Noted, Halt>
+    ensures answer { ForAllRead build.entry (λ texts lines. Answers result (spec.IsNotedBy strict texts lines)) }
+    ensures prepared { IfOk result (λ noted. ForAllRead build.entry (λ texts lines. IsPrepared texts lines (Ok noted.prepared))) }
     ensures listed { IfOk result (λ noted. AreListed noted.prepared) }
-    ensures read { IfOk result (λ noted. spec.WereRead listing footprints noted.prepared) }
+    ensures read { IfOk result (λ noted. spec.WereRead build.entry.listing build.entry.footprints noted.prepared) }
 {
-    let noted = noted_parts(alloc, settings, base, makefile, listing, footprints)?;
+    let noted = note_read(alloc, build)?;
     if !strict {
         return Ok(noted);
     }
@@ -105,19 +89,18 @@ fn unused_fault(alloc: Global, unused: Unused) -> Result<Halt, AllocError>
     Ok(Halt::Fault(fault))
 }
 
-/// The jobs of a build whose listing and footprints were read ahead, with its footprints that lie unused; those of the input count for
-/// nothing.
-pub(crate) fn noted_ahead(
-    alloc: Global,
-    input: &Input<'_>,
-    listing: Result<Listing, Fault>,
-    footprints: Result<Footprints, Fault>,
-) -> Result<Noted, Halt>
-    ensures answer { Answers result (spec.IsNotedWith (texts_of input.now) listing footprints) }
+/// The jobs of a build, with its footprints that lie unused, which are no fault.
+pub(crate) fn note_read(alloc: Global, build: Build<'_>) -> Result<Noted, Halt>
+    ensures answer { ForAllRead build.entry (λ texts lines. Answers result (spec.IsNoted texts lines)) }
     ensures listed { IfOk result (λ noted. AreListed noted.prepared) }
-    ensures read { IfOk result (λ noted. spec.WereRead listing footprints noted.prepared) }
+    ensures read { IfOk result (λ noted. spec.WereRead build.entry.listing build.entry.footprints noted.prepared) }
 {
-    let planned = plan_ahead(alloc, input, listing)?;
+    let Build {
+        input,
+        listing,
+        footprints,
+    } = build;
+    let planned = plan_read(alloc, &input, listing)?;
     noted_on(alloc, planned, footprints)
 }
 

@@ -1,12 +1,11 @@
-//! From the texts of a build and of a proof to whether the proof is accepted.
-ghost use Rattle.std.specs.Prelude.{ℕ, ◌↔◌, IfOk, IsTrue, List, Ok, false};
+//! Whether a proof is accepted for jobs, of a build or of tasks.
+ghost use Rattle.std.specs.Prelude.{◌↔◌, IfOk, IsTrue};
 ghost use Rattle.mk_name.specs.Gives.{Answers};
 ghost use Rattle.mk_sched.specs.Laws.{IsDeterminate};
-ghost use Rattle.mk_race.specs.Stages.{IsPrepared, Texts, texts_of};
-ghost use Rattle.mk_race.specs.Verified.{IsCertificateOn, IsJudged, IsVerified, IsVerifiedOn, ProofShows};
+ghost use Rattle.mk_race.specs.Stages.{ForAllBuilds};
+ghost use Rattle.mk_race.specs.Tasked.{ForAllTasks, ProofOfTasksShows};
+ghost use Rattle.mk_race.specs.Verified.{IsCertificateOn, IsJudged, IsVerifiedOn, ProofShows};
 
-use crate::input::Input;
-use crate::preparing::{Prepared, prepare};
 use mk_cert::accepting::{accept, accept_trace};
 use mk_decide::short::accept_short;
 use mk_jobs::jobs::Jobs;
@@ -16,45 +15,21 @@ use mk_proof::proof::Proof;
 use mk_proof::reading::read_proof;
 use std::alloc::{AllocError, Global};
 
-/// Whether a proof is accepted for a build: a certificate just where it puts in order all of the build's recipes that
+/// Whether a proof is accepted for these jobs, of a build or of tasks: a certificate just where it puts in order all of their recipes that
 /// conflict, so that every run of them leaves the same files; a trace just where it surely leads to two such recipes that
-/// run at once.
-///
-/// The first fault is answered: those of the jobs (see [`prepare`](crate::preparing::prepare)), and then of the proof by its lines. The
-/// only other error is out of memory.
-pub fn verify_proof(alloc: Global, input: &Input<'_>, proof: &[u8]) -> Result<bool, Halt>
-    ensures answer { Answers result
-        (IsVerified false (texts_of input.now) input.now.footprints.now proof.now) }
-    // The headline: where a certificate is accepted, no schedule of the build's recipes shows in the files.
+/// run at once. Of a short certificate it is asked that it puts in order the neighbours alone. The first fault is that of the proof by its
+/// lines. The only other error is out of memory.
+pub fn verify_proof(alloc: Global, jobs: &Jobs, proof: &[u8], short: bool) -> Result<bool, Halt>
+    ensures answer { Answers result (IsVerifiedOn short jobs.now proof.now) }
+    // The headline: where a certificate is accepted, no schedule of a build of these jobs shows in its files, whatever texts mean it.
     ensures shows { IfOk result (λ accepted. IsTrue accepted
-        → ProofShows (texts_of input.now) input.now.footprints.now proof.now) }
+        → ForAllBuilds jobs.now (λ texts footprints. ProofShows texts footprints proof.now)) }
+    // The same of tasks.
+    ensures of_tasks { IfOk result (λ accepted. IsTrue accepted
+        → ForAllTasks jobs.now (λ root tasks. ProofOfTasksShows root tasks proof.now)) }
 {
-    let prepared = prepare(alloc, input)?;
-    verify_prepared(alloc, &prepared, proof, false)
-}
-
-/// Whether a proof is accepted for a build of these jobs, as [`verify_proof`] says it; or as a short one, of which a certificate need put
-/// in order the neighbours alone. The first fault is that of the proof. The only other error is out of memory.
-pub fn verify_prepared(
-    alloc: Global,
-    prepared: &Prepared,
-    proof: &[u8],
-    short: bool,
-) -> Result<bool, Halt>
-    ensures answer { Answers result (IsVerifiedOn short prepared.now.jobs proof.now) }
-    // The headline: what an accepted proof shows is so of any texts that mean this build.
-    ensures shows { IfOk result (λ accepted. (texts : Texts) (footprints : List ℕ)
-        → IsPrepared texts footprints (Ok prepared.now) → IsTrue accepted → ProofShows texts footprints proof.now) }
-{
-    verify_on(alloc, &prepared.jobs, proof, short)
-}
-
-/// Whether these jobs accept the proof of a text.
-pub(crate) fn verify_on(alloc: Global, jobs: &Jobs, text: &[u8], short: bool) -> Result<bool, Halt>
-    ensures { Answers result (IsVerifiedOn short jobs.now text.now) }
-{
-    let proof = read_proof(alloc, text)?;
-    let accepted = judge(alloc, jobs, &proof, short)?;
+    let read = read_proof(alloc, proof)?;
+    let accepted = judge(alloc, jobs, &read, short)?;
     Ok(accepted)
 }
 

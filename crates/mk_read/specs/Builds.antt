@@ -5,7 +5,7 @@ use Rattle.mk_name.specs.Reported.{Reported}
 use Rattle.mk_text.specs.Listing.{listing_of}
 use Rattle.mk_device.specs.declared.device.ReadStop.{ReadStop}
 use Rattle.mk_device.specs.declared.device.ReadStop.TheVariants as stops
-use Rattle.mk_foot.specs.Footprints.{Footprints, IsRead}
+use Rattle.mk_foot.specs.Footprints.{AreFootprintsRead, Footprints}
 use Rattle.mk_read.specs.Read.{IsReadBelow}
 use Rattle.mk_read.specs.declared.builds.BuildStop.{BuildStop}
 use Rattle.mk_read.specs.declared.builds.BuildStop.TheVariants.{Broken, Memory}
@@ -13,11 +13,11 @@ use Rattle.mk_read.specs.declared.builds.BuildText.{BuildText}
 use Rattle.mk_read.specs.declared.builds.BuildText.TheVariants as texts
 
 -- what was read of a listing and of footprints, if the root is good
-abbrev pub IsListed : List ℕ → List ℕ → Result (List Name) Reported → Type 0
-IsListed = IsReadBelow (λ below text listed. listing_of below text ≡ listed)
+abbrev pub IsListingRead : List ℕ → List ℕ → Result (List Name) Reported → Type 0
+IsListingRead = IsReadBelow (λ below text listed. listing_of below text ≡ listed)
 
 abbrev pub IsFootprinted : List ℕ → List ℕ → Result Footprints Reported → Type 0
-IsFootprinted = IsReadBelow IsRead
+IsFootprinted = IsReadBelow AreFootprintsRead
 
 -- why the device of a text was not read
 abbrev pub stopped : BuildText → ReadStop → BuildStop
@@ -30,22 +30,22 @@ IsStopped text stop failed readable =
     ((stop ≡ Broken text) × (failed ≡ true) × (readable ≢ Some true)) ⊎ ((stop ≡ Memory) × (failed ≡ false))
 
 -- which devices have failed
-pub record Failed : Type 0 where
+pub record FailedTexts : Type 0 where
   pub base : Bool
   pub makefile : Bool
   pub listing : Bool
   pub footprints : Bool
 
-abbrev pub none_failed : Failed
+abbrev pub none_failed : FailedTexts
 none_failed = record { base = false; makefile = false; listing = false; footprints = false }
 
 -- a stop names the device that failed, and no other has; where it says out of memory, none has
-abbrev pub HasStopped : BuildStop → Failed → Type 0
-HasStopped (Broken texts.Base) failed = failed ≡ record none_failed { base = true }
-HasStopped (Broken texts.Makefile) failed = failed ≡ record none_failed { makefile = true }
-HasStopped (Broken texts.Listing) failed = failed ≡ record none_failed { listing = true }
-HasStopped (Broken texts.Footprints) failed = failed ≡ record none_failed { footprints = true }
-HasStopped Memory failed = failed ≡ none_failed
+abbrev pub HasBuildStopped : BuildStop → FailedTexts → Type 0
+HasBuildStopped (Broken texts.Base) failed = failed ≡ record none_failed { base = true }
+HasBuildStopped (Broken texts.Makefile) failed = failed ≡ record none_failed { makefile = true }
+HasBuildStopped (Broken texts.Listing) failed = failed ≡ record none_failed { listing = true }
+HasBuildStopped (Broken texts.Footprints) failed = failed ≡ record none_failed { footprints = true }
+HasBuildStopped Memory failed = failed ≡ none_failed
 
 -- whether each device can be read to its end, where that is stated
 pub record Readable : Type 0 where

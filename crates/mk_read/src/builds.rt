@@ -1,7 +1,7 @@
 //! The devices of a build, read to their ends: the makefiles whole, the listing and the footprints in pieces.
 ghost use Rattle.std.specs.Prelude.{◌≡◌, ◌≢◌, IfErr, IfOk, List, OnOk, Some, false, true, ℕ};
 ghost use Rattle.mk_read.specs.Builds as spec;
-ghost use Rattle.mk_read.specs.Builds.{AreReadable, HasStopped, IsFootprinted, IsListed, MayStop, none_failed};
+ghost use Rattle.mk_read.specs.Builds.{AreReadable, HasBuildStopped, IsFootprinted, IsListingRead, MayStop, none_failed};
 ghost use Rattle.mk_read.specs.Read.{GaveAll, IsReadBelow};
 
 use crate::devices::read_below;
@@ -63,14 +63,14 @@ pub fn plan_below<B: Intake, M: Intake, L: Intake>(
     ensures makefile { IfOk result (λ read.
         GaveAll (M.left makefile.old) (M.left makefile.new) read.makefile.items) }
     ensures listing { IfOk result (λ read. (text : List ℕ)
-        × GaveAll (L.left listing.old) (L.left listing.new) text × IsListed root.now text read.listing) }
+        × GaveAll (L.left listing.old) (L.left listing.new) text × IsListingRead root.now text read.listing) }
     // A device has failed exactly where a stop names it.
     ensures works { OnOk result (none_failed ≡ record none_failed {
       base = B.has_failed base.new;
       makefile = M.has_failed makefile.new;
       listing = L.has_failed listing.new;
     }) }
-    ensures stop { IfErr result (λ stop. HasStopped stop (record none_failed {
+    ensures stop { IfErr result (λ stop. HasBuildStopped stop (record none_failed {
       base = B.has_failed base.new;
       makefile = M.has_failed makefile.new;
       listing = L.has_failed listing.new;
@@ -119,7 +119,7 @@ pub fn build_below<B: Intake, M: Intake, L: Intake, F: Intake>(
     ensures makefile { IfOk result (λ read.
         GaveAll (M.left makefile.old) (M.left makefile.new) read.plan.makefile.items) }
     ensures listing { IfOk result (λ read. (text : List ℕ)
-        × GaveAll (L.left listing.old) (L.left listing.new) text × IsListed root.now text read.plan.listing) }
+        × GaveAll (L.left listing.old) (L.left listing.new) text × IsListingRead root.now text read.plan.listing) }
     ensures footprints { IfOk result (λ read. (text : List ℕ)
         × GaveAll (F.left footprints.old) (F.left footprints.new) text
         × IsFootprinted root.now text read.footprints) }
@@ -129,7 +129,7 @@ pub fn build_below<B: Intake, M: Intake, L: Intake, F: Intake>(
       listing = L.has_failed listing.new;
       footprints = F.has_failed footprints.new;
     }) }
-    ensures stop { IfErr result (λ stop. HasStopped stop (record {
+    ensures stop { IfErr result (λ stop. HasBuildStopped stop (record {
       base = B.has_failed base.new;
       makefile = M.has_failed makefile.new;
       listing = L.has_failed listing.new;

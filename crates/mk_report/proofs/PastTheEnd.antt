@@ -9,7 +9,7 @@ use Rattle.mk_jobs.specs.Jobs.{Jobs, is_phony, maker_of, name_of, node_count, wr
 use Rattle.mk_jobs.specs.Shape.{IsWellFormed}
 use Rattle.mk_jobs.specs.declared.maker.Maker.TheVariants.{Nothing}
 use Rattle.mk_jobs.proofs.JobsLemmas.{live_node, writer_live}
-use Rattle.mk_stale.specs.Watching.{makes_own}
+use Rattle.mk_missing.specs.Watching.{makes_own}
 use Rattle.mk_report.specs.ReportText.{writes_whole}
 
 -- what is no node has no name

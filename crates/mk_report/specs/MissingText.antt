@@ -8,7 +8,7 @@ use Rattle.mk_path.specs.Texts.{text_of}
 use Rattle.mk_jobs.specs.Jobs.{Jobs, name_of}
 use Rattle.mk_jobs.specs.Numbered.{number_of}
 use Rattle.mk_jobs.specs.Plan.{names_of}
-use Rattle.mk_stale.specs.Watching.{makes_own}
+use Rattle.mk_missing.specs.Watching.{makes_own}
 use Rattle.mk_missing.specs.declared.violations.Violations.{Violations}
 use Rattle.mk_report.specs.FixText.{has_word, is_makefile_word}
 use Rattle.mk_report.specs.ReportText.{counts_text, name_text, number_line}

@@ -1,6 +1,6 @@
 //! The lines that declare what was found.
 ghost use Rattle.std.specs.Prelude.{◌≡◌, ◌++◌, IfOk, OnOk};
-ghost use Rattle.mk_stale.specs.Watching as watching;
+ghost use Rattle.mk_missing.specs.Watching as watching;
 ghost use Rattle.mk_report.specs.MissingText as spec;
 
 use crate::fixes::{has_word, is_makefile_word};

@@ -1,7 +1,7 @@
 //! Answers, and their reports.
 ghost use Rattle.std.specs.Prelude.{◌≡◌, IfOk};
 ghost use Rattle.mk_report.specs.Reports.{IsReport};
-ghost use Rattle.mk_report.specs.declared.answer.Answer.TheVariants as answers;
+ghost use Rattle.mk_report.specs.declared.answer.BuildAnswer.TheVariants as answers;
 
 use crate::race::push_race;
 use crate::safe::push_safe;
@@ -16,7 +16,7 @@ use std::alloc::{AllocError, Global};
 /// What is answered of a build: its jobs with a certificate that no schedule matters; its jobs with the trace of a race; or
 /// what is wrong with its texts.
 #[derive(Debug, Drop)]
-pub enum Answer {
+pub enum BuildAnswer {
     Safe(Jobs, Certificate),
     Race(Jobs, Trace),
     Refused(Fault),
@@ -59,12 +59,12 @@ pub fn race_report(
 /// The report of an answer (profile); docs/FORMATS.md has the form of its lines. With `proof` it is the text of the
 /// certificate or of the trace instead; what is refused has none, and is reported as ever. The only error is out of
 /// memory.
-pub fn report(alloc: Global, answer: &Answer, proof: bool) -> Result<Vec<u8>, AllocError>
+pub fn report(alloc: Global, answer: &BuildAnswer, proof: bool) -> Result<Vec<u8>, AllocError>
     ensures { IfOk result (λ text. IsReport answer.now proof text.items) }
 {
     match answer {
-        Answer::Safe(jobs, certificate) => safe_report(alloc, jobs, certificate, proof),
-        Answer::Race(jobs, trace) => race_report(alloc, jobs, trace, proof),
-        Answer::Refused(fault) => refused_report(alloc, fault),
+        BuildAnswer::Safe(jobs, certificate) => safe_report(alloc, jobs, certificate, proof),
+        BuildAnswer::Race(jobs, trace) => race_report(alloc, jobs, trace, proof),
+        BuildAnswer::Refused(fault) => refused_report(alloc, fault),
     }
 }

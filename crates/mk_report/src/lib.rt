@@ -1,6 +1,6 @@
 //! The reports of answers.
 //!
-//! [`answer::report`] makes the text of an [`answer::Answer`]; the modules `safe`, `race`, `races`, `fixes`, `not_fixed` and
+//! [`answer::report`] makes the text of an [`answer::BuildAnswer`]; the modules `safe`, `race`, `races`, `fixes`, `not_fixed` and
 //! `missing` write one kind of report each. Read `specs/Reports.antt` first, then `specs/ReportText.antt`: what each line is.
 #![tactic(auto)]
 

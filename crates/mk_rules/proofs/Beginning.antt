@@ -13,12 +13,12 @@ use Rattle.mk_lines.specs.declared.parts.Parts.{Parts}
 use Rattle.mk_lines.specs.declared.parts.Parts.TheVariants.{Assign, Entry, Recipe, Include}
 use Rattle.mk_macro.specs.Expansion.{IsExpansion}
 use Rattle.mk_macro.specs.Macros.{Macros}
-use Rattle.mk_include.specs.Includes.{Cut, Texts, reported_in}
+use Rattle.mk_include.specs.Includes.{Cut, IncludeTexts, reported_in}
 use Rattle.mk_include.specs.Words.{word_text, words_of}
 use Rattle.mk_rules.specs.Begun.{Begun, BegunBy, IfMemory, IncludeBegun, LinesBegun, TextBegun, WordBegun, line_begun, opened, unread}
 use Rattle.mk_rules.specs.Book as books
 use Rattle.mk_rules.specs.Placed.{Placed, placed}
-use Rattle.mk_rules.specs.Reading.{Follows, LinesSay, Outcome, Point, Steps, WordSays, depth_limit, line_says, start}
+use Rattle.mk_rules.specs.Reading.{LeadsOn, LinesSay, Point, ReadingResult, Steps, WordSays, depth_limit, line_says, start}
 
 -- what holds anyway holds where memory runs out
 pub memory_has : {Y : Type 0} (result : Result Y Halt) (holds : Type 0) → holds → IfErr result (λ halt. IfMemory halt holds)
@@ -36,7 +36,7 @@ halt_by : (halt : Halt) (one other : Type 0) → (one → other) → IfMemory ha
 halt_by halts.Memory one other to h = to h
 halt_by (halts.Fault fault) one other to h = tt
 
-module _ {A : Type 0} (inside : Point → A → Macros → Type 0) (step : Point → A → Outcome → Type 0) where
+module _ {A : Type 0} (inside : Point → A → Macros → Type 0) (step : Point → A → ReadingResult → Type 0) where
   -- what some beginning of the rest leaves, some beginning of the whole does
   abbrev pub Reaches : Point → List A → Point → List A → Type 0
   Reaches first xs now rest = (left : Macros) → Begun inside step now rest left → Begun inside step first xs left
@@ -53,11 +53,11 @@ module _ {A : Type 0} (inside : Point → A → Macros → Type 0) (step : Point
 
   -- steps at all items
   module _ (x : A) (xs : List A) (at to : Point) (rest : (next : Point) → Steps step next xs (Ok to) → Begun inside step next xs to.macros) where
-    behind : (said : Outcome) → step at x said → Follows (λ next rest. Steps step next xs rest) said (Ok to) → Begun inside step at (x ∷ xs) to.macros
+    behind : (said : ReadingResult) → step at x said → LeadsOn (λ next rest. Steps step next xs rest) said (Ok to) → Begun inside step at (x ∷ xs) to.macros
     behind (Err ended) says h = absurd (cc)
     behind (Ok next) says h = inr (next, says, rest next h)
 
-  same_macros : (at to : Point) → ◌≡◌ {A = Outcome} (Ok to) (Ok at) → to.macros ≡ at.macros
+  same_macros : (at to : Point) → ◌≡◌ {A = ReadingResult} (Ok to) (Ok at) → to.macros ≡ at.macros
   same_macros at to e = let same : to ≡ at = cc in ap (λ (p : Point). p.macros) same
 
   pub begun_all : (xs : List A) (at to : Point) → Steps step at xs (Ok to) → Begun inside step at xs to.macros
@@ -66,7 +66,7 @@ module _ {A : Type 0} (inside : Point → A → Macros → Type 0) (step : Point
 
   -- steps at a list, and then some at another
   module _ (x : A) (front back : List A) (at mid : Point) (macros : Macros) (rest : (next : Point) → Steps step next front (Ok mid) → Begun inside step next (front ++ back) macros) where
-    behind_first : (said : Outcome) → step at x said → Follows (λ next rest. Steps step next front rest) said (Ok mid) → Begun inside step at (x ∷ front ++ back) macros
+    behind_first : (said : ReadingResult) → step at x said → LeadsOn (λ next rest. Steps step next front rest) said (Ok mid) → Begun inside step at (x ∷ front ++ back) macros
     behind_first (Err ended) says h = absurd (cc)
     behind_first (Ok next) says h = inr (next, says, rest next h)
 
@@ -87,18 +87,18 @@ module _ {A : Type 0} (inside : Point → A → Macros → Type 0) (step : Point
     begun_front (x ∷ front) back at macros (inr later) = inr (later.0, later.1, begun_front front back later.0 macros later.2)
 
 -- a line of these parts, where the macros before it stay
-parts_stay : (parts : Parts) (root : List ℕ) (texts : Texts) (room : ℕ) (inside : Point → Placed → Macros → Type 0) (inner : Point → Placed → Outcome → Type 0) (at : Point) (p : Placed) (macros : Macros) → macros ≡ at.macros
+parts_stay : (parts : Parts) (root : List ℕ) (texts : IncludeTexts) (room : ℕ) (inside : Point → Placed → Macros → Type 0) (inner : Point → Placed → ReadingResult → Type 0) (at : Point) (p : Placed) (macros : Macros) → macros ≡ at.macros
     → BegunBy parts root texts room inside inner at p macros
 parts_stay (Assign parts) root texts room inside inner at p macros same = same
 parts_stay (Entry parts) root texts room inside inner at p macros same = same
 parts_stay Recipe root texts room inside inner at p macros same = same
 parts_stay (Include parts) root texts room inside inner at p macros same = inl same
 
-pub line_stays : (root : List ℕ) (texts : Texts) (room : ℕ) (at : Point) (p : Placed) (macros : Macros) → macros ≡ at.macros → line_begun root texts (suc room) at p macros
+pub line_stays : (root : List ℕ) (texts : IncludeTexts) (room : ℕ) (at : Point) (p : Placed) (macros : Macros) → macros ≡ at.macros → line_begun root texts (suc room) at p macros
 line_stays root texts room at p macros same = parts_stay (parts_of p.line) root texts room (line_begun root texts room) (line_says root texts room) at p macros same
 
 -- a text by its lines
-pub text_begun : {Y : Type 0} (result : Result Y Halt) (at : Point) (root : List ℕ) (texts : Texts) (room : ℕ) → 0 < room → (name : Name) (cut : Cut) (lines : List LogicalLine) (macros : Macros) → reported_in name cut ≡ Ok lines
+pub text_begun : {Y : Type 0} (result : Result Y Halt) (at : Point) (root : List ℕ) (texts : IncludeTexts) (room : ℕ) → 0 < room → (name : Name) (cut : Cut) (lines : List LogicalLine) (macros : Macros) → reported_in name cut ≡ Ok lines
     → IfErr result (λ halt. IfMemory halt (Begun (line_begun root texts (suc (room - 1))) (line_says root texts (suc (room - 1))) at (placed (sources.Include name) lines) macros))
     → IfErr result (λ halt. IfMemory halt (TextBegun (line_begun root texts room) (line_says root texts room) at name (reported_in name cut) macros))
 text_begun result at root texts room some name cut lines macros is h =
@@ -107,7 +107,7 @@ text_begun result at root texts room some name cut lines macros is h =
     (TextBegun (line_begun root texts room) (line_says root texts room) at name (reported_in name cut) macros)
     (λ begun. inr (lines, is, subst (λ (n : ℕ). Begun (line_begun root texts n) (line_says root texts n) at (placed (sources.Include name) lines) macros) one begun)) h
 
-module _ (root : List ℕ) (texts : Texts) (hyphen : Bool) (room : ℕ) (inside : Point → Placed → Macros → Type 0) (inner : Point → Placed → Outcome → Type 0) (before : Macros) where
+module _ (root : List ℕ) (texts : IncludeTexts) (hyphen : Bool) (room : ℕ) (inside : Point → Placed → Macros → Type 0) (inner : Point → Placed → ReadingResult → Type 0) (before : Macros) where
   -- a word by its text
   pub word_begun : {Y : Type 0} (result : Result Y Halt) (at : Point) (word : List ℕ) (macros : Macros) (name : Name) (cut : Cut)
       → IfErr result (λ halt. IfMemory halt (TextBegun inside inner (record at { taken = at.taken + 1 }) name (reported_in name cut) macros))
@@ -115,7 +115,7 @@ module _ (root : List ℕ) (texts : Texts) (hyphen : Bool) (room : ℕ) (inside 
   word_begun result at word macros name cut h is =
       memory_by result (TextBegun inside inner (record at { taken = at.taken + 1 }) name (reported_in name cut) macros) (WordBegun root texts hyphen room inside inner before at word macros) (λ text. opened name cut is text) h
 
-  pub no_words : (step : Point → List ℕ → Outcome → Type 0) (words : List (List ℕ)) (at : Point) (macros : Macros) → macros ≡ at.macros → Begun (WordBegun root texts hyphen room inside inner before) step at words macros
+  pub no_words : (step : Point → List ℕ → ReadingResult → Type 0) (words : List (List ℕ)) (at : Point) (macros : Macros) → macros ≡ at.macros → Begun (WordBegun root texts hyphen room inside inner before) step at words macros
   no_words step words at macros same =
       begun_none (WordBegun root texts hyphen room inside inner before) step (λ at word macros same. unread same) words at macros same
 
@@ -126,7 +126,7 @@ text_given asked found name cut given is =
     subst (λ (o : Option (Name × Bor Cut)). asked ≡ Ok (option_map (λ (text : Name × Bor Cut). (text.0, text.1.now)) o)) is given
 
 -- an include line by its words
-pub include_begun : {Y : Type 0} (result : Result Y Halt) (at : Point) (macros : Macros) (root : List ℕ) (texts : Texts) (room : ℕ) (inside : Point → Placed → Macros → Type 0) (inner : Point → Placed → Outcome → Type 0) (parts : IncludeParts) (p : Placed)
+pub include_begun : {Y : Type 0} (result : Result Y Halt) (at : Point) (macros : Macros) (root : List ℕ) (texts : IncludeTexts) (room : ℕ) (inside : Point → Placed → Macros → Type 0) (inner : Point → Placed → ReadingResult → Type 0) (parts : IncludeParts) (p : Placed)
     (text rest : List ℕ) (hyphen : Bool) (words : List (List ℕ)) → rest ≡ parts.rest → IsExpansion at.macros rest (Ok text) → hyphen ≡ parts.hyphen → words ≡ words_of text
     → IfErr result (λ halt. IfMemory halt (Begun (WordBegun root texts hyphen room inside inner at.macros) (WordSays root texts hyphen room inner p at.macros) at words macros))
     → IfErr result (λ halt. IfMemory halt (IncludeBegun root texts room inside inner parts at p macros))
@@ -141,7 +141,7 @@ include_begun result at macros root texts room inside inner parts p text rest hy
     h
 
 -- the lines of two texts
-module _ (root : List ℕ) (texts : Texts) (macros : Macros) where
+module _ (root : List ℕ) (texts : IncludeTexts) (macros : Macros) where
   pub lines_none : (lines : List Placed) (after : Macros) → after ≡ macros → LinesBegun root texts macros lines after
   lines_none lines after same =
       begun_none (line_begun root texts (suc depth_limit)) (line_says root texts (suc depth_limit)) (line_stays root texts depth_limit) lines (start macros) after same

@@ -5,13 +5,13 @@ use Rattle.mk_name.specs.Gives.{Answers, HaltsAmong}
 use Rattle.mk_name.specs.declared.fault.Halt.{Halt}
 use Rattle.mk_name.specs.declared.fault.Halt.TheVariants as halts
 use Rattle.mk_macro.specs.Macros.{Entries, Macros, macros_of}
-use Rattle.mk_include.specs.Includes.{Texts}
+use Rattle.mk_include.specs.Includes.{IncludeTexts}
 use Rattle.mk_rules.specs.Book.{Book, Entry, book_of}
 use Rattle.mk_rules.specs.Placed.{Placed}
 use Rattle.mk_rules.specs.Reading.{BookSays, EndsAt, Leads, LinesSay, MakefilesSay, Point, Steps, depth_limit, line_says, point, start}
 use Rattle.mk_rules.proofs.Leading.{steps_both, steps_stop}
 
-module _ (root : List ℕ) (texts : Texts) (macros : Macros) (base more : List Placed) where
+module _ (root : List ℕ) (texts : IncludeTexts) (macros : Macros) (base more : List Placed) where
   -- what ends the base ends both
   pub base_stops : (halt : Halt) (after : Macros) → EndsAt halt after (λ answer. Steps (line_says root texts (suc depth_limit)) (start macros) base answer)
       → HaltsAmong halt (λ answer. LinesSay root texts macros (base ++ more) answer after)
@@ -36,7 +36,7 @@ module _ (root : List ℕ) (texts : Texts) (macros : Macros) (base more : List P
     both_answer (Ok y) entries taken after h = both_read entries taken after h
     both_answer (Err halt) entries taken after h = more_stops halt (macros_of after) h
 
-module _ (root : List ℕ) (texts : Texts) (macros : Macros) (lines : List Placed) where
+module _ (root : List ℕ) (texts : IncludeTexts) (macros : Macros) (lines : List Placed) where
   -- what stops the lines stops their book
   pub lines_stop : (halt : Halt) (after : Macros) → HaltsAmong halt (λ answer. LinesSay root texts macros lines answer after)
       → HaltsAmong halt (λ answer. MakefilesSay root texts macros lines answer after)

@@ -10,15 +10,15 @@ use Rattle.mk_lines.specs.declared.parts.Parts.{Parts}
 use Rattle.mk_macro.specs.Assignments.{IsAssignment}
 use Rattle.mk_macro.specs.Expansion.{IsExpansion}
 use Rattle.mk_macro.specs.Macros.{Entries, Macros, macros_of}
-use Rattle.mk_include.specs.Includes.{Texts}
+use Rattle.mk_include.specs.Includes.{IncludeTexts}
 use Rattle.mk_rules.specs.Book.{Entry}
 use Rattle.mk_rules.specs.Entries.{EntrySays}
 use Rattle.mk_rules.specs.Placed.{IsReportedAt, Placed}
-use Rattle.mk_rules.specs.Reading.{AssignmentSays, EndsAt, EntryLineSays, IncludeSays, Leads, Outcome, Point, SaysBy, ended_at, line_says, point}
+use Rattle.mk_rules.specs.Reading.{AssignmentSays, EndsAt, EntryLineSays, IncludeSays, Leads, Point, ReadingResult, SaysBy, ended_at, line_says, point}
 
 -- what stops a line is reported at it, and leaves these macros
 pub reported_ends : {X : Type 0} (p : Placed) (halt reported : Halt) (before after : Macros) → IsReportedAt p halt reported → after ≡ before → (says : Result X Reported → Type 0) → HaltsAmong halt says
-    → (one : Outcome → Type 0) → ((fault : Reported) → says (Err fault) → one (Err (ended_at p before fault))) → EndsAt reported after one
+    → (one : ReadingResult → Type 0) → ((fault : Reported) → says (Err fault) → one (Err (ended_at p before fault))) → EndsAt reported after one
 reported_ends p halt halts.Memory before after same kept says h one to = tt
 reported_ends p halt (halts.Fault t) before after same kept says h one to =
     let stopped : HaltsAmong (halts.Fault same.0) says = subst (λ (x : Halt). HaltsAmong x says) same.1 h in
@@ -43,13 +43,13 @@ module _ (p : Placed) (entries : List Entry) (taken : ℕ) (macros : Entries) wh
       → EntryLineSays root parts (point entries taken macros) p (Ok (point new taken macros))
   entry_leads root parts entry new is h = (Ok entry, h, ap (λ (es : List Entry). Ok (point es taken macros)) is)
 
-  pub rest_ends : (root : List ℕ) (texts : Texts) (room : ℕ) (inner : Point → Placed → Outcome → Type 0) (parts : IncludeParts) (halt reported : Halt) → IsReportedAt p halt reported
+  pub rest_ends : (root : List ℕ) (texts : IncludeTexts) (room : ℕ) (inner : Point → Placed → ReadingResult → Type 0) (parts : IncludeParts) (halt reported : Halt) → IsReportedAt p halt reported
       → HaltsAmong halt (IsExpansion (macros_of macros) parts.rest) → EndsAt reported (macros_of macros) (IncludeSays root texts room inner parts (point entries taken macros) p)
   rest_ends root texts room inner parts halt reported same h =
       reported_ends p halt reported (macros_of macros) (macros_of macros) same refl (IsExpansion (macros_of macros) parts.rest) h (IncludeSays root texts room inner parts (point entries taken macros) p)
       (λ fault says. (Err fault, says, refl))
 
 -- a line of these parts
-pub by_parts : {Y : Type 0} (result : Result Y Halt) (to at : Point) (parts : Parts) (root : List ℕ) (texts : Texts) (room : ℕ) (p : Placed) → parts ≡ parts_of p.line
+pub by_parts : {Y : Type 0} (result : Result Y Halt) (to at : Point) (parts : Parts) (root : List ℕ) (texts : IncludeTexts) (room : ℕ) (p : Placed) → parts ≡ parts_of p.line
     → Leads result to (SaysBy parts root texts room (line_says root texts room) at p) → Leads result to (line_says root texts (suc room) at p)
 by_parts result to at parts root texts room p is h = subst (λ (q : Parts). Leads result to (SaysBy q root texts room (line_says root texts room) at p)) is h

@@ -9,7 +9,7 @@ use Rattle.mk_lines.specs.LogicalLine.{parts_of}
 use Rattle.mk_lines.specs.Parts.{EntryParts, IncludeParts}
 use Rattle.mk_lines.specs.declared.parts.Parts.{Parts}
 use Rattle.mk_lines.specs.declared.parts.Parts.TheVariants.{Assign, Entry, Recipe, Include}
-use Rattle.mk_include.specs.Includes.{Cut, Texts, reported_in}
+use Rattle.mk_include.specs.Includes.{Cut, IncludeTexts, reported_in}
 use Rattle.mk_include.specs.Words.{word_text, words_of}
 use Rattle.mk_macro.specs.Assignments.{Becomes, Effect, Fixes, IsBehind, LeadsTo, Stays, effect, immediate}
 use Rattle.mk_macro.specs.Macros.{Macros, defined}
@@ -18,7 +18,7 @@ use Rattle.mk_rules.specs.Book as books
 use Rattle.mk_rules.specs.Entries.{EntrySays, PartSays, bad_prerequisites, bad_targets, checked_entry, entry_of, expanded_names, good_names}
 use Rattle.mk_rules.specs.Once.{SayOnce}
 use Rattle.mk_rules.specs.Placed.{Placed}
-use Rattle.mk_rules.specs.Reading.{AssignmentSays, BookSaysBy, EntriesSay, EntryLineSays, Follows, IncludeSays, LinesSay, Outcome, Point, RestSays, SaysBy, Steps, TextSays, WordSays, WordSaysBy, depth_limit, ended_at, line_says, start}
+use Rattle.mk_rules.specs.Reading.{AssignmentSays, BookSaysBy, EntriesSay, EntryLineSays, IncludeSays, LeadsOn, LinesSay, Point, ReadingResult, RestSays, SaysBy, Steps, TextSays, WordSays, WordSaysBy, depth_limit, ended_at, line_says, start}
 use Rattle.mk_rules.specs.Reading as reading
 
 same_ok : {X : Type 0} {x y : X} → ◌≡◌ {A = Result X Reported} (Ok x) (Ok y) → x ≡ y
@@ -46,7 +46,7 @@ behind_once (Entry parts) macros one other a b = a ∙ sym b
 behind_once Recipe macros one other a b = a ∙ sym b
 behind_once (Include parts) macros one other a b = a ∙ sym b
 
-assignment_once : (at : Point) (p : Placed) (one other : Outcome) → AssignmentSays at p one → AssignmentSays at p other → one ≡ other
+assignment_once : (at : Point) (p : Placed) (one other : ReadingResult) → AssignmentSays at p one → AssignmentSays at p other → one ≡ other
 assignment_once at p one other a b =
     a.2 ∙ ap (λ (r : Result Macros Reported). result_map_both (λ macros. record at { macros = macros }) (ended_at p at.macros) r) (behind_once (parts_of p.line) at.macros a.0 b.0 a.1 b.1)
     ∙ sym b.2
@@ -70,7 +70,7 @@ entry_once root macros p parts one other (good_names ts ps t q e) (good_names us
     ∙ ap (λ (ns : List Name). checked_entry (entry_of p parts.has_command us ns)) (same_ok (part_once root macros parts.prerequisites (Ok ps) (Ok rs) q r))
     ∙ sym d
 
-entry_line_once : (root : List ℕ) (parts : EntryParts) (at : Point) (p : Placed) (one other : Outcome) → EntryLineSays root parts at p one → EntryLineSays root parts at p other → one ≡ other
+entry_line_once : (root : List ℕ) (parts : EntryParts) (at : Point) (p : Placed) (one other : ReadingResult) → EntryLineSays root parts at p one → EntryLineSays root parts at p other → one ≡ other
 entry_line_once root parts at p one other a b =
     a.2 ∙ ap (λ (r : Result books.Entry Reported). result_map_both (λ e. record at { entries = at.entries ++ e ∷ [] }) (ended_at p at.macros) r) (entry_once root at.macros p parts a.0 b.0 a.1 b.1)
     ∙ sym b.2
@@ -78,29 +78,29 @@ entry_line_once root parts at p one other a b =
 -- ---- one after another
 
 -- a step that leads to no two outcomes
-abbrev LeadsOnce : {A : Type 0} → (Point → A → Outcome → Type 0) → Type 0
-LeadsOnce {A} step = (at : Point) (x : A) (one other : Outcome) → step at x one → step at x other → one ≡ other
+abbrev LeadsOnce : {A : Type 0} → (Point → A → ReadingResult → Type 0) → Type 0
+LeadsOnce {A} step = (at : Point) (x : A) (one other : ReadingResult) → step at x one → step at x other → one ≡ other
 
-follows_once : (rest : Point → Outcome → Type 0) → ((at : Point) (one other : Outcome) → rest at one → rest at other → one ≡ other)
-    → (said one other : Outcome) → Follows rest said one → Follows rest said other → one ≡ other
+follows_once : (rest : Point → ReadingResult → Type 0) → ((at : Point) (one other : ReadingResult) → rest at one → rest at other → one ≡ other)
+    → (said one other : ReadingResult) → LeadsOn rest said one → LeadsOn rest said other → one ≡ other
 follows_once rest once (Err ended) one other a b = a ∙ sym b
 follows_once rest once (Ok next) one other a b = once next one other a b
 
-steps_once : {A : Type 0} (step : Point → A → Outcome → Type 0) → LeadsOnce step → (xs : List A) (at : Point) (one other : Outcome)
+steps_once : {A : Type 0} (step : Point → A → ReadingResult → Type 0) → LeadsOnce step → (xs : List A) (at : Point) (one other : ReadingResult)
     → Steps step at xs one → Steps step at xs other → one ≡ other
 steps_once step once [] at one other a b = a ∙ sym b
 steps_once step once (x ∷ xs) at one other a b =
     follows_once (λ next rest. Steps step next xs rest) (λ next o p. steps_once step once xs next o p) a.0 one other a.2
-    (subst (λ (said : Outcome). Follows (λ next rest. Steps step next xs rest) said other) (sym (once at x a.0 b.0 a.1 b.1)) b.2)
+    (subst (λ (said : ReadingResult). LeadsOn (λ next rest. Steps step next xs rest) said other) (sym (once at x a.0 b.0 a.1 b.1)) b.2)
 
 -- ---- lines inside one another
 
-module _ (root : List ℕ) (texts : Texts) (inner : Point → Placed → Outcome → Type 0) (once : LeadsOnce inner) where
-  text_once : (at : Point) (name : Name) (cut : Cut) (one other : Outcome) → TextSays inner at name cut one → TextSays inner at name cut other → one ≡ other
+module _ (root : List ℕ) (texts : IncludeTexts) (inner : Point → Placed → ReadingResult → Type 0) (once : LeadsOnce inner) where
+  text_once : (at : Point) (name : Name) (cut : Cut) (one other : ReadingResult) → TextSays inner at name cut one → TextSays inner at name cut other → one ≡ other
   text_once at name (Err fault) one other a b = a ∙ sym b
   text_once at name (Ok lines) one other a b = steps_once inner once _ at one other a b
 
-  word_once_by : (p : Placed) (before : Macros) (at : Point) (given : Result (Option (Name × Cut)) Reported) (one other : Outcome)
+  word_once_by : (p : Placed) (before : Macros) (at : Point) (given : Result (Option (Name × Cut)) Reported) (one other : ReadingResult)
       → WordSaysBy inner p before at given one → WordSaysBy inner p before at given other → one ≡ other
   word_once_by p before at (Err fault) one other a b = a ∙ sym b
   word_once_by p before at (Ok None) one other a b = a ∙ sym b
@@ -109,42 +109,42 @@ module _ (root : List ℕ) (texts : Texts) (inner : Point → Placed → Outcome
   word_once : (hyphen : Bool) (room : ℕ) (p : Placed) (before : Macros) → LeadsOnce (WordSays root texts hyphen room inner p before)
   word_once hyphen room p before at word one other a b = word_once_by p before at (word_text root texts hyphen room at.taken word) one other a b
 
-  rest_once : (hyphen : Bool) (room : ℕ) (at : Point) (p : Placed) (text : Result (List ℕ) Reported) (one other : Outcome)
+  rest_once : (hyphen : Bool) (room : ℕ) (at : Point) (p : Placed) (text : Result (List ℕ) Reported) (one other : ReadingResult)
       → RestSays root texts hyphen room inner at p text one → RestSays root texts hyphen room inner at p text other → one ≡ other
   rest_once hyphen room at p (Err fault) one other a b = a ∙ sym b
   rest_once hyphen room at p (Ok text) one other a b =
       steps_once (WordSays root texts hyphen room inner p at.macros) (word_once hyphen room p at.macros) (words_of text) at one other a b
 
-  include_once : (room : ℕ) (parts : IncludeParts) (at : Point) (p : Placed) (one other : Outcome)
+  include_once : (room : ℕ) (parts : IncludeParts) (at : Point) (p : Placed) (one other : ReadingResult)
       → IncludeSays root texts room inner parts at p one → IncludeSays root texts room inner parts at p other → one ≡ other
   include_once room parts at p one other a b =
       rest_once parts.hyphen room at p a.0 one other a.2
       (subst (λ (text : Result (List ℕ) Reported). RestSays root texts parts.hyphen room inner at p text other) (sym (one_expansion at.macros parts.rest a.0 b.0 a.1 b.1)) b.2)
 
-  says_once : (parts : Parts) (room : ℕ) (at : Point) (p : Placed) (one other : Outcome)
+  says_once : (parts : Parts) (room : ℕ) (at : Point) (p : Placed) (one other : ReadingResult)
       → SaysBy parts root texts room inner at p one → SaysBy parts root texts room inner at p other → one ≡ other
   says_once (Assign parts) room at p one other a b = assignment_once at p one other a b
   says_once (Entry parts) room at p one other a b = entry_line_once root parts at p one other a b
   says_once Recipe room at p one other a b = a ∙ sym b
   says_once (Include parts) room at p one other a b = include_once room parts at p one other a b
 
-line_once : (root : List ℕ) (texts : Texts) (room : ℕ) → LeadsOnce (line_says root texts room)
+line_once : (root : List ℕ) (texts : IncludeTexts) (room : ℕ) → LeadsOnce (line_says root texts room)
 line_once root texts zero at p one other a b = absurd a
 line_once root texts (suc room) at p one other a b = says_once root texts (line_says root texts room) (line_once root texts room) (parts_of p.line) room at p one other a b
 
 -- ---- all lines, and their book
 
-module _ (root : List ℕ) (texts : Texts) (macros : Macros) (lines : List Placed) where
-  all_once : (one other : Outcome) → Steps (line_says root texts (suc depth_limit)) (start macros) lines one → Steps (line_says root texts (suc depth_limit)) (start macros) lines other → one ≡ other
+module _ (root : List ℕ) (texts : IncludeTexts) (macros : Macros) (lines : List Placed) where
+  all_once : (one other : ReadingResult) → Steps (line_says root texts (suc depth_limit)) (start macros) lines one → Steps (line_says root texts (suc depth_limit)) (start macros) lines other → one ≡ other
   all_once one other a b = steps_once (line_says root texts (suc depth_limit)) (line_once root texts (suc depth_limit)) lines (start macros) one other a b
 
-  same_point : {a b : Point} → ◌≡◌ {A = Outcome} (Ok a) (Ok b) → a ≡ b
+  same_point : {a b : Point} → ◌≡◌ {A = ReadingResult} (Ok a) (Ok b) → a ≡ b
   same_point e = cc
 
-  same_end : {a b : reading.Ended} → ◌≡◌ {A = Outcome} (Err a) (Err b) → a ≡ b
+  same_end : {a b : reading.Ended} → ◌≡◌ {A = ReadingResult} (Err a) (Err b) → a ≡ b
   same_end e = cc
 
-  no_end : {a : Point} {b : reading.Ended} → ◌≡◌ {A = Outcome} (Ok a) (Err b) → ⊥
+  no_end : {a : Point} {b : reading.Ended} → ◌≡◌ {A = ReadingResult} (Ok a) (Err b) → ⊥
   no_end e = cc
 
   lines_once : (one other : Result (List books.Entry) Reported) (after left : Macros) → LinesSay root texts macros lines one after → LinesSay root texts macros lines other left

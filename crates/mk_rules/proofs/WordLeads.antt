@@ -13,11 +13,11 @@ use Rattle.mk_lines.specs.Parts.{IncludeParts}
 use Rattle.mk_macro.specs.Expansion.{IsExpansion}
 use Rattle.mk_macro.specs.Macros.{Macros}
 use Rattle.std.specs.Option.{option_map_or}
-use Rattle.mk_include.specs.Includes.{Cut, Texts, reported_in}
+use Rattle.mk_include.specs.Includes.{Cut, IncludeTexts, reported_in}
 use Rattle.mk_include.specs.Words.{include_limit, opened, text_of_name, word_text, word_reported, words_of}
 use Rattle.mk_text.specs.Spelling.{word_name}
 use Rattle.mk_rules.specs.Placed.{IsReportedAt, Placed, placed}
-use Rattle.mk_rules.specs.Reading.{EndsAt, IncludeSays, Leads, Outcome, Point, Steps, TextSays, WordSays, WordSaysBy, ended_at, line_says}
+use Rattle.mk_rules.specs.Reading.{EndsAt, IncludeSays, Leads, Point, ReadingResult, Steps, TextSays, WordSays, WordSaysBy, ended_at, line_says}
 use Rattle.mk_rules.proofs.Leading.{leads_by}
 use Rattle.mk_rules.proofs.LineLeads.{reported_ends}
 
@@ -37,7 +37,7 @@ some_room room h = grind arith
 some_left : (taken : ℕ) → nat_le include_limit taken ≡ false → taken < include_limit
 some_left taken h = grind arith
 
-module _ (texts : Texts) (hyphen : Bool) (room taken : ℕ) (text : Name × Cut) where
+module _ (texts : IncludeTexts) (hyphen : Bool) (room taken : ℕ) (text : Name × Cut) where
   named_left : (name : Name) (found : Option Cut) → option_map_or (opened room taken name) found (if hyphen then Ok None else Err (word_reported UnknownInclude (name ∷ []))) ≡ Ok (Some text)
       → (0 < room) × (taken < include_limit)
   named_left name None h = absurd (none hyphen h)
@@ -57,7 +57,7 @@ module _ (texts : Texts) (hyphen : Bool) (room taken : ℕ) (text : Name × Cut)
   pub room_left : (root : List ℕ) (word : List ℕ) → word_text root texts hyphen room taken word ≡ Ok (Some text) → (0 < room) × (taken < include_limit)
   room_left root word h = text_left (word_name root word) h
 
-module _ (root : List ℕ) (texts : Texts) (hyphen : Bool) (room : ℕ) (inner : Point → Placed → Outcome → Type 0) (p : Placed) (before : Macros) (at : Point) (word : List ℕ) where
+module _ (root : List ℕ) (texts : IncludeTexts) (hyphen : Bool) (room : ℕ) (inner : Point → Placed → ReadingResult → Type 0) (p : Placed) (before : Macros) (at : Point) (word : List ℕ) where
   pub word_ends : (halt reported : Halt) (after : Macros) → IsReportedAt p halt reported → after ≡ before → Halts halt (word_text root texts hyphen room at.taken word)
       → EndsAt reported after (WordSays root texts hyphen room inner p before at word)
   word_ends halt reported after same kept h =
@@ -67,12 +67,12 @@ module _ (root : List ℕ) (texts : Texts) (hyphen : Bool) (room : ℕ) (inner :
   pub word_passes : word_text root texts hyphen room at.taken word ≡ Ok None → WordSays root texts hyphen room inner p before at word (Ok at)
   word_passes is = subst (λ (w : Result (Option (Name × Cut)) Reported). WordSaysBy inner p before at w (Ok at)) (sym is) refl
 
-  pub word_opens : (name : Name) (cut : Cut) → word_text root texts hyphen room at.taken word ≡ Ok (Some (name, cut)) → (answer : Outcome)
+  pub word_opens : (name : Name) (cut : Cut) → word_text root texts hyphen room at.taken word ≡ Ok (Some (name, cut)) → (answer : ReadingResult)
       → TextSays inner (record at { taken = at.taken + 1 }) name (reported_in name cut) answer → WordSays root texts hyphen room inner p before at word answer
   word_opens name cut is answer h = subst (λ (w : Result (Option (Name × Cut)) Reported). WordSaysBy inner p before at w answer) (sym is) h
 
 -- an include line by its words
-pub include_leads : {Y : Type 0} (result : Result Y Halt) (to at : Point) (root : List ℕ) (texts : Texts) (room : ℕ) (inner : Point → Placed → Outcome → Type 0) (parts : IncludeParts) (p : Placed)
+pub include_leads : {Y : Type 0} (result : Result Y Halt) (to at : Point) (root : List ℕ) (texts : IncludeTexts) (room : ℕ) (inner : Point → Placed → ReadingResult → Type 0) (parts : IncludeParts) (p : Placed)
     (text rest : List ℕ) (hyphen : Bool) (words : List (List ℕ)) → rest ≡ parts.rest → IsExpansion at.macros rest (Ok text) → hyphen ≡ parts.hyphen → words ≡ words_of text
     → Leads result to (λ answer. Steps (WordSays root texts hyphen room inner p at.macros) at words answer) → Leads result to (IncludeSays root texts room inner parts at p)
 include_leads result to at root texts room inner parts p text rest hyphen words rest_is expansion hyphen_is words_is leads =
@@ -86,7 +86,7 @@ include_leads result to at root texts room inner parts p text rest hyphen words 
     leads
 
 -- a text by its lines
-pub text_leads : {Y : Type 0} (result : Result Y Halt) (to at : Point) (root : List ℕ) (texts : Texts) (room : ℕ) → 0 < room → (name : Name) (cut : Cut) (lines : List LogicalLine) → reported_in name cut ≡ Ok lines
+pub text_leads : {Y : Type 0} (result : Result Y Halt) (to at : Point) (root : List ℕ) (texts : IncludeTexts) (room : ℕ) → 0 < room → (name : Name) (cut : Cut) (lines : List LogicalLine) → reported_in name cut ≡ Ok lines
     → Leads result to (λ answer. Steps (line_says root texts (suc (room - 1))) at (placed (sources.Include name) lines) answer) → Leads result to (TextSays (line_says root texts room) at name (reported_in name cut))
 text_leads result to at root texts room some name cut lines is leads =
     let one : suc (room - 1) ≡ room = omega arith in

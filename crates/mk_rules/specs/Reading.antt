@@ -16,7 +16,7 @@ use Rattle.mk_lines.specs.declared.parts.Parts.TheVariants.{Assign, Entry, Recip
 use Rattle.mk_macro.specs.Macros.{Entries, Macros, macros_of}
 use Rattle.mk_macro.specs.Assignments.{IsAssignment}
 use Rattle.mk_macro.specs.Expansion.{IsExpansion}
-use Rattle.mk_include.specs.Includes.{Cut, Texts, reported_in}
+use Rattle.mk_include.specs.Includes.{Cut, IncludeTexts, reported_in}
 use Rattle.mk_include.specs.Words.{word_text, words_of}
 use Rattle.mk_rules.specs.Book as books
 use Rattle.mk_rules.specs.Entries.{EntrySays}
@@ -34,69 +34,69 @@ pub record Ended : Type 0 where
   pub macros : Macros
 
 -- where a part of a reading leads: to another point, or to the end
-abbrev pub Outcome : Type 0
-Outcome = Result Point Ended
+abbrev pub ReadingResult : Type 0
+ReadingResult = Result Point Ended
 
 -- a fault of the line p, which leaves these macros
 abbrev pub ended_at : Placed → Macros → Reported → Ended
 ended_at p macros fault = record { fault = reported_at p fault; macros = macros }
 
 -- what comes behind a step: nothing more behind the end, and else the rest from the next point on
-abbrev pub Follows : (Point → Outcome → Type 0) → Outcome → Outcome → Type 0
-Follows rest (Err ended) answer = answer ≡ Err ended
-Follows rest (Ok next) answer = rest next answer
+abbrev pub LeadsOn : (Point → ReadingResult → Type 0) → ReadingResult → ReadingResult → Type 0
+LeadsOn rest (Err ended) answer = answer ≡ Err ended
+LeadsOn rest (Ok next) answer = rest next answer
 
 -- a step at each item of a list, one after another, from this point on
-abbrev pub Steps : {A : Type 0} → (Point → A → Outcome → Type 0) → Point → List A → Outcome → Type 0
+abbrev pub Steps : {A : Type 0} → (Point → A → ReadingResult → Type 0) → Point → List A → ReadingResult → Type 0
 Steps step at [] answer = answer ≡ Ok at
-Steps step at (x ∷ xs) answer = (said : Outcome) × step at x said × Follows (λ next rest. Steps step next xs rest) said answer
+Steps step at (x ∷ xs) answer = (said : ReadingResult) × step at x said × LeadsOn (λ next rest. Steps step next xs rest) said answer
 
 -- what an assignment leads to: its fault leaves the macros before it
-abbrev pub AssignmentSays : Point → Placed → Outcome → Type 0
+abbrev pub AssignmentSays : Point → Placed → ReadingResult → Type 0
 AssignmentSays at p answer =
     (behind : Result Macros Reported) × IsAssignment at.macros p.line behind
     × (answer ≡ result_map_both (λ macros. record at { macros = macros }) (ended_at p at.macros) behind)
 
 -- what an entry of these parts leads to
-abbrev pub EntryLineSays : List ℕ → EntryParts → Point → Placed → Outcome → Type 0
+abbrev pub EntryLineSays : List ℕ → EntryParts → Point → Placed → ReadingResult → Type 0
 EntryLineSays root parts at p answer =
     (entry : Result books.Entry Reported) × EntrySays root at.macros p parts entry
     × (answer ≡ result_map_both (λ e. record at { entries = at.entries ++ e ∷ [] }) (ended_at p at.macros) entry)
 
 -- what the text of this name leads to, each of whose lines says this: its own fault leaves the macros before it
-abbrev pub TextSays : (Point → Placed → Outcome → Type 0) → Point → Name → Cut → Outcome → Type 0
+abbrev pub TextSays : (Point → Placed → ReadingResult → Type 0) → Point → Name → Cut → ReadingResult → Type 0
 TextSays inner at name (Err fault) answer = answer ≡ Err (record { fault = fault; macros = at.macros })
 TextSays inner at name (Ok lines) answer = Steps inner at (placed (sources.Include name) lines) answer
 
 -- what a word of the include line p leads to, by the text that it names: the word's own fault leaves the macros before
 -- the line, and so takes back what the texts of earlier words assigned
-abbrev pub WordSaysBy : (Point → Placed → Outcome → Type 0) → Placed → Macros → Point → Result (Option (Name × Cut)) Reported → Outcome → Type 0
+abbrev pub WordSaysBy : (Point → Placed → ReadingResult → Type 0) → Placed → Macros → Point → Result (Option (Name × Cut)) Reported → ReadingResult → Type 0
 WordSaysBy inner p before at (Err fault) answer = answer ≡ Err (ended_at p before fault)
 WordSaysBy inner p before at (Ok None) answer = answer ≡ Ok at
 WordSaysBy inner p before at (Ok (Some text)) answer = TextSays inner (record at { taken = at.taken + 1 }) text.0 (reported_in text.0 text.1) answer
 
-abbrev pub WordSays : List ℕ → Texts → Bool → ℕ → (Point → Placed → Outcome → Type 0) → Placed → Macros → Point → List ℕ → Outcome → Type 0
+abbrev pub WordSays : List ℕ → IncludeTexts → Bool → ℕ → (Point → Placed → ReadingResult → Type 0) → Placed → Macros → Point → List ℕ → ReadingResult → Type 0
 WordSays root texts hyphen room inner p before at word answer = WordSaysBy inner p before at (word_text root texts hyphen room at.taken word) answer
 
 -- what an include line leads to whose rest expands to this
-abbrev pub RestSays : List ℕ → Texts → Bool → ℕ → (Point → Placed → Outcome → Type 0) → Point → Placed → Result (List ℕ) Reported → Outcome → Type 0
+abbrev pub RestSays : List ℕ → IncludeTexts → Bool → ℕ → (Point → Placed → ReadingResult → Type 0) → Point → Placed → Result (List ℕ) Reported → ReadingResult → Type 0
 RestSays root texts hyphen room inner at p (Err fault) answer = answer ≡ Err (ended_at p at.macros fault)
 RestSays root texts hyphen room inner at p (Ok text) answer = Steps (WordSays root texts hyphen room inner p at.macros) at (words_of text) answer
 
 -- what an include line of these parts leads to: its rest is expanded once, with the macros before the line
-abbrev pub IncludeSays : List ℕ → Texts → ℕ → (Point → Placed → Outcome → Type 0) → IncludeParts → Point → Placed → Outcome → Type 0
+abbrev pub IncludeSays : List ℕ → IncludeTexts → ℕ → (Point → Placed → ReadingResult → Type 0) → IncludeParts → Point → Placed → ReadingResult → Type 0
 IncludeSays root texts room inner parts at p answer =
     (text : Result (List ℕ) Reported) × IsExpansion at.macros parts.rest text × RestSays root texts parts.hyphen room inner at p text answer
 
 -- what a line of these parts leads to, inside which so many texts may open, each of whose lines says this
-abbrev pub SaysBy : Parts → List ℕ → Texts → ℕ → (Point → Placed → Outcome → Type 0) → Point → Placed → Outcome → Type 0
+abbrev pub SaysBy : Parts → List ℕ → IncludeTexts → ℕ → (Point → Placed → ReadingResult → Type 0) → Point → Placed → ReadingResult → Type 0
 SaysBy (Assign parts) root texts room inner at p answer = AssignmentSays at p answer
 SaysBy (Entry parts) root texts room inner at p answer = EntryLineSays root parts at p answer
 SaysBy Recipe root texts room inner at p answer = answer ≡ Ok at
 SaysBy (Include parts) root texts room inner at p answer = IncludeSays root texts room inner parts at p answer
 
 -- what a line leads to where so many texts may lie inside one another, its own among them
-abbrev pub line_says : List ℕ → Texts → ℕ → Point → Placed → Outcome → Type 0
+abbrev pub line_says : List ℕ → IncludeTexts → ℕ → Point → Placed → ReadingResult → Type 0
 line_says root texts zero at p answer = ⊥
 line_says root texts (suc room) at p answer = SaysBy (parts_of p.line) root texts room (line_says root texts room) at p answer
 
@@ -113,7 +113,7 @@ abbrev pub depth_limit : ℕ
 depth_limit = 16
 
 -- what the lines say: their entries, with the macros behind them, or the first fault, with the macros that it leaves
-abbrev pub LinesSay : List ℕ → Texts → Macros → List Placed → Result (List books.Entry) Reported → Macros → Type 0
+abbrev pub LinesSay : List ℕ → IncludeTexts → Macros → List Placed → Result (List books.Entry) Reported → Macros → Type 0
 LinesSay root texts macros lines (Ok entries) after =
     (taken : ℕ) × Steps (line_says root texts (suc depth_limit)) (start macros) lines (Ok (record { entries = entries; macros = after; taken = taken }))
 LinesSay root texts macros lines (Err fault) after =
@@ -135,17 +135,17 @@ EntriesSay (Ok entries) answer = BookSays (books.book_of entries) answer
 EntriesSay (Err fault) answer = answer ≡ Err fault
 
 -- what makefiles of these lines say, with these texts for their include lines, these macros before them and those after
-abbrev pub MakefilesSay : List ℕ → Texts → Macros → List Placed → Result books.Book Reported → Macros → Type 0
+abbrev pub MakefilesSay : List ℕ → IncludeTexts → Macros → List Placed → Result books.Book Reported → Macros → Type 0
 MakefilesSay root texts macros lines answer after =
     (entries : Result (List books.Entry) Reported) × LinesSay root texts macros lines entries after × EntriesSay entries answer
 
 -- a call ends the reading by its halt, leaving these macros, unless memory ran out
-abbrev pub EndsAt : Halt → Macros → (Outcome → Type 0) → Type 0
+abbrev pub EndsAt : Halt → Macros → (ReadingResult → Type 0) → Type 0
 EndsAt halts.Memory macros says = Unit {0}
 EndsAt (halts.Fault fault) macros says = says (Err (record { fault = fault; macros = macros }))
 
 -- a call leads to this point, or ends the reading with the macros that are there
-abbrev pub Leads : {Y : Type 0} → Result Y Halt → Point → (Outcome → Type 0) → Type 0
+abbrev pub Leads : {Y : Type 0} → Result Y Halt → Point → (ReadingResult → Type 0) → Type 0
 Leads (Ok y) at says = says (Ok at)
 Leads (Err halt) at says = EndsAt halt at.macros says
 

@@ -8,7 +8,7 @@ use Rattle.std.proofs.lemmas.Bool.Decides.{Decides-eqb}
 use Rattle.std.proofs.lemmas.List.Elements.{Contains-append_right}
 use Rattle.mk_name.specs.Names.{Name, same_name}
 use Rattle.mk_sched.specs.Stores.{Bytes, File, bytes_of}
-use Rattle.mk_sched.specs.Events.{Act, Skip, Start, Look, Put, Erase, Finish, Phase, Waiting, Running, Skipped, Ran, Entry, Looked, Wrote, entries, written, is_passed, is_started}
+use Rattle.mk_sched.specs.Events.{Act, Skip, Start, Look, Put, Erase, Finish, Phase, Waiting, Running, Skipped, Ran, HistoryLine, Looked, Wrote, entries, written, is_passed, is_started}
 
 -- by cases on a test, with the equation
 pub split : {X : Type 0} (b : Bool) → (b ≡ true → X) → (b ≡ false → X) → X
@@ -70,7 +70,7 @@ touch x (Erase path) = if same_name path x then Some None else None
 touch x Finish = None
 
 -- what the newest write to x among these entries left
-abbrev pub last_of : Name → List Entry → Option (Option Bytes)
+abbrev pub last_of : Name → List HistoryLine → Option (Option Bytes)
 last_of x [] = None
 last_of x (Looked path seen ∷ es) = last_of x es
 last_of x (Wrote path left ∷ es) = if same_name path x then Some left else last_of x es

@@ -6,7 +6,7 @@ use Rattle.mk_name.specs.Names.{Name}
 use Rattle.mk_jobs.specs.Jobs.{Jobs, IsValid, IsRaceFree, Before, has_recipe}
 use Rattle.mk_jobs.proofs.JobsLemmas.{before_less}
 use Rattle.mk_sched.specs.Stores.{Bytes, Store}
-use Rattle.mk_sched.specs.Events.{Act, Skip, Start, Look, Put, Erase, Finish, Event, Entry, Looked, Wrote, Ran, entries, is_passed, is_started, phase, acts_of, history}
+use Rattle.mk_sched.specs.Events.{Act, Skip, Start, Look, Put, Erase, Finish, Event, HistoryLine, Looked, Wrote, Ran, entries, is_passed, is_started, phase, acts_of, history}
 use Rattle.mk_sched.specs.Runs.{AlikeSteps, Agree, IsRun, IsComplete}
 use Rattle.mk_sched.specs.Laws.{SameOutcome, Headline}
 use Rattle.mk_sched.proofs.Basics.{split, is_begun, passed_begun, ran_if}
@@ -15,13 +15,13 @@ use Rattle.mk_sched.proofs.Moving.{in_jobs}
 use Rattle.mk_sched.proofs.TwoRuns.{same_files, look_alike, stale_alike}
 
 -- a look in a history is an act
-abbrev IsLookAmong : List Act → Name → Option Bytes → List Entry → Type 0
+abbrev IsLookAmong : List Act → Name → Option Bytes → List HistoryLine → Type 0
 IsLookAmong acts x seen older = (newer : List Act) × (rest : List Act) × (acts ≡ newer ++ Look x seen ∷ rest) × (entries rest ≡ older)
 
-look_later : (a : Act) (acts : List Act) (x : Name) (seen : Option Bytes) (older : List Entry) → IsLookAmong acts x seen older → IsLookAmong (a ∷ acts) x seen older
+look_later : (a : Act) (acts : List Act) (x : Name) (seen : Option Bytes) (older : List HistoryLine) → IsLookAmong acts x seen older → IsLookAmong (a ∷ acts) x seen older
 look_later a acts x seen older found = (a ∷ found.0, found.1, ap (λ rest. a ∷ rest) found.2, found.3)
 
-look_among : (acts : List Act) (newer : List Entry) (x : Name) (seen : Option Bytes) (older : List Entry) → entries acts ≡ newer ++ Looked x seen ∷ older → IsLookAmong acts x seen older
+look_among : (acts : List Act) (newer : List HistoryLine) (x : Name) (seen : Option Bytes) (older : List HistoryLine) → entries acts ≡ newer ++ Looked x seen ∷ older → IsLookAmong acts x seen older
 look_among [] [] x seen older is = cc
 look_among [] (b ∷ newer) x seen older is = cc
 look_among (Skip ∷ acts) newer x seen older is = look_later Skip acts x seen older (look_among acts newer x seen older is)
@@ -37,7 +37,7 @@ look_among (Finish ∷ acts) newer x seen older is = look_later Finish acts x se
 module _ (jobs : Jobs) (opening : Store) (tie : Bool) (limit other : ℕ) (valid : IsValid jobs) (free : IsRaceFree jobs)
     (a b : List Event) (run_a : IsRun jobs tie limit opening a) (run_b : IsRun jobs tie other opening b) where
   -- two looks of n at one name after equal histories find the same, if the nodes before n did the same in both runs
-  seen_alike : (n : ℕ) (x : Name) (s t : Option Bytes) (newer later older : List Entry) → ((m : ℕ) → Before jobs m n → history a m ≡ history b m)
+  seen_alike : (n : ℕ) (x : Name) (s t : Option Bytes) (newer later older : List HistoryLine) → ((m : ℕ) → Before jobs m n → history a m ≡ history b m)
       → history a n ≡ newer ++ Looked x s ∷ older → history b n ≡ later ++ Looked x t ∷ older → s ≡ t
   seen_alike n x s t newer later older known is_a is_b =
       let la = look_among (acts_of n a) newer x s older is_a in
@@ -54,7 +54,7 @@ module _ (jobs : Jobs) (opening : Store) (tie : Bool) (limit other : ℕ) (valid
       ∙ sym mb.may.reports)
 
   -- the next steps after equal histories are equal, if they are alike
-  pub step_alike : (n : ℕ) (e f : Entry) (older xs ys : List Entry) → ((m : ℕ) → Before jobs m n → history a m ≡ history b m)
+  pub step_alike : (n : ℕ) (e f : HistoryLine) (older xs ys : List HistoryLine) → ((m : ℕ) → Before jobs m n → history a m ≡ history b m)
       → history a n ≡ reverse_aux xs (e ∷ older) → history b n ≡ reverse_aux ys (f ∷ older) → AlikeSteps e f → e ≡ f
   step_alike n (Looked x s) (Looked y t) older xs ys known is_a is_b alike =
       let there = is_b ∙ ap (λ z. reverse_aux ys (Looked z t ∷ older)) (sym alike) in
@@ -65,7 +65,7 @@ module _ (jobs : Jobs) (opening : Store) (tie : Bool) (limit other : ℕ) (valid
   step_alike n (Wrote x left) (Looked y t) older xs ys known is_a is_b alike = absurd alike
 
   -- what two histories go on with is equal, if it agrees
-  go_on : (n : ℕ) (older xs ys : List Entry) → ((m : ℕ) → Before jobs m n → history a m ≡ history b m)
+  go_on : (n : ℕ) (older xs ys : List HistoryLine) → ((m : ℕ) → Before jobs m n → history a m ≡ history b m)
       → history a n ≡ reverse_aux xs older → history b n ≡ reverse_aux ys older → Agree xs ys → xs ≡ ys
   go_on n older [] [] known is_a is_b agree = refl
   go_on n older (e ∷ xs) (f ∷ ys) known is_a is_b agree =

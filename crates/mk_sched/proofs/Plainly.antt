@@ -3,15 +3,15 @@ use Rattle.std.proofs.Common.{subst, reverse, slice_get, ℕ, zero, suc, ◌≡�
 use Rattle.std.proofs.lemmas.Bool.{false≢true, and_parts, not-true, false_from_ne_true}
 use Rattle.mk_jobs.specs.Jobs.{Jobs, IsValid, node_count, name_of, prerequisites_of, has_recipe, is_idle, is_phony, is_listed, is_empty}
 use Rattle.mk_sched.specs.Stores.{File, Store, is_stale}
-use Rattle.mk_sched.specs.Events.{Event, Entry, Looked, Wrote, history, phase, is_started, store_after}
+use Rattle.mk_sched.specs.Events.{Event, HistoryLine, Looked, Wrote, history, phase, is_started, store_after}
 use Rattle.mk_sched.specs.Runs.{Agree, IsRun}
 use Rattle.mk_sched.specs.Plain.{NextAlike, GoOnAlike, AgreeMeans, IdleIsFresh, IdleNeverStarts, ListingAgrees}
-use Rattle.mk_sched.specs.Programs.{Request, ToLook, ToWrite, IsAnswer, ProgramsAgree}
+use Rattle.mk_sched.specs.Programs.{WantedStep, ToLook, ToWrite, IsDoneAs, ProgramsAgree}
 use Rattle.mk_sched.specs.Serial.{EqualsSerialRun}
 use Rattle.mk_sched.proofs.Basics.{started_begun}
 use Rattle.mk_sched.proofs.OneRun.{own_file, decided}
 
-agree_on : (xs ys : List Entry) → Agree xs ys → GoOnAlike xs ys
+agree_on : (xs ys : List HistoryLine) → Agree xs ys → GoOnAlike xs ys
 agree_on [] [] agree zero shared = tt
 agree_on [] [] agree (suc k) shared = tt
 agree_on (e ∷ xs) (f ∷ ys) agree zero shared = agree.0
@@ -22,7 +22,7 @@ agree_on (e ∷ xs) (f ∷ ys) agree (suc k) shared =
 agree_on [] (f ∷ ys) agree k shared = absurd agree
 agree_on (e ∷ xs) [] agree k shared = absurd agree
 
-on_agree : (xs ys : List Entry) → GoOnAlike xs ys → Agree xs ys
+on_agree : (xs ys : List HistoryLine) → GoOnAlike xs ys → Agree xs ys
 on_agree [] [] on = tt
 on_agree (e ∷ xs) (f ∷ ys) on = (on 0 refl, λ same. on_agree xs ys (λ k shared. on (suc k) (cc)))
 on_agree [] (f ∷ ys) on = on 0 refl
@@ -73,7 +73,7 @@ pub listing_agrees : ListingAgrees
 listing_agrees jobs listed opening same agrees n inside = agrees (name_of jobs n) ∙ sym (same n inside)
 
 -- the answers to one request go on alike
-answers_alike : (request : Option Request) (e f : Option Entry) → IsAnswer request e → IsAnswer request f → NextAlike e f
+answers_alike : (request : Option WantedStep) (e f : Option HistoryLine) → IsDoneAs request e → IsDoneAs request f → NextAlike e f
 answers_alike None None None one other = tt
 answers_alike None None (Some f) one other = other
 answers_alike None (Some e) f one other = absurd one
@@ -92,7 +92,7 @@ pub programs_agree : ProgramsAgree
 programs_agree programs a b follows_a follows_b n starts_a starts_b =
     on_agree (reverse (history a n)) (reverse (history b n)) (λ k shared.
     answers_alike (programs n (take k (reverse (history a n)))) _ _ (follows_a n starts_a k)
-    (subst (λ h. IsAnswer (programs n h) (slice_get (reverse (history b n)) k)) (sym shared) (follows_b n starts_b k)))
+    (subst (λ h. IsDoneAs (programs n h) (slice_get (reverse (history b n)) k)) (sym shared) (follows_b n starts_b k)))
 
 pub equals_serial_run : EqualsSerialRun
 equals_serial_run jobs tie limit opening past list determinate agrees run complete serial whole agree =

@@ -9,10 +9,10 @@ use Rattle.mk_sched.specs.Replayed.{IsLeft}
 use Rattle.mk_sched.specs.Runs.{IsRun, IsComplete, May}
 use Rattle.mk_sched.specs.Standing.{state_of, CanMove}
 use Rattle.mk_sched.specs.Steps.{step_of, past_of}
-use Rattle.mk_sched.specs.Stored.{Files}
+use Rattle.mk_sched.specs.Stored.{StoredFiles}
 use Rattle.mk_sched.specs.Stores.{Store}
 use Rattle.mk_sched.specs.Table.{State, IsAllowed, changed, reported_by}
-use Rattle.mk_sched.specs.declared.event.Event.{Event as Reported}
+use Rattle.mk_sched.specs.declared.event.Event.{Event as LogEvent}
 use Rattle.mk_sched.specs.declared.stage.Stage.{Stage}
 use Rattle.mk_sched.proofs.ByTable.{state_reported}
 use Rattle.mk_sched.proofs.Moving.{counter_moves}
@@ -21,7 +21,7 @@ use Rattle.mk_sched.proofs.Basics.{split}
 use Rattle.mk_sched.proofs.Refusing.{allowed_unless_refused, allowed, one_answer, node_asked}
 
 -- where a replay has come to
-pub record IsAt (jobs : Jobs) (tie : Bool) (limit : ℕ) (opening : Store) (past : List Event) (files : Files) (stages : List Stage) (running : ℕ) : Type 0 where
+pub record IsAt (jobs : Jobs) (tie : Bool) (limit : ℕ) (opening : Store) (past : List Event) (files : StoredFiles) (stages : List Stage) (running : ℕ) : Type 0 where
   pub run : IsRun jobs tie limit opening past
   pub state : state_of files stages ≡ reported_by opening past
   pub long : length stages ≡ node_count jobs
@@ -37,15 +37,15 @@ count_to-le test zero = omega arith
 count_to-le test (suc n) = let rest = count_to-le test n in split (test n) (λ yes. rw yes (omega (arith, rest))) (λ no. rw no (omega (arith, rest)))
 
 -- one more event
-pub past_more : (events : List Reported) (k : ℕ) (e : Reported) → k < length events → e ≡ get_or events k e → past_of (take (k + 1) events) ≡ step_of e ∷ past_of (take k events)
+pub past_more : (events : List LogEvent) (k : ℕ) (e : LogEvent) → k < length events → e ≡ get_or events k e → past_of (take (k + 1) events) ≡ step_of e ∷ past_of (take k events)
 past_more events k e inside is =
     ap past_of (take_more events k e inside)
     ∙ ap reverse (map-append step_of (take k events) (get_or events k e ∷ []))
     ∙ reverse-append (map step_of (take k events)) (step_of (get_or events k e) ∷ [])
-    ∙ ap (λ (x : Reported). step_of x ∷ past_of (take k events)) (sym is)
+    ∙ ap (λ (x : LogEvent). step_of x ∷ past_of (take k events)) (sym is)
 
 -- the counters of a state
-pub counts : (jobs : Jobs) (tie : Bool) (limit : ℕ) (opening : Store) (past : List Event) (files : Files) (stages : List Stage) (running : ℕ)
+pub counts : (jobs : Jobs) (tie : Bool) (limit : ℕ) (opening : Store) (past : List Event) (files : StoredFiles) (stages : List Stage) (running : ℕ)
     → IsAt jobs tie limit opening past files stages running → running ≡ count_to (state_of files stages).running (node_count jobs)
 counts jobs tie limit opening past files stages running at = at.counted ∙ ap (λ (s : State). count_to s.running (node_count jobs)) (sym at.state)
 
@@ -65,7 +65,7 @@ can_move jobs tie limit s n (Put path bytes time) h = tt
 can_move jobs tie limit s n (Erase path) h = tt
 can_move jobs tie limit s n Finish h = tt
 
-module _ (jobs : Jobs) (tie : Bool) (limit : ℕ) (opening : Store) (past : List Event) (files : Files) (stages : List Stage) (running : ℕ) (at : IsAt jobs tie limit opening past files stages running) (e : Event) where
+module _ (jobs : Jobs) (tie : Bool) (limit : ℕ) (opening : Store) (past : List Event) (files : StoredFiles) (stages : List Stage) (running : ℕ) (at : IsAt jobs tie limit opening past files stages running) (e : Event) where
   -- the refusals that a state finds are those of the past
   pub finds_reported : (found : Option Refusal) → Finds (Holds jobs tie limit (state_of files stages) e.node e.act) (asked e.act) found → Finds (Holds jobs tie limit (reported_by opening past) e.node e.act) (asked e.act) found
   finds_reported found finds = subst (λ (s : State). Finds (Holds jobs tie limit s e.node e.act) (asked e.act) found) at.state finds
@@ -91,7 +91,7 @@ module _ (jobs : Jobs) (tie : Bool) (limit : ℕ) (opening : Store) (past : List
     room = omega (arith, at.few, count_to-le (λ k. is_running (phase (e ∷ past) k)) (node_count jobs))
 
     -- after the event
-    pub next : (later : Files) (set : List Stage) (now : ℕ) → state_of later set ≡ changed (state_of files stages) e.node e.act → length set ≡ length stages → Moves e.act running now
+    pub next : (later : StoredFiles) (set : List Stage) (now : ℕ) → state_of later set ≡ changed (state_of files stages) e.node e.act → length set ≡ length stages → Moves e.act running now
         → IsAt jobs tie limit opening (e ∷ past) later set now
     next later set now made long moved = record {
       run = (at.run, may);
@@ -102,17 +102,17 @@ module _ (jobs : Jobs) (tie : Bool) (limit : ℕ) (opening : Store) (past : List
     }
 
 -- before any event
-pub begun_at : (jobs : Jobs) (tie : Bool) (limit : ℕ) (opening : Store) (files : Files) (stages : List Stage) → state_of files stages ≡ reported_by opening [] → length stages ≡ node_count jobs → node_count jobs < 2 ^ 32
+pub begun_at : (jobs : Jobs) (tie : Bool) (limit : ℕ) (opening : Store) (files : StoredFiles) (stages : List Stage) → state_of files stages ≡ reported_by opening [] → length stages ≡ node_count jobs → node_count jobs < 2 ^ 32
     → IsAt jobs tie limit opening [] files stages 0
 begun_at jobs tie limit opening files stages state long few = record { run = tt; state = state; long = long; counted = sym (count_none (node_count jobs)); few = few }
 
 -- what a replay leaves
-pub leaves : (jobs : Jobs) (tie : Bool) (limit : ℕ) (opening : Store) (events : List Reported) (files : Files) (stages : List Stage) (running : ℕ)
+pub leaves : (jobs : Jobs) (tie : Bool) (limit : ℕ) (opening : Store) (events : List LogEvent) (files : StoredFiles) (stages : List Stage) (running : ℕ)
     → IsAt jobs tie limit opening (past_of events) files stages running → IsLeft opening events files
 leaves jobs tie limit opening events files stages running at x = ap (λ (s : State). s.store x) at.state
 
 -- and whether all have passed
-pub whole : (jobs : Jobs) (tie : Bool) (limit : ℕ) (opening : Store) (past : List Event) (files : Files) (stages : List Stage) (running : ℕ) (complete : Bool)
+pub whole : (jobs : Jobs) (tie : Bool) (limit : ℕ) (opening : Store) (past : List Event) (files : StoredFiles) (stages : List Stage) (running : ℕ) (complete : Bool)
     → IsAt jobs tie limit opening past files stages running
     → IsTrue complete ↔ ((n : ℕ) → n < length stages → (state_of files stages).passed n ≡ true)
     → IsTrue complete ↔ IsComplete jobs past
@@ -122,5 +122,5 @@ whole jobs tie limit opening past files stages running complete at reports = (
 )
 
 -- the events before a place, the one there, and the rest
-pub cut : (events : List Reported) (k : ℕ) (e : Reported) → k < length events → e ≡ get_or events k e → events ≡ take k events ++ e ∷ drop (k + 1) events
-cut events k e inside is = sym (take-append-drop k events) ∙ ap (λ (rest : List Reported). take k events ++ rest) (drop_more events k e inside ∙ ap (λ (x : Reported). x ∷ drop (k + 1) events) (sym is))
+pub cut : (events : List LogEvent) (k : ℕ) (e : LogEvent) → k < length events → e ≡ get_or events k e → events ≡ take k events ++ e ∷ drop (k + 1) events
+cut events k e inside is = sym (take-append-drop k events) ∙ ap (λ (rest : List LogEvent). take k events ++ rest) (drop_more events k e inside ∙ ap (λ (x : LogEvent). x ∷ drop (k + 1) events) (sym is))

@@ -6,7 +6,7 @@ use Rattle.std.proofs.lemmas.Bool.{false≢true, and_parts}
 use Rattle.std.proofs.lemmas.List.{reverse-reverse}
 use Rattle.mk_jobs.specs.Jobs.{Jobs, IsValid, IsRaceFree, Before, may_read, may_write}
 use Rattle.mk_sched.specs.Stores.{Store, AgreesWith}
-use Rattle.mk_sched.specs.Events.{Act, Skip, Start, Look, Put, Erase, Finish, Event, Entry, Looked, Wrote, Running, Ran, entries, is_passed, is_started, phase, phase_after, acts_of, history, store_after}
+use Rattle.mk_sched.specs.Events.{Act, Skip, Start, Look, Put, Erase, Finish, Event, HistoryLine, Looked, Wrote, Running, Ran, entries, is_passed, is_started, phase, phase_after, acts_of, history, store_after}
 use Rattle.mk_sched.specs.Runs.{May, IsRun, IsComplete, AlikeSteps, Agree, RecipesAgree}
 use Rattle.mk_sched.specs.Refusals.{IsNewPut, is_within}
 use Rattle.mk_sched.specs.Schedules.{Can, IsSchedule, stays, TimesRise, RunIsSchedule, AgreeSoFar, RecipesAgreeSoFar, OthersStay, DeterminateFromOneRun}
@@ -63,7 +63,7 @@ pub run_is_schedule : RunIsSchedule
 run_is_schedule jobs tie limit opening past = (split_run jobs tie limit opening past, λ parts. join_run jobs tie limit opening past parts.0 parts.1 parts.2)
 
 -- whole histories that agree do so as far as they go, and beginnings of what agrees agree
-agree_so_far : (es fs : List Entry) → Agree es fs → AgreeSoFar es fs
+agree_so_far : (es fs : List HistoryLine) → Agree es fs → AgreeSoFar es fs
 agree_so_far [] [] agree = tt
 agree_so_far (e ∷ es) (f ∷ fs) agree = (agree.0, λ same. agree_so_far es fs (agree.1 same))
 agree_so_far [] (f ∷ fs) agree = absurd agree
@@ -75,27 +75,27 @@ agree_all_so_far seen past agree = record {
   running = λ n starts runs. agree_so_far _ _ (agree n starts (ap is_started runs));
 }
 
-shorter : (es fs more : List Entry) → AgreeSoFar es (fs ++ more) → AgreeSoFar es fs
+shorter : (es fs more : List HistoryLine) → AgreeSoFar es (fs ++ more) → AgreeSoFar es fs
 shorter [] [] more agree = tt
 shorter (e ∷ es) [] more agree = tt
 shorter (e ∷ es) (f ∷ fs) more agree = (agree.0, λ same. shorter es fs more (agree.1 same))
 shorter [] (f ∷ fs) more agree = absurd agree
 
-without_newest : (es : List Entry) (f : Entry) (older : List Entry) → AgreeSoFar es (reverse (f ∷ older)) → AgreeSoFar es (reverse older)
+without_newest : (es : List HistoryLine) (f : HistoryLine) (older : List HistoryLine) → AgreeSoFar es (reverse (f ∷ older)) → AgreeSoFar es (reverse older)
 without_newest es f older agree = shorter es (reverse older) (f ∷ []) (subst (AgreeSoFar es) (reverse_aux-eq older (f ∷ [])) agree)
 
 -- a line of a history is within the footprint of n
-abbrev is_inside : Jobs → ℕ → Entry → Bool
+abbrev is_inside : Jobs → ℕ → HistoryLine → Bool
 is_inside jobs n (Looked path seen) = may_read jobs n path
 is_inside jobs n (Wrote path left) = may_write jobs n path
 
-alike_inside : (jobs : Jobs) (n : ℕ) (e f : Entry) → AlikeSteps e f → is_inside jobs n e ≡ is_inside jobs n f
+alike_inside : (jobs : Jobs) (n : ℕ) (e f : HistoryLine) → AlikeSteps e f → is_inside jobs n e ≡ is_inside jobs n f
 alike_inside jobs n (Looked x seen) (Looked y found) alike = ap (may_read jobs n) alike
 alike_inside jobs n (Wrote x left) (Wrote y kept) alike = ap (may_write jobs n) alike.0
 alike_inside jobs n (Looked x seen) (Wrote y kept) alike = absurd alike
 alike_inside jobs n (Wrote x left) (Looked y found) alike = absurd alike
 
-all_older : (test : Entry → Bool) (newer older : List Entry) → list_all test (reverse_aux newer older) ≡ true → list_all test older ≡ true
+all_older : (test : HistoryLine → Bool) (newer older : List HistoryLine) → list_all test (reverse_aux newer older) ≡ true → list_all test older ≡ true
 all_older test [] older all = all
 all_older test (e ∷ newer) older all = (and_parts (test e) (list_all test older) (all_older test newer (e ∷ older) all)).1
 
@@ -118,7 +118,7 @@ module _ (jobs : Jobs) (opening : Store) (tie : Bool) (limit other : ℕ) (valid
     (seen : List Event) (run_seen : IsRun jobs tie limit opening seen) (complete : IsComplete jobs seen) where
   module _ (past : List Event) (run : IsRun jobs tie other opening past) (agree : RecipesAgreeSoFar seen past) where
     -- the next line of a history, after lines that agree, is within the footprint, since a line like it was seen
-    next_inside : (n : ℕ) (older es fs : List Entry) (f : Entry) → ((m : ℕ) → Before jobs m n → history seen m ≡ history past m)
+    next_inside : (n : ℕ) (older es fs : List HistoryLine) (f : HistoryLine) → ((m : ℕ) → Before jobs m n → history seen m ≡ history past m)
         → history seen n ≡ reverse_aux es older → history past n ≡ reverse_aux fs older → AgreeSoFar es (fs ++ f ∷ []) → is_inside jobs n f ≡ true
     next_inside n older [] [] f known in_seen in_past on = absurd on
     next_inside n older [] (g ∷ fs) f known in_seen in_past on = absurd on
@@ -130,7 +130,7 @@ module _ (jobs : Jobs) (opening : Store) (tie : Bool) (limit other : ℕ) (valid
         next_inside n (e ∷ older) es fs f known in_seen (in_past ∙ ap (λ d. reverse_aux fs (d ∷ older)) (sym same)) (on.1 same)
 
     -- so what a running node does next is within its footprint, if the recipes still agree then
-    entry_stays : (n : ℕ) (f : Entry) → phase past n ≡ Running
+    entry_stays : (n : ℕ) (f : HistoryLine) → phase past n ≡ Running
         → (is_started (phase seen n) ≡ true → AgreeSoFar (reverse (history seen n)) (reverse (f ∷ history past n))) → is_inside jobs n f ≡ true
     entry_stays n f runs on =
         let starts = starts_alike jobs opening tie limit other valid free seen past run_seen run complete agree.finished n (ap is_begun runs) ∙ ap is_started runs in
@@ -160,7 +160,7 @@ module _ (jobs : Jobs) (opening : Store) (tie : Bool) (limit other : ℕ) (valid
           (agree.running n (sym (ap is_started (seen_again.acts n).phases) ∙ starts) (sym (again.acts n).phases ∙ runs));
     }
 
-    line_stays : (n : ℕ) (f : Entry) → RecipesAgreeSoFar seen past → phase past n ≡ Running
+    line_stays : (n : ℕ) (f : HistoryLine) → RecipesAgreeSoFar seen past → phase past n ≡ Running
         → (is_started (phase seen n) ≡ true → AgreeSoFar (reverse (history seen n)) (reverse (f ∷ history past n))) → is_inside jobs n f ≡ true
     line_stays n f agree runs on =
         entry_stays jobs opening tie limit other valid free (retimed (all_times seen) seen) seen_again.run complete_again (retimed (all_times past) past) again.run (agree_again agree)
@@ -178,7 +178,7 @@ module _ (jobs : Jobs) (opening : Store) (tie : Bool) (limit other : ℕ) (valid
     act_stays n Finish agree can on = refl
 
   -- recipes that agree so far have agreed before
-  running_before : (past : List Event) (n : ℕ) (a : Act) (es : List Entry) → Can jobs tie other opening past n a → phase past n ≡ Running
+  running_before : (past : List Event) (n : ℕ) (a : Act) (es : List HistoryLine) → Can jobs tie other opening past n a → phase past n ≡ Running
       → (phase_after (a ∷ acts_of n past) ≡ Ran → Agree es (reverse (entries (a ∷ acts_of n past))))
       → (phase_after (a ∷ acts_of n past) ≡ Running → AgreeSoFar es (reverse (entries (a ∷ acts_of n past)))) → AgreeSoFar es (reverse (history past n))
   running_before past n Skip es can runs finished running = absurd (false≢true (sym (ap is_started can.ready.waits) ∙ ap is_started runs))

@@ -74,12 +74,12 @@ abbrev pub running_below : List Event → ℕ → ℕ
 running_below past n = count_to (λ k. is_running (phase past k)) n
 
 -- one line of a history: a look and what it found, or a name and what was left there, nothing after an erasure
-pub data Entry : Type 0 where
-  Looked : (path : Name) (seen : Option Bytes) → Entry
-  Wrote : (path : Name) (left : Option Bytes) → Entry
+pub data HistoryLine : Type 0 where
+  Looked : (path : Name) (seen : Option Bytes) → HistoryLine
+  Wrote : (path : Name) (left : Option Bytes) → HistoryLine
 
 -- the looks, puts and erasures among some acts, without their times
-abbrev pub entries : List Act → List Entry
+abbrev pub entries : List Act → List HistoryLine
 entries [] = []
 entries (Skip ∷ acts) = entries acts
 entries (Start ∷ acts) = entries acts
@@ -89,7 +89,7 @@ entries (Erase path ∷ acts) = Wrote path None ∷ entries acts
 entries (Finish ∷ acts) = entries acts
 
 -- n's history: its looks, puts and erasures without times, the newest first
-abbrev pub history : List Event → ℕ → List Entry
+abbrev pub history : List Event → ℕ → List HistoryLine
 history past n = entries (acts_of n past)
 
 -- what stands at x after an act, by what stood there before

@@ -3,23 +3,23 @@ use Rattle.std.specs.Prelude.{ℕ, ◌≡◌, ◌<◌, ◌↔◌, Bool, true, fa
 use Rattle.mk_name.specs.Names.{Name}
 use Rattle.mk_jobs.specs.Jobs.{Jobs, IsValid, node_count, name_of, is_idle, is_listed}
 use Rattle.mk_sched.specs.Stores.{Store, AgreesWith, AgreesWithListing, is_stale}
-use Rattle.mk_sched.specs.Events.{Event, Entry, phase, is_started, store_after}
+use Rattle.mk_sched.specs.Events.{Event, HistoryLine, phase, is_started, store_after}
 use Rattle.mk_sched.specs.Runs.{AlikeSteps, Agree, IsRun}
 
 -- the next steps are alike, or both lists end here
-abbrev pub NextAlike : Option Entry → Option Entry → Type 0
+abbrev pub NextAlike : Option HistoryLine → Option HistoryLine → Type 0
 NextAlike None None = Unit {0}
 NextAlike (Some e) (Some f) = AlikeSteps e f
 NextAlike None (Some f) = ⊥
 NextAlike (Some e) None = ⊥
 
 -- wherever two histories share their first k entries, they go on alike
-abbrev pub GoOnAlike : List Entry → List Entry → Type 0
+abbrev pub GoOnAlike : List HistoryLine → List HistoryLine → Type 0
 GoOnAlike xs ys = (k : ℕ) → take k xs ≡ take k ys → NextAlike (slice_get xs k) (slice_get ys k)
 
 -- two histories agree exactly where they go on alike
 abbrev pub AgreeMeans : Type 0
-AgreeMeans = (xs ys : List Entry) → Agree xs ys ↔ GoOnAlike xs ys
+AgreeMeans = (xs ys : List HistoryLine) → Agree xs ys ↔ GoOnAlike xs ys
 
 -- an idle node is not stale before it starts
 abbrev pub IdleIsFresh : Type 0

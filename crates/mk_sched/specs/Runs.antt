@@ -3,7 +3,7 @@ use Rattle.std.specs.Prelude.{ℕ, ◌≡◌, ◌<◌, Bool, true, false, List, 
 use Rattle.mk_name.specs.Names.{Name}
 use Rattle.mk_jobs.specs.Jobs.{Jobs, IsPrerequisite, node_count, may_read, may_write}
 use Rattle.mk_sched.specs.Stores.{Bytes, File, Store, bytes_of, must_run}
-use Rattle.mk_sched.specs.Events.{Act, Skip, Start, Look, Put, Erase, Finish, Event, Entry, Looked, Wrote, Running, Waiting, phase, is_passed, is_started, running_below, history, store_after}
+use Rattle.mk_sched.specs.Events.{Act, Skip, Start, Look, Put, Erase, Finish, Event, HistoryLine, Looked, Wrote, Running, Waiting, phase, is_passed, is_started, running_below, history, store_after}
 
 -- n is ready: it is a node that waits, and its prerequisites have passed
 pub record IsReady (jobs : Jobs) (past : List Event) (n : ℕ) : Type 0 where
@@ -58,14 +58,14 @@ abbrev pub IsComplete : Jobs → List Event → Type 0
 IsComplete jobs past = (n : ℕ) → n < node_count jobs → is_passed (phase past n) ≡ true
 
 -- the same step, except what a look finds
-abbrev pub AlikeSteps : Entry → Entry → Type 0
+abbrev pub AlikeSteps : HistoryLine → HistoryLine → Type 0
 AlikeSteps (Looked x seen) (Looked y reported) = x ≡ y
 AlikeSteps (Wrote x left) (Wrote y kept) = (x ≡ y) × (left ≡ kept)
 AlikeSteps (Looked x seen) (Wrote y kept) = ⊥
 AlikeSteps (Wrote x left) (Looked y reported) = ⊥
 
 -- after equal beginnings the next steps are alike, or both lists end; the oldest entry first
-abbrev pub Agree : List Entry → List Entry → Type 0
+abbrev pub Agree : List HistoryLine → List HistoryLine → Type 0
 Agree [] [] = Unit {0}
 Agree (e ∷ es) (f ∷ fs) = AlikeSteps e f × (e ≡ f → Agree es fs)
 Agree [] (f ∷ fs) = ⊥

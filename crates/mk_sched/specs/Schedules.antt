@@ -4,7 +4,7 @@ use Rattle.mk_name.specs.Names.{Name}
 use Rattle.std.specs.List.{list_all}
 use Rattle.mk_jobs.specs.Jobs.{Jobs, IsValid, IsRaceFree}
 use Rattle.mk_sched.specs.Stores.{File, Store, AgreesWith, bytes_of}
-use Rattle.mk_sched.specs.Events.{Act, Skip, Start, Look, Put, Erase, Finish, Event, Entry, Running, Ran, phase, is_started, history, store_after}
+use Rattle.mk_sched.specs.Events.{Act, Skip, Start, Look, Put, Erase, Finish, Event, HistoryLine, Running, Ran, phase, is_started, history, store_after}
 use Rattle.mk_sched.specs.Runs.{MaySkip, MayStart, IsRun, IsComplete, AlikeSteps, Agree, RecipesAgree}
 use Rattle.mk_sched.specs.Refusals.{IsNewPut, is_within}
 use Rattle.mk_sched.specs.Laws.{SameOutcome}
@@ -43,7 +43,7 @@ RunIsSchedule =
     → IsRun jobs tie limit opening past ↔ IsSchedule jobs tie limit opening past × (stays jobs past ≡ true) × TimesRise opening past
 
 -- after equal beginnings the next steps are alike, as far as the second list goes
-abbrev pub AgreeSoFar : List Entry → List Entry → Type 0
+abbrev pub AgreeSoFar : List HistoryLine → List HistoryLine → Type 0
 AgreeSoFar [] [] = Unit {0}
 AgreeSoFar (e ∷ es) [] = Unit {0}
 AgreeSoFar (e ∷ es) (f ∷ fs) = AlikeSteps e f × (e ≡ f → AgreeSoFar es fs)

@@ -1,7 +1,7 @@
 -- The state that a store and the nodes' stages give.
 use Rattle.std.specs.Prelude.{ℕ, ◌≡◌, Bool, true, false, List, get_or}
 use Rattle.mk_sched.specs.Events.{Act, Skip, Start, Look, Put, Erase, Finish}
-use Rattle.mk_sched.specs.Stored.{Files, store_of}
+use Rattle.mk_sched.specs.Stored.{StoredFiles, store_of}
 use Rattle.mk_sched.specs.Table.{State}
 use Rattle.mk_sched.specs.declared.stage.Stage.{Stage}
 use Rattle.mk_sched.specs.declared.state.State.{State as Held}
@@ -20,7 +20,7 @@ runs Running = true
 runs Passed = false
 
 -- what stands at the names, who has passed, and who runs
-abbrev pub state_of : Files → List Stage → State
+abbrev pub state_of : StoredFiles → List Stage → State
 state_of files stages = record {
   store = store_of files;
   passed = λ n. has_passed (get_or stages n Waiting);

@@ -11,23 +11,23 @@ use Rattle.mk_sched.specs.Stores.{File, Store}
 use Rattle.mk_sched.specs.Timed.{count_of}
 
 -- files, each beside its name
-abbrev pub Files : Type 0
-Files = List (Name × File)
+abbrev pub StoredFiles : Type 0
+StoredFiles = List (Name × File)
 
 -- what stands at a name
-abbrev pub store_of : Files → Store
+abbrev pub store_of : StoredFiles → Store
 store_of files x = lookup (same_name x) files
 
 -- the files with this one at a name, each in its place in the byte order of names
-abbrev pub with_file : Files → Name → File → Files
+abbrev pub with_file : StoredFiles → Name → File → StoredFiles
 with_file files x file = insert_entry (slice_cmp nat_cmp) files x file
 
 -- the files without the one at a name; the same files where none stands there
-abbrev pub without_file : Files → Name → Files
+abbrev pub without_file : StoredFiles → Name → StoredFiles
 without_file files x = remove_entry (same_name x) files
 
 -- the names rise, byte by byte, so that each stands once
-abbrev pub IsInOrder : Files → Type 0
+abbrev pub IsInOrder : StoredFiles → Type 0
 IsInOrder files = IsStrictlySortedBy (slice_cmp nat_cmp) (keys_of files)
 
 -- one where the numbers are the same, and zero elsewhere
@@ -35,10 +35,10 @@ abbrev pub one_at : ℕ → ℕ → ℕ
 one_at time t = if time == t then 1 else 0
 
 -- how many files have a time
-abbrev pub how_many : Files → ℕ → ℕ
+abbrev pub how_many : StoredFiles → ℕ → ℕ
 how_many files t = sum_by (λ file. one_at file.time t) (values_of files)
 
 -- what a store keeps: its names rise, and each time is counted as often as a file has it
-pub record IsStored (files : Files) (counts : List (ℕ × ℕ)) : Type 0 where
+pub record IsStored (files : StoredFiles) (counts : List (ℕ × ℕ)) : Type 0 where
   pub in_order : IsInOrder files
   pub counted : (t : ℕ) → count_of counts t ≡ how_many files t

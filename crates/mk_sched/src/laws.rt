@@ -1,6 +1,6 @@
 //! Laws of runs. Each function's contract is a law, and its body is empty.
 ghost use Rattle.mk_sched.specs.Laws.{OwnFile, StaleAlike, LookAlike, Headline};
-ghost use Rattle.mk_sched.specs.Serial.{Serialised, EqualsSerialRun, KeepsActs, PutsInTurn};
+ghost use Rattle.mk_sched.specs.Serial.{RunsSerialise, EqualsSerialRun, KeepsActs, PutsInTurn};
 ghost use Rattle.mk_sched.specs.Schedules.{RunIsSchedule, OthersStay, DeterminateFromOneRun};
 ghost use Rattle.mk_sched.specs.Sure.{SurelyStale};
 ghost use Rattle.mk_sched.specs.Plain.{AgreeMeans, IdleIsFresh, IdleNeverStarts, ListingAgrees};
@@ -48,7 +48,7 @@ pub fn determinate_from_one_run()
 
 /// The serial list of a complete run is a complete serial run with the same outcome.
 pub fn serialised()
-    ensures { Serialised }
+    ensures { RunsSerialise }
 {}
 
 /// The serial list has each node's acts in their old order, except for times.

@@ -29,9 +29,9 @@ pub struct Store {
 }
 
 impl Model for Store {
-    ghost use Rattle.mk_sched.specs.Stored.{Files, IsStored};
+    ghost use Rattle.mk_sched.specs.Stored.{IsStored, StoredFiles};
 
-    ghost Value = { Files };
+    ghost Value = { StoredFiles };
 
     ghost view = { λ a. a.files.entries };
 

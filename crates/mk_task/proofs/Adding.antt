@@ -13,7 +13,7 @@ use Rattle.mk_jobs.specs.Plan.{edge_limit, node_limit}
 use Rattle.mk_jobs.proofs.Numberings.{number_has, number_none}
 use Rattle.mk_foot.specs.Footprints.{path_limit}
 use Rattle.mk_task.specs.Good.{IsTally, Tally}
-use Rattle.mk_task.specs.Lines.{Line}
+use Rattle.mk_task.specs.Lines.{TaskLine}
 use Rattle.mk_task.specs.Tasks.{Task, edge_count, labels_of, limit_passed, needs_from, path_count, reported, unless_passed, with_line, with_needs, within}
 
 -- a name has a number where it is there
@@ -25,12 +25,12 @@ number_there names x = by (number_of names x) refl
     by (Some n) e = sym (number_has names x n e)
 
 -- a label that stands there already is the line's fault
-pub line_twice : (place : ℕ) (earlier : List Task) (line : Line) → has same_name (labels_of earlier) line.label ≡ true
+pub line_twice : (place : ℕ) (earlier : List Task) (line : TaskLine) → has same_name (labels_of earlier) line.label ≡ true
     → with_line place earlier line ≡ Err (reported TaskTwice place (line.label ∷ []))
 line_twice place earlier line here = cond-true (has same_name (labels_of earlier) line.label) _ _ here
 
 -- with a new label it depends on what the task stands behind
-pub line_new : (place : ℕ) (earlier : List Task) (line : Line) → has same_name (labels_of earlier) line.label ≡ false
+pub line_new : (place : ℕ) (earlier : List Task) (line : TaskLine) → has same_name (labels_of earlier) line.label ≡ false
     → with_line place earlier line ≡ with_needs place earlier line (needs_from place (labels_of earlier) [] line.after)
 line_new place earlier line new = cond-false (has same_name (labels_of earlier) line.label) _ _ new
 

@@ -22,7 +22,7 @@ use Rattle.mk_foot.specs.Lines.{ends_in_slash, path_of, path_spelled, paths_in, 
 use Rattle.mk_foot.proofs.Named.{more_named, under_named}
 use Rattle.mk_task.specs.Good.{IsApart}
 use Rattle.mk_task.specs.JobsOf.{own_name}
-use Rattle.mk_task.specs.Lines.{Line, is_everything, label_of, labels_in, less_than_everything, line_in, line_of, under_after, under_task, under_writes}
+use Rattle.mk_task.specs.Lines.{TaskLine, is_everything, label_of, labels_in, less_than_everything, line_in, line_of, under_after, under_task, under_writes}
 
 -- what plain names look like: the slash, a slash and then another byte, or another byte first
 data Spelled (q : Name) : Type 0 where
@@ -133,7 +133,7 @@ all_apart root (p ∷ paths) spelled less =
     All-cons (IsApart root) p paths (path_apart root p (All-head IsSpelled p paths spelled) parts.0) (all_apart root paths (All-tail IsSpelled p paths spelled) parts.1)
 
 -- what a line says that is good
-pub record IsPlainLine (root : List ℕ) (line : Line) : Type 0 where
+pub record IsPlainLine (root : List ℕ) (line : TaskLine) : Type 0 where
   pub reads_named : AreNamed line.reads
   pub writes_named : AreNamed line.writes
   pub apart : All (IsApart root) line.writes
@@ -151,7 +151,7 @@ less_apart root d raw writes under is = elim (cases_Bool (list_any is_everything
       )
 ]
 
-pub said_plain : (root : List ℕ) (d : Data) (line : Line) → line_in root d ≡ Some line → IsPlainLine root line
+pub said_plain : (root : List ℕ) (d : Data) (line : TaskLine) → line_in root d ≡ Some line → IsPlainLine root line
 said_plain root d line is =
     let label = then_some _ (option_and_then label_of (under_task d)) line is in
     let after = then_some _ (option_and_then labels_in (under_after d)) line label.2 in
@@ -165,7 +165,7 @@ said_plain root d line is =
       apart = good.1;
     })
 
-pub line_plain : (root text : List ℕ) (line : Line) → line_of root text ≡ Some line → IsPlainLine root line
+pub line_plain : (root text : List ℕ) (line : TaskLine) → line_of root text ≡ Some line → IsPlainLine root line
 line_plain root text line is =
     let object = then_some (line_in root) (value_of text) line is in
     said_plain root object.0 line object.2

@@ -16,7 +16,7 @@ use Rattle.mk_jobs.specs.Numbered.{number_of}
 use Rattle.mk_jobs.proofs.Numberings.{number_some}
 use Rattle.mk_foot.specs.Json.{is_blank}
 use Rattle.mk_task.specs.Good.{AreGood, IsPlain}
-use Rattle.mk_task.specs.Lines.{Line, line_of}
+use Rattle.mk_task.specs.Lines.{TaskLine, line_of}
 use Rattle.mk_task.specs.Tasks.{Task, labels_of, and_then, needs_from, on_number, task_of, tasks_from, tasks_of, reported, with_line, with_needs, with_said, with_text}
 use Rattle.mk_task.proofs.Adding.{AreWithin, within_is}
 use Rattle.mk_task.proofs.Apart.{IsPlainLine, line_plain}
@@ -27,18 +27,18 @@ module _ {X : Type 0} where
   go_on t r y false is = (refl, is)
 
 -- a line that is read behind earlier tasks: its label is new, its numbers are found, and all are within the limits
-record IsRead (place : ℕ) (earlier : List Task) (line : Line) (tasks : List Task) : Type 0 where
+record IsRead (place : ℕ) (earlier : List Task) (line : TaskLine) (tasks : List Task) : Type 0 where
   needs : List ℕ
   new : has same_name (labels_of earlier) line.label ≡ false
   found : needs_from place (labels_of earlier) [] line.after ≡ Ok needs
   limits : AreWithin tasks (earlier ++ task_of line needs ∷ [])
 
-needs_read : (place : ℕ) (earlier : List Task) (line : Line) (tasks : List Task) (r : Result (List ℕ) Reported) → has same_name (labels_of earlier) line.label ≡ false
+needs_read : (place : ℕ) (earlier : List Task) (line : TaskLine) (tasks : List Task) (r : Result (List ℕ) Reported) → has same_name (labels_of earlier) line.label ≡ false
     → needs_from place (labels_of earlier) [] line.after ≡ r → with_needs place earlier line r ≡ Ok tasks → IsRead place earlier line tasks
 needs_read place earlier line tasks (Ok needs) new found is = record { needs = needs; new = new; found = found; limits = within_is place (earlier ++ task_of line needs ∷ []) tasks is }
 needs_read place earlier line tasks (Err t) new found is = absurd (let e : ◌≡◌ {A = Result (List Task) Reported} (Err t) (Ok tasks) = is in cc)
 
-line_read : (place : ℕ) (earlier : List Task) (line : Line) (tasks : List Task) → with_line place earlier line ≡ Ok tasks → IsRead place earlier line tasks
+line_read : (place : ℕ) (earlier : List Task) (line : TaskLine) (tasks : List Task) → with_line place earlier line ≡ Ok tasks → IsRead place earlier line tasks
 line_read place earlier line tasks is =
     let first = go_on (reported TaskTwice place (line.label ∷ [])) _ tasks (has same_name (labels_of earlier) line.label) is in
     needs_read place earlier line tasks _ first.0 refl first.1
@@ -73,7 +73,7 @@ get_last : {X : Type 0} (xs : List X) (x d : X) → get_or (xs ++ x ∷ []) (len
 get_last [] x d = refl
 get_last (y ∷ xs) x d = get_last xs x d
 
-good_more : (root : List ℕ) (place : ℕ) (earlier : List Task) (line : Line) (tasks : List Task) → AreGood root earlier → IsPlainLine root line
+good_more : (root : List ℕ) (place : ℕ) (earlier : List Task) (line : TaskLine) (tasks : List Task) → AreGood root earlier → IsPlainLine root line
     → with_line place earlier line ≡ Ok tasks → AreGood root tasks
 unfolding IsBelow
 good_more root place earlier line tasks good plain is =
@@ -98,7 +98,7 @@ good_more root place earlier line tasks good plain is =
       plain = All-push (IsPlain root) earlier task good.plain (record { reads_named = plain.reads_named; writes_named = plain.writes_named; apart = plain.apart });
     })
 
-said_good : (root text : List ℕ) (place : ℕ) (earlier tasks : List Task) (o : Option Line) → AreGood root earlier → line_of root text ≡ o
+said_good : (root text : List ℕ) (place : ℕ) (earlier tasks : List Task) (o : Option TaskLine) → AreGood root earlier → line_of root text ≡ o
     → with_said place earlier o ≡ Ok tasks → AreGood root tasks
 said_good root text place earlier tasks None good said is = absurd (let e : ◌≡◌ {A = Result (List Task) Reported} (Err _) (Ok tasks) = is in cc)
 said_good root text place earlier tasks (Some line) good said is = good_more root place earlier line tasks good (line_plain root text line said) is

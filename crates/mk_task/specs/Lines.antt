@@ -10,7 +10,7 @@ use Rattle.mk_foot.specs.Json.{value_of}
 use Rattle.mk_foot.specs.Lines.{paths_under}
 
 -- what a line says: a label, the labels that it stands behind, and the paths that it reads and writes
-pub record Line : Type 0 where
+pub record TaskLine : Type 0 where
   pub label : Name
   pub after : List Name
   pub reads : List Path
@@ -48,7 +48,7 @@ abbrev pub under_writes : List ℕ → Data → Option (List Path)
 under_writes root d = paths_under root (codes "writes") d
 
 -- the line that an object says; other keys mean nothing
-abbrev pub line_in : List ℕ → Data → Option Line
+abbrev pub line_in : List ℕ → Data → Option TaskLine
 line_in root d =
     option_and_then (λ label. option_and_then (λ after. option_and_then (λ reads. option_map (λ writes.
     record { label = label; after = after; reads = reads; writes = writes })
@@ -56,5 +56,5 @@ line_in root d =
     (option_and_then labels_in (under_after d))) (option_and_then label_of (under_task d))
 
 -- the line of a physical line that is not blank
-abbrev pub line_of : List ℕ → List ℕ → Option Line
+abbrev pub line_of : List ℕ → List ℕ → Option TaskLine
 line_of root text = option_and_then (line_in root) (value_of text)

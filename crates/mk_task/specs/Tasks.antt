@@ -14,7 +14,7 @@ use Rattle.mk_jobs.specs.Numbered.{number_of}
 use Rattle.mk_jobs.specs.Plan.{edge_limit, node_limit}
 use Rattle.mk_foot.specs.Footprints.{path_limit}
 use Rattle.mk_foot.specs.Json.{is_blank}
-use Rattle.mk_task.specs.Lines.{Line, line_of}
+use Rattle.mk_task.specs.Lines.{TaskLine, line_of}
 
 -- a task: its label, the numbers of the earlier tasks that it stands behind, rising, and the paths that it reads and writes
 pub record Task : Type 0 where
@@ -56,7 +56,7 @@ needs_from place labels numbers (x ∷ after) =
     on_number (reported UnknownTask place (x ∷ [])) (λ n. needs_from place labels (insert_key nat_cmp numbers n) after) (number_of labels x)
 
 -- the task of a line, given the numbers of what it stands behind
-abbrev pub task_of : Line → List ℕ → Task
+abbrev pub task_of : TaskLine → List ℕ → Task
 task_of line needs = record { label = line.label; needs = needs; reads = line.reads; writes = line.writes }
 
 -- the limit that so many tasks, edges and paths pass, if they pass one
@@ -75,17 +75,17 @@ abbrev pub within : ℕ → List Task → Result (List Task) Reported
 within place tasks = unless_passed place tasks (limit_passed (length tasks) (edge_count tasks) (path_count tasks))
 
 -- earlier tasks and the one of a line, which stands behind these numbers, unless a label was none's
-abbrev pub with_needs : ℕ → List Task → Line → Result (List ℕ) Reported → Result (List Task) Reported
+abbrev pub with_needs : ℕ → List Task → TaskLine → Result (List ℕ) Reported → Result (List Task) Reported
 with_needs place earlier line (Ok needs) = within place (earlier ++ task_of line needs ∷ [])
 with_needs place earlier line (Err fault) = Err fault
 
 -- earlier tasks and the one of a line at a place, or the line's fault
-abbrev pub with_line : ℕ → List Task → Line → Result (List Task) Reported
+abbrev pub with_line : ℕ → List Task → TaskLine → Result (List Task) Reported
 with_line place earlier line =
     if has same_name (labels_of earlier) line.label then Err (reported TaskTwice place (line.label ∷ []))
     else with_needs place earlier line (needs_from place (labels_of earlier) [] line.after)
 
-abbrev pub with_said : ℕ → List Task → Option Line → Result (List Task) Reported
+abbrev pub with_said : ℕ → List Task → Option TaskLine → Result (List Task) Reported
 with_said place earlier None = Err (reported BadTask place [])
 with_said place earlier (Some line) = with_line place earlier line
 

@@ -20,17 +20,17 @@ const LABEL_LIMIT: usize = 4096;
 
 /// What a line says: a label, the labels that it stands behind, and the paths that it reads and writes, as they stand there.
 #[derive(Debug, Drop)]
-pub struct Line {
+pub struct TaskLine {
     pub label: Name,
     pub after: Vec<Name>,
     pub reads: Vec<Path>,
     pub writes: Vec<Path>,
 }
 
-impl Model for Line {
+impl Model for TaskLine {
     ghost use Rattle.mk_task.specs.Lines as spec;
 
-    ghost Value = { spec.Line };
+    ghost Value = { spec.TaskLine };
 
     ghost view = { λ a. record {
       label = a.label;
@@ -134,7 +134,7 @@ pub fn line_in(
     alloc: Global,
     object: &Document<'_>,
     root: &Root,
-) -> Result<Option<Line>, AllocError>
+) -> Result<Option<TaskLine>, AllocError>
     ensures { IfOk result (λ line. line ≡ spec.line_in root.now (data_of object.now)) }
 {
     let Some(label) = own_label(alloc, object)? else {
@@ -149,7 +149,7 @@ pub fn line_in(
     let Some(writes) = writes_in(alloc, object, root)? else {
         return Ok(None);
     };
-    Ok(Some(Line {
+    Ok(Some(TaskLine {
         label,
         after,
         reads,
@@ -163,7 +163,7 @@ pub(crate) fn line_of(
     text: &[u8],
     scratch: &mut Scratch,
     root: &Root,
-) -> Result<Option<Line>, AllocError>
+) -> Result<Option<TaskLine>, AllocError>
     ensures { IfOk result (λ line. line ≡ spec.line_of root.now text.now) }
 {
     match Document::read(alloc, text, scratch)? {

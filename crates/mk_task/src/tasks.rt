@@ -6,7 +6,7 @@ ghost use Rattle.mk_task.specs.Good.{IsTally};
 ghost use Rattle.mk_task.specs.Tasks as spec;
 
 use crate::labels::Labels;
-use crate::line::Line;
+use crate::line::TaskLine;
 use crate::needs::needs_of;
 use mk_foot::foot_reader::PATH_LIMIT;
 use mk_jobs::plan::{EDGE_LIMIT, NODE_LIMIT};
@@ -76,7 +76,7 @@ impl Tally {
 
     /// Adds the task of the line at a place; or answers the line's fault, and then nothing is known of the tasks. The only
     /// other error is out of memory.
-    pub(crate) fn add(&mut self, alloc: Global, line: Line, place: u64) -> Result<(), Halt>
+    pub(crate) fn add(&mut self, alloc: Global, line: TaskLine, place: u64) -> Result<(), Halt>
         requires { IsTally self.old }
         ensures tally { OnOk result (IsTally self.new) }
         ensures added { OnOk result (spec.with_line place self.old.tasks line ≡ Ok self.new.tasks) }

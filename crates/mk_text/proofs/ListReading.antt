@@ -10,7 +10,7 @@ use Rattle.std.proofs.lemmas.List.Sums.{fold-append}
 use Rattle.mk_name.specs.Reported.{Reported}
 use Rattle.mk_name.specs.declared.fault.Kind.TheVariants.{BadName}
 use Rattle.mk_name.specs.declared.fault.Source.TheVariants as sources
-use Rattle.mk_text.specs.LineFeed.{Follows, fault_at, place_behind}
+use Rattle.mk_text.specs.LineFeed.{ComesBehind, fault_at, place_behind}
 use Rattle.mk_text.specs.Listing.{at_line, both, line_names, names_from, next_place, with_names}
 use Rattle.mk_text.specs.ListReader.{HasListed, Listed, kept_length, listed}
 use Rattle.mk_text.specs.Spelling.{is_line, is_path, path_length}
@@ -126,7 +126,7 @@ line_bad root place line reported is =
 said : (root : List ℕ) (place : ℕ) (line whole : List ℕ) → take kept_length line ≡ take kept_length whole → line_names root place line ≡ line_names root place whole
 said root place line whole same = sym (cut_line root place line) ∙ ap (line_names root place) same ∙ cut_line root place whole
 
-module _ (root : List ℕ) (ended : List (List ℕ)) (whole line : List ℕ) (place : ℕ) (sink : Listed) (before : HasListed root sink ended) (next : Follows kept_length ended whole line place) where
+module _ (root : List ℕ) (ended : List (List ℕ)) (whole line : List ℕ) (place : ℕ) (sink : Listed) (before : HasListed root sink ended) (next : ComesBehind kept_length ended whole line place) where
   here : line_names sink.root place line ≡ line_names root (place_behind ended) whole
   here =
       ap (λ r. line_names r place line) before.root_is

@@ -21,7 +21,7 @@ abbrev pub place_behind : List (List ℕ) → ℕ
 place_behind lines = min (length lines + 1) (2 ^ 64 - 1)
 
 -- a line comes behind others, at this place, and begins with the same bytes as this one
-pub record Follows (kept : ℕ) (ended : List (List ℕ)) (whole line : List ℕ) (place : ℕ) : Type 0 where
+pub record ComesBehind (kept : ℕ) (ended : List (List ℕ)) (whole line : List ℕ) (place : ℕ) : Type 0 where
   pub place_is : place ≡ place_behind ended
   pub begins : take kept line ≡ take kept whole
 

@@ -3,7 +3,7 @@ ghost use Rattle.std.specs.Prelude.{◌≡◌, ◌++◌, ◌∷◌, [], IfErr, L
 ghost use Rattle.mk_name.specs.Reported.{Reported};
 ghost use Rattle.mk_name.specs.declared.fault.Kind.{Kind};
 ghost use Rattle.mk_name.specs.declared.fault.Source.{Source};
-ghost use Rattle.mk_text.specs.LineFeed.{Follows, HasStopped};
+ghost use Rattle.mk_text.specs.LineFeed.{ComesBehind, HasStopped};
 ghost use Rattle.mk_text.specs.declared.line_sink.Stop.TheVariants as stops;
 
 use crate::root::Root;
@@ -58,9 +58,9 @@ pub trait LineSink: Drop {
     /// first, whatever lines come behind it. The only other error is out of memory.
     fn add(&mut self, alloc: Global, line: &[u8], place: u64) -> Result<(), Stop>
         ensures ok { OnOk result ((root : List ℕ) (ended : List (List ℕ)) (whole : List ℕ) → has root self.old ended
-            → Follows KEPT ended whole line.now place → has root self.new (ended ++ whole ∷ [])) }
+            → ComesBehind KEPT ended whole line.now place → has root self.new (ended ++ whole ∷ [])) }
         ensures err { IfErr result (λ stop. (root : List ℕ) (ended : List (List ℕ)) (whole : List ℕ) → has root self.old ended
-            → Follows KEPT ended whole line.now place → HasStopped source (says root) (ended ++ whole ∷ []) stop) };
+            → ComesBehind KEPT ended whole line.now place → HasStopped source (says root) (ended ++ whole ∷ []) stop) };
 
     /// What all lines say.
     fn finish(self) -> Self::Value

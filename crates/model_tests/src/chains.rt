@@ -2,8 +2,8 @@
 ghost use Rattle.std.specs.Prelude.{◌≡◌, ◌<◌};
 ghost use Rattle.mk_jobs.specs.Jobs.{node_count};
 
+use crate::making::{Made, jobs_of};
 use crate::small::{FILE, PLAIN, hold};
-use jobs_for_tests::making::{Made, jobs_of};
 use mk_decide::before::Before;
 use mk_decide::chains::chain;
 use mk_decide::rows::Rows;

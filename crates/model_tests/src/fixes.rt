@@ -1,7 +1,7 @@
 //! All races of jobs, their fix, and jobs that were made again with its edges.
+use crate::making::{Made, jobs_of};
 use crate::small;
 use crate::small::hold;
-use jobs_for_tests::making::{Made, jobs_of};
 use mk_decide::rows::Rows;
 use mk_fix::again::have_all;
 use mk_fix::fix::fix;

@@ -1,8 +1,8 @@
 //! What jobs do not declare: a header that is late too, a file of three writers, a target that is listed, a header that is listed or
 //! unlisted, and jobs that lack nothing.
+use crate::making::{Made, jobs_of};
 use crate::small;
 use crate::small::{FILE, RULED, hold};
-use jobs_for_tests::making::{Made, jobs_of};
 use mk_jobs::jobs::Jobs;
 use mk_missing::violations::{Violations, find_violations};
 use mk_text::listing::Listing;

@@ -2,8 +2,8 @@
 ghost use Rattle.std.specs.Prelude.{◌≡◌, ◌≤◌, ◌<◌};
 ghost use Rattle.mk_jobs.specs.Jobs.{node_count};
 
+use crate::making::line_of;
 use crate::small::hold;
-use jobs_for_tests::making::line_of;
 use mk_decide::before::Before;
 use mk_decide::rows::Rows;
 use mk_decide::walk::Walk;

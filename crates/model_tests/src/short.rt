@@ -1,9 +1,9 @@
 //! Short certificates: those of jobs in which recipes stand in a row, and what is taken for one.
+use crate::making::{Made, jobs_of};
 use crate::small;
 use crate::small::hold;
 use crate::texts::is_text;
 use crate::walks::written;
-use jobs_for_tests::making::{Made, jobs_of};
 use mk_decide::short::{accept_short, decide_short};
 use mk_jobs::jobs::Jobs;
 use mk_proof::proof::Proof;

@@ -1,5 +1,5 @@
 //! Small jobs, and what holds of jobs. They are tables, since each function that makes an array of nodes is proved.
-use jobs_for_tests::making::Made;
+use crate::making::Made;
 use mk_jobs::maker::Maker;
 
 /// Whether something was made, and this holds of it. It is generic, so that only here a large value is owned.

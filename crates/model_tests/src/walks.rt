@@ -1,8 +1,8 @@
 //! What is decided by walks, which no command takes for the order of nodes, and the least race by walks and by rows.
+use crate::making::{Made, jobs_of};
 use crate::small;
 use crate::small::hold;
 use crate::texts::is_text;
-use jobs_for_tests::making::{Made, jobs_of};
 use mk_decide::decision::{Verdict, decide_with};
 use mk_decide::least::least_race;
 use mk_decide::rows::Rows;

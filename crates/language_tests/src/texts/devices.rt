@@ -1,4 +1,4 @@
-//! Readers and writers as devices. Devices that fail after some bytes are those of `mk_run`, in the tests of the program.
+//! Readers and writers as devices.
 use mk_device::device::{ReadStop, read_all, write_all};
 use mk_device::feed::Feed;
 use mk_device::sink::Sink;

@@ -2,7 +2,7 @@ use Rattle.std.proofs.Common.{◌≡◌, List, ap, false, subst, ◌∙◌}
 use Rattle.mk_log.specs.Logs.{Log}
 use Rattle.mk_sched.specs.Runs.{IsComplete, IsRun}
 use Rattle.mk_sched.specs.Steps.{past_of}
-use Rattle.mk_sched.specs.Stored.{Files, store_of}
+use Rattle.mk_sched.specs.Stored.{StoredFiles, store_of}
 use Rattle.mk_sched.specs.declared.event.Event.{Event}
 use Rattle.build_tests.proofs.serialising.serial_list.Goals as goal
 
@@ -16,6 +16,6 @@ in_serial_order-requires-clause-whole c =
     record {
       limit = 2;
       run = subst (λ (es : List Event). IsRun jobs false 2 (store_of log.store) (past_of es)) events
-          (subst (λ (s : Files). IsRun jobs false 2 (store_of s) (past_of c.as_slice.result.now)) store replayed.run);
+          (subst (λ (s : StoredFiles). IsRun jobs false 2 (store_of s) (past_of c.as_slice.result.now)) store replayed.run);
       complete = subst (λ (es : List Event). IsComplete jobs (past_of es)) events (replayed.whole.0 c.if-replay.true);
     }

@@ -5,7 +5,7 @@ use Rattle.std.specs.Vec.Iter.{into_iter_items}
 use Rattle.mk_name.specs.Names.{Name}
 use Rattle.mk_jobs.specs.Shape.{IsRising}
 use Rattle.mk_foot.proofs.AttachNodes.{fault_some, halts_along}
-use Rattle.mk_due.specs.Items.{Item}
+use Rattle.mk_due.specs.Items.{DueItem}
 use Rattle.mk_due.specs.JobsOf.{first_fault, item_fault, reads_of, writes_of}
 use Rattle.mk_due.proofs.Taken.{first_here, first_later, made_fault, pushed_left, row_put}
 use Rattle.mk_due.proofs.making.rows_of.Goals as goal
@@ -33,7 +33,7 @@ loop-item-preserved c =
     let writes = row_put c.loop-item.writes.items c.push-in-loop-item-2.new.self.items c.in_ok-row.row.writes c.in_ok-push-3.ensures.items in
     record {
       first = sym (ap (first_fault root names) here ∙ first_later root names c.in-Some.item rest done.none) ∙ c.loop-item.invariant.first;
-      nodes = pushed_left (λ (i : Item). i.node) c.loop-item.nodes.items c.push.new.self.items left rest c.in-Some.item c.in_ok-row.row.node _ here done.node c.in_ok-push.ensures.items c.loop-item.invariant.nodes;
+      nodes = pushed_left (λ (i : DueItem). i.node) c.loop-item.nodes.items c.push.new.self.items left rest c.in-Some.item c.in_ok-row.row.node _ here done.node c.in_ok-push.ensures.items c.loop-item.invariant.nodes;
       reads = pushed_left reads_of _ _ left rest c.in-Some.item c.in_ok-row.row.reads.items _ here done.reads reads c.loop-item.invariant.reads;
       writes = pushed_left writes_of _ _ left rest c.in-Some.item c.in_ok-row.row.writes.items _ here done.writes writes c.loop-item.invariant.writes;
       reads_rise = subst (All IsRising) (sym reads) (All-push IsRising _ c.in_ok-row.row.reads.items c.loop-item.invariant.reads_rise done.rising.0);

@@ -5,7 +5,7 @@ use Rattle.std.proofs.lemmas.List.Kept.{Contains-dedup, Contains-from_dedup, IsS
 use Rattle.std.proofs.lemmas.List.Sorted.{Contains-permutation, IsPermutation-sym}
 use Rattle.mk_jobs.proofs.JobsLemmas.{clash_live}
 use Rattle.mk_proof.proofs.Risen.{pair_cmp_total}
-use Rattle.mk_decide.specs.Pairs.{IsRising}
+use Rattle.mk_decide.specs.Pairs.{PairsRise}
 use Rattle.mk_decide.proofs.Paired.{pair_equal, pair_equiv, pair_ties}
 use Rattle.mk_fix.specs.Musts.{AreFirsts}
 use Rattle.mk_fix.proofs.Made.{firsts_are, pairs_to_nodes}
@@ -27,7 +27,7 @@ returns c =
     let new = c.dedup.new.self.items in
     let found = c.add_races.new.edges.items in
     let below = c.in_ok-add_races.ensures in
-    let rise : IsRising new = rw is (IsStrictlySortedBy-dedup pair_cmp_total pair_ties _ c.sort_unstable.ensures.sorted) in
+    let rise : PairsRise new = rw is (IsStrictlySortedBy-dedup pair_cmp_total pair_ties _ c.sort_unstable.ensures.sorted) in
     let down : (a b : ℕ) → Contains new (a, b) → Contains found (a, b) =
     λ a b there. Contains-permutation _ _ (a, b) (IsPermutation-sym _ _ moved) (Contains-from_dedup _ _ (a, b) (rw is at there)) in
     let up : (a b : ℕ) → Contains found (a, b) → Contains new (a, b) =

@@ -2,7 +2,7 @@ use Rattle.std.proofs.Common.{◌≡◌, ℕ, ◌<◌, ◌++◌, ◌-◌, false,
 use Rattle.std.specs.Prelude.{◌&&◌}
 use Rattle.mk_jobs.specs.Numbered.{name_at}
 use Rattle.mk_graph.specs.Makers.{is_there}
-use Rattle.mk_sets.specs.Numbers.{in_set}
+use Rattle.mk_graph.specs.Numbers.{in_set}
 use Rattle.mk_graph.proofs.inference.first_there.Given as goal
 
 -- no place below this one serves

@@ -3,7 +3,7 @@ use Rattle.std.proofs.lemmas.Grind.{common_steps}
 use Rattle.std.specs.List.{list_any}
 use Rattle.std.specs.BTreeMap.{is_at}
 use Rattle.std.specs.Ordering.{nat_cmp}
-use Rattle.mk_sets.specs.Numbers.{in_set}
+use Rattle.mk_graph.specs.Numbers.{in_set}
 use Rattle.mk_graph.specs.Places.{stands_beside}
 use Rattle.mk_graph.proofs.Tables.{none_beside, put_is, set_beside}
 use Rattle.mk_graph.proofs.places.put_beside.Goals as goal

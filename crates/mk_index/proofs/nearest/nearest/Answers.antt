@@ -1,7 +1,7 @@
 use Rattle.std.proofs.Common.{map, subst, sym, ◌∙◌}
 use Rattle.std.proofs.lemmas.Bool.{eqb-true}
 use Rattle.mk_name.specs.Names.{Name}
-use Rattle.mk_index.specs.Nearest.{Finds, IsInner, IsOverName, IsOverPath}
+use Rattle.mk_index.specs.Nearest.{FindsTree, IsInner, IsOverName, IsOverPath}
 use Rattle.mk_path.proofs.Numbering.{behind}
 use Rattle.mk_index.proofs.Finding.{none_there, path_first, path_second}
 use Rattle.mk_text.specs.Spelling.{top_of}
@@ -16,5 +16,5 @@ returns-in-Some c = λ root outside inner. path_first root (map behind c.args.pa
 pub returns-in-None : goal.returns-in-None
 returns-in-None c =
     λ root outside inner. path_second root (map behind c.args.paths.now) c.args.path.now c.over_name.result (c.in-None.ensures root)
-    (subst (λ (x : Name). Finds root (map behind c.args.paths.now) (IsOverName (top_of root) x) c.over_name.result) c.as_bytes.ensures
-    (c.over_name.ensures root outside (subst (λ (x : Name). Finds root (map behind c.args.paths.now) (IsInner x) c.args.inner) (sym c.as_bytes.ensures) inner)))
+    (subst (λ (x : Name). FindsTree root (map behind c.args.paths.now) (IsOverName (top_of root) x) c.over_name.result) c.as_bytes.ensures
+    (c.over_name.ensures root outside (subst (λ (x : Name). FindsTree root (map behind c.args.paths.now) (IsInner x) c.args.inner) (sym c.as_bytes.ensures) inner)))

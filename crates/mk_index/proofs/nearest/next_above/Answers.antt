@@ -1,6 +1,6 @@
 use Rattle.std.proofs.Common.{ℕ, List, map, reverse, subst, sym}
 use Rattle.mk_name.specs.Names.{Name}
-use Rattle.mk_index.specs.Nearest.{AreNearest, Finds, IsOverText}
+use Rattle.mk_index.specs.Nearest.{AreNearest, FindsTree, IsOverText}
 use Rattle.mk_index.specs.declared.sweep.Open.{Open}
 use Rattle.mk_index.specs.Sweep.{IsStackAt}
 use Rattle.mk_path.proofs.Numbering.{behind}
@@ -21,7 +21,7 @@ pub loop-t-preserved : goal.loop-t-preserved
 loop-t-preserved c =
     let root = c.args.root.now in
     let paths = map behind c.args.paths.now in
-    let outside = subst (λ (top : Name). Finds root paths (IsOverText top) c.over_text-outside.result) c.top.ensures (c.over_text-outside.ensures root) in
+    let outside = subst (λ (top : Name). FindsTree root paths (IsOverText top) c.over_text-outside.result) c.top.ensures (c.over_text-outside.ensures root) in
     record {
       nearest = nearest_more root paths c.loop-t.t c.next_of.result c.loop-t.next.items c.push.new.self.items c.loop-t.invariant.nearest
           (c.next_of.ensures root outside (c.in_ok-inner.ensures.inner root)) c.in_ok-push.ensures.items;

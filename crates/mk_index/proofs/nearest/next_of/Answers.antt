@@ -1,6 +1,6 @@
 use Rattle.std.proofs.Common.{map, refl, sym, ap, subst, inl, ◌∙◌, None}
 use Rattle.mk_path.specs.declared.path.Path.{Path}
-use Rattle.mk_index.specs.Nearest.{Finds, IsInner, IsOverPath}
+use Rattle.mk_index.specs.Nearest.{FindsTree, IsInner, IsOverPath}
 use Rattle.mk_path.proofs.Numbering.{behind, behind_at}
 use Rattle.mk_index.proofs.nearest.next_of.Goals as goal
 
@@ -10,6 +10,6 @@ returns-in-None c =
     let at = ap behind c.index-paths-t.is ∙ sym (behind_at c.args.paths.now c.args.t c.index-paths-t.result c.requires.within) in
     λ root outside inner. inl (
       refl,
-      subst (λ (p : Path). Finds root paths (IsOverPath root p) None) at
-          (c.in-None.ensures root outside (subst (λ (p : Path). Finds root paths (IsInner p.name) c.args.inner) (sym at) inner)),
+      subst (λ (p : Path). FindsTree root paths (IsOverPath root p) None) at
+          (c.in-None.ensures root outside (subst (λ (p : Path). FindsTree root paths (IsInner p.name) c.args.inner) (sym at) inner)),
     )

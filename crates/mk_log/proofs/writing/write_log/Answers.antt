@@ -4,7 +4,7 @@ use Rattle.std.specs.Str.{is_utf8}
 use Rattle.mk_sched.specs.Stored.{IsInOrder}
 use Rattle.mk_sched.specs.declared.event.Event.{Event}
 use Rattle.mk_log.specs.Logs.{Log}
-use Rattle.mk_log.specs.Reading.{IsRead}
+use Rattle.mk_log.specs.Reading.{IsLogRead}
 use Rattle.mk_log.specs.Spelled.{Adds, entries_reported, file_entry}
 use Rattle.mk_log.specs.declared.entry.Entry.{Entry}
 use Rattle.mk_log.specs.declared.entry.Entry.TheVariants.{Happens}
@@ -39,4 +39,4 @@ returns-clause-reads_back c = λ root named.
     let jobs = c.args.jobs.now in
     let log = c.args.log.now in
     let in_order = subst (λ (l : Log). IsInOrder l.store) c.log.view_is c.in_ok-add_files.ensures.in_order in
-    read_as jobs root c.add_events.new.text.items log (subst (λ (text : List ℕ). IsRead jobs root text (Ok log)) (sym added.lines) (read_back jobs log root added.spelled in_order named))
+    read_as jobs root c.add_events.new.text.items log (subst (λ (text : List ℕ). IsLogRead jobs root text (Ok log)) (sym added.lines) (read_back jobs log root added.spelled in_order named))

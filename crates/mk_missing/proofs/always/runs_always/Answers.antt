@@ -1,6 +1,6 @@
 use Rattle.std.proofs.Common.{◌∙◌, ◌<◌, All, arith, subst, sym}
 use Rattle.mk_decide.proofs.Edges.{all_smaller}
-use Rattle.mk_stale.specs.Watching.{itself}
+use Rattle.mk_missing.specs.Watching.{itself}
 use Rattle.mk_missing.proofs.Awake.{runs_if_woken}
 use Rattle.mk_missing.proofs.always.runs_always.Goals as goal
 

@@ -1,6 +1,6 @@
 use Rattle.std.proofs.Common.{ℕ, ◌≡◌, ◌∙◌, Bool, false, not, List, ap, filter, get_or, length, map, subst}
 use Rattle.mk_missing.specs.Users.{files_of, is_nowhere}
-use Rattle.mk_missing.specs.Violations.{ArePlaces, IsListedOutput, IsWrittenTree}
+use Rattle.mk_missing.specs.Violations.{ArePlacesWhere, IsListedOutput, IsWrittenTree}
 use Rattle.mk_missing.specs.declared.kind.Kind.TheVariants.{Unwatched, Late, Shared}
 use Rattle.mk_missing.specs.declared.users.Users.{Users}
 use Rattle.mk_missing.proofs.Exact.{AreResults, checked_of, declared_is, late_by_of, late_of, violations_are}
@@ -55,8 +55,8 @@ results c =
       shared = checked_of jobs c.late_writers.new.checker users c.deref-7.result.now Shared c.in_ok-shared.shared.items fourth c.deref-7.ensures.value c.in_ok-shared.ensures.pairs;
       present_rise = c.in_ok-present_nodes.ensures.rise;
       present = c.in_ok-present_nodes.ensures.exact;
-      outputs = subst (λ (us : List Users). ArePlaces (files_of us) (IsListedOutput jobs c.args.listing.now) c.in_ok-outputs.outputs.items) c.deref-8.ensures.value c.in_ok-outputs.ensures;
-      trees = subst (λ (us : List Users). ArePlaces (files_of us) (IsWrittenTree jobs) c.in_ok-trees.trees.items) c.deref-9.ensures.value c.in_ok-trees.ensures;
+      outputs = subst (λ (us : List Users). ArePlacesWhere (files_of us) (IsListedOutput jobs c.args.listing.now) c.in_ok-outputs.outputs.items) c.deref-8.ensures.value c.in_ok-outputs.ensures;
+      trees = subst (λ (us : List Users). ArePlacesWhere (files_of us) (IsWrittenTree jobs) c.in_ok-trees.trees.items) c.deref-9.ensures.value c.in_ok-trees.ensures;
     }
 
 pub returns-clause-all : goal.returns-clause-all

@@ -1,6 +1,6 @@
-use Rattle.std.proofs.Common.{Ok}
 use Rattle.std.proofs.lemmas.Result.{IfOk-weaker}
-use Rattle.mk_race.specs.Judged.{IsAnswered, NoScheduleShows}
+use Rattle.mk_program.specs.Answers.{NoScheduleOfJobsShows}
+use Rattle.mk_race.specs.Judged.{IsDecided}
 use Rattle.mk_program.proofs.Judged.{judged_ends, judged_is}
 use Rattle.mk_program.proofs.checking.judged_of.Goals as goal
 
@@ -11,6 +11,5 @@ returns-clause-status c =
 pub returns-clause-answer : goal.returns-clause-answer
 returns-clause-answer c =
     let judged = c.in_ok-judged.ensures in
-    IfOk-weaker c.judged_answer.result _ _ (λ answer h texts footprints is.
-    judged_is (IsAnswered c.args.short texts footprints) (NoScheduleShows texts footprints) c.in_ok-judged.judged c.args.proof answer.status answer.text.items
-    (Ok c.args.prepared, is, judged.answer) (judged.headline texts footprints is) judged.holds h.0 h.1) c.judged_answer.ensures
+    IfOk-weaker c.judged_answer.result _ _ (λ answer h. judged_is (IsDecided c.args.short c.args.jobs) (NoScheduleOfJobsShows c.args.jobs) c.in_ok-judged.judged c.args.proof
+    answer.status answer.text.items judged.answer (λ safe. (judged.headline safe, judged.of_tasks safe)) judged.holds h.0 h.1) c.judged_answer.ensures

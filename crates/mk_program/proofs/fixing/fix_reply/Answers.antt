@@ -1,7 +1,5 @@
 use Rattle.std.proofs.Common.{refl}
 use Rattle.std.proofs.lemmas.Result.{IfOk-weaker}
-use Rattle.mk_race.specs.Parts.{texts_with}
-use Rattle.mk_run.proofs.Reading.{of_texts}
 use Rattle.mk_program.specs.Answers.{IsFixAnswer}
 use Rattle.mk_program.proofs.Noted.{fault_noted, noting_is, read_again}
 use Rattle.mk_program.proofs.fixing.fix_reply.Goals as goal
@@ -10,17 +8,14 @@ pub returns-in_ok-answer-in-Ok-clause-answer : goal.returns-in_ok-answer-in-Ok-c
 returns-in_ok-answer-in-Ok-clause-answer c =
     let build = c.args.build in
     let noted = c.in-Ok.noted in
-    let fixing = c.fix_prepared-fixing.result in
-    let answer = c.in_ok-answer-in-Ok.answer in
-    noting_is (λ texts lines. IsFixAnswer texts lines c.args.print_proof) build c.args.strict noted answer c.with_note.result
+    let fixing = c.fix_build-fixing in
+    noting_is (λ texts lines. IsFixAnswer texts lines c.args.print_proof) build c.args.strict noted c.in_ok-answer-in-Ok.answer c.with_note.result
     c.in-Ok.ensures.answer
     (λ texts lines from.
-    of_texts (λ texts lines. IsFixAnswer texts lines c.args.print_proof answer.status answer.text.items) build (λ listed lines read.
-    let texts = texts_with build.settings.now build.base.now build.makefile.now listed in
-    let again = read_again texts build lines noted.prepared c.in_ok-again.again _ c.in-Ok.ensures.read c.in_ok-again.ensures c.in-Some.is read in
-    let prepared = c.in-Ok.ensures.prepared texts lines (record { texts_are = refl; read = read }) in
-    c.in_ok-answer-in-Ok.ensures.answer texts lines (c.fix_prepared-fixing.ensures.answer listed lines again prepared)
-    (IfOk-weaker fixing _ _ (λ fixed holds. holds listed lines again prepared) c.fix_prepared-fixing.ensures.headline)) texts lines from)
+    let again = read_again texts build lines noted.prepared c.in_ok-again.again _ c.in-Ok.ensures.read c.in_ok-again.ensures c.in-Some.is from in
+    let prepared = c.in-Ok.ensures.prepared texts lines from in
+    c.in_ok-answer-in-Ok.ensures.answer texts lines (fixing.ensures.answer texts lines again noted.prepared prepared refl)
+    (IfOk-weaker fixing.result _ _ (λ fixed holds. holds texts lines again noted.prepared prepared refl) fixing.ensures.headline))
     c.with_note.ensures.answer c.with_note.ensures.note
 
 pub returns-in-Err-clause-answer : goal.returns-in-Err-clause-answer

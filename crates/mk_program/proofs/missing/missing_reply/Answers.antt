@@ -1,25 +1,17 @@
-use Rattle.std.proofs.Common.{refl}
 use Rattle.std.proofs.lemmas.Result.{IfOk-weaker}
-use Rattle.mk_race.specs.Parts.{texts_with}
-use Rattle.mk_run.proofs.Reading.{of_texts}
 use Rattle.mk_program.specs.Answers.{IsMissingAnswer}
 use Rattle.mk_program.proofs.Noted.{fault_noted, noting_is}
 use Rattle.mk_program.proofs.missing.missing_reply.Goals as goal
 
 pub returns-in_ok-answer-in-Ok-clause-answer : goal.returns-in_ok-answer-in-Ok-clause-answer
 returns-in_ok-answer-in-Ok-clause-answer c =
-    let build = c.args.build in
-    let noted = c.in-Ok.noted in
-    let found = c.missing_prepared-found.result in
-    let answer = c.in_ok-answer-in-Ok.answer in
-    noting_is (λ texts lines. IsMissingAnswer texts lines) build c.args.strict noted answer c.with_note.result
+    let found = c.list_missing-found in
+    noting_is (λ texts lines. IsMissingAnswer texts lines) c.args.build c.args.strict c.in-Ok.noted c.in_ok-answer-in-Ok.answer c.with_note.result
     c.in-Ok.ensures.answer
     (λ texts lines from.
-    of_texts (λ texts lines. IsMissingAnswer texts lines answer.status answer.text.items) build (λ listed lines read.
-    let texts = texts_with build.settings.now build.base.now build.makefile.now listed in
-    let prepared = c.in-Ok.ensures.prepared texts lines (record { texts_are = refl; read = read }) in
-    c.in_ok-answer-in-Ok.ensures.answer texts lines (c.missing_prepared-found.ensures.missing listed lines prepared)
-    (IfOk-weaker found _ _ (λ given clean empty. clean empty listed lines prepared) c.missing_prepared-found.ensures.headline)) texts lines from)
+    let prepared = c.in-Ok.ensures.prepared texts lines from in
+    c.in_ok-answer-in-Ok.ensures.answer texts lines (found.ensures.missing texts lines from.texts_are prepared)
+    (IfOk-weaker found.result _ _ (λ given clean empty. clean empty texts lines from.texts_are prepared) found.ensures.headline))
     c.with_note.ensures.answer c.with_note.ensures.note
 
 pub returns-in-Err-clause-answer : goal.returns-in-Err-clause-answer

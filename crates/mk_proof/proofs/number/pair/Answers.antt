@@ -1,6 +1,6 @@
 use Rattle.std.proofs.Common.{◌∷◌, [], ap₂, sym, ◌∙◌, arith}
 use Rattle.std.specs.Fmt.{decimal}
-use Rattle.mk_proof.specs.ProofText.{Line, Word, words_of}
+use Rattle.mk_proof.specs.ProofText.{ProofLine, Word, words_of}
 use Rattle.mk_proof.proofs.Following.{heads, tails}
 use Rattle.mk_proof.proofs.Found.{no_two, number_word, word_number}
 use Rattle.mk_proof.proofs.Words.{cut_parts}
@@ -33,5 +33,5 @@ returns c =
     let one = c.in_ok-number.ensures in
     let two = c.in_ok-number-2.ensures in (
       (one.0, two.0),
-      ap₂ (λ (w : Word) (ws : Line). w ∷ ws) one.1 (sym (number_word c.in_ok-number-2.field-0 second (omega (arith, two.0)) two.1)) ∙ sym cut,
+      ap₂ (λ (w : Word) (ws : ProofLine). w ∷ ws) one.1 (sym (number_word c.in_ok-number-2.field-0 second (omega (arith, two.0)) two.1)) ∙ sym cut,
     )

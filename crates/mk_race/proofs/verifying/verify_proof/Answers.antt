@@ -1,17 +1,20 @@
-use Rattle.std.proofs.Common.{false}
-use Rattle.std.proofs.lemmas.Result.{IfOk-weaker}
-use Rattle.mk_race.specs.Stages.{IsPrepared, texts_of}
-use Rattle.mk_race.specs.Verified.{IsVerifiedOn}
-use Rattle.mk_race.specs.declared.preparing.Prepared.{Prepared}
-use Rattle.mk_race.proofs.Behind.{answers_behind}
+use Rattle.std.proofs.lemmas.Result.{err_from_is_err_and}
+use Rattle.mk_race.proofs.ProofTexts.{build_shows, proof_unread, tasks_show, verified_on}
 use Rattle.mk_race.proofs.verifying.verify_proof.Goals as goal
+
+pub returns-in_err-read-clause-answer : goal.returns-in_err-read-clause-answer
+returns-in_err-read-clause-answer c =
+    let p = err_from_is_err_and c.from_residual.result c.from_residual.ensures.1 in
+    rw (p.1, p.2) (proof_unread c.args.short c.args.jobs.now c.args.proof.now c.in_err-read.field-0.0 c.in_err-read.ensures)
 
 pub returns-clause-answer : goal.returns-clause-answer
 returns-clause-answer c =
-    answers_behind (IsPrepared (texts_of c.args.input.now) c.args.input.now.footprints.now)
-    (λ (p : Prepared). IsVerifiedOn false p.jobs c.args.proof.now) c.in_ok-prepared.prepared c.verify_prepared.result
-    c.in_ok-prepared.ensures c.verify_prepared.ensures.answer
+    verified_on c.args.short c.args.jobs.now c.args.proof.now c.in_ok-read.read c.in_ok-accepted.accepted c.in_ok-read.ensures c.in_ok-accepted.ensures
 
 pub returns-clause-shows : goal.returns-clause-shows
 returns-clause-shows c =
-    IfOk-weaker c.verify_prepared.result _ _ (λ accepted h. h (texts_of c.args.input.now) c.args.input.now.footprints.now c.in_ok-prepared.ensures) c.verify_prepared.ensures.shows
+    build_shows c.args.short c.args.jobs.now c.args.proof.now c.in_ok-read.read c.in_ok-accepted.accepted c.in_ok-read.ensures c.in_ok-accepted.ensures
+
+pub returns-clause-of_tasks : goal.returns-clause-of_tasks
+returns-clause-of_tasks c =
+    tasks_show c.args.short c.args.jobs.now c.args.proof.now c.in_ok-read.read c.in_ok-accepted.accepted c.in_ok-read.ensures c.in_ok-accepted.ensures

@@ -4,7 +4,7 @@ use Rattle.mk_jobs.specs.Jobs.{node_count}
 use Rattle.mk_sched.specs.Events.{Event, running_below}
 use Rattle.mk_sched.specs.Steps.{step_of, past_of}
 use Rattle.mk_sched.specs.Stored.{store_of}
-use Rattle.mk_sched.specs.declared.event.Event.{Event as Reported}
+use Rattle.mk_sched.specs.declared.event.Event.{Event as LogEvent}
 use Rattle.mk_sched.proofs.Replaying.{IsAt, past_more, begun_at, next, moves, room, finds_reported, not_allowed, leaves, whole, cut}
 use Rattle.mk_sched.proofs.replay.replay.Goals as goal
 
@@ -62,7 +62,7 @@ loop-event-preserved c =
 pub returns-clause-ok : goal.returns-clause-ok
 returns-clause-ok c =
     let all : take c.loop-event.event-index c.args.events.now ≡ c.args.events.now = take_all c.loop-event.event-index c.args.events.now c.loop-event-test.false in
-    let at = subst (λ (events : List Reported). IsAt c.args.jobs.now c.args.tie c.args.limit (store_of c.args.store) (past_of events) c.loop-event.state.store c.loop-event.state.stages.items c.loop-event.state.running) all c.loop-event.invariant.at in
+    let at = subst (λ (events : List LogEvent). IsAt c.args.jobs.now c.args.tie c.args.limit (store_of c.args.store) (past_of events) c.loop-event.state.store c.loop-event.state.stages.items c.loop-event.state.running) all c.loop-event.invariant.at in
     record {
       agrees = c.agrees.ensures.0 c.if-not-agrees.false;
       run = at.run;

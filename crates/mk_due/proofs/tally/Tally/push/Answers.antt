@@ -9,7 +9,7 @@ use Rattle.mk_name.specs.declared.fault.Halt.{Halt}
 use Rattle.mk_name.specs.declared.fault.Kind.TheVariants.{TaskTwice}
 use Rattle.mk_task.specs.Tasks.{limit_passed, reported}
 use Rattle.mk_due.specs.declared.tally.Tally.{Tally}
-use Rattle.mk_due.specs.Items.{Item, is_task, names_of, with_item}
+use Rattle.mk_due.specs.Items.{DueItem, is_task, names_of, with_item}
 use Rattle.mk_due.proofs.Adding.{AreCounts, IsOneMore, item_new, item_twice, none_from, number_there, tally_push, there_is, within_passed}
 use Rattle.mk_due.proofs.tally.Tally.push.Goals as goal
 
@@ -30,8 +30,8 @@ returns-in-Some-clause-fault c =
     let paths = c.saturating_add-paths.result in
     let absent : has same_name (names_of items) item.node.name ≡ false =
     sym (there_is c.args.self.now.names items _ item.node.name c.number.result c.is_some.result c.requires.tally.names_are c.name.ensures c.number.ensures c.is_some.ensures) ∙ c.if-is_some.false in
-    let reads = ap (λ (i : Item). length i.reads) c.item.view_is in
-    let writes = ap (λ (i : Item). length i.writes) c.item.view_is in
+    let reads = ap (λ (i : DueItem). length i.reads) c.item.view_is in
+    let writes = ap (λ (i : DueItem). length i.writes) c.item.view_is in
     let counts : AreCounts items item edges paths = record {
       edges_are = omega (arith, c.needs.ensures, c.requires.tally.edges_are);
       paths_are = omega (arith, reads, writes, c.requires.tally.paths_are);
@@ -50,8 +50,8 @@ returns-clause-tally c =
     let new : Tally = record { items = c.push.new.self; names = c.put.new.self; tasks = c.note_task.new.tasks; edges = edges; paths = paths } in
     let absent : has same_name c.args.self.now.names item.node.name ≡ false =
     ap (has same_name c.args.self.now.names) (sym c.name.ensures) ∙ sym (c.is_some.ensures ∙ ap is_some c.number.ensures ∙ number_there c.args.self.now.names _) ∙ c.if-is_some.false in
-    let reads = ap (λ (i : Item). length i.reads) c.item.view_is in
-    let writes = ap (λ (i : Item). length i.writes) c.item.view_is in
+    let reads = ap (λ (i : DueItem). length i.reads) c.item.view_is in
+    let writes = ap (λ (i : DueItem). length i.writes) c.item.view_is in
     let counts : AreCounts items item edges paths = record {
       edges_are = omega (arith, c.needs.ensures, c.requires.tally.edges_are);
       paths_are = omega (arith, reads, writes, c.requires.tally.paths_are);
@@ -78,8 +78,8 @@ returns-clause-added c =
     let paths = c.saturating_add-paths.result in
     let absent : has same_name (names_of items) item.node.name ≡ false =
     sym (there_is c.args.self.now.names items _ item.node.name c.number.result c.is_some.result c.requires.tally.names_are c.name.ensures c.number.ensures c.is_some.ensures) ∙ c.if-is_some.false in
-    let reads = ap (λ (i : Item). length i.reads) c.item.view_is in
-    let writes = ap (λ (i : Item). length i.writes) c.item.view_is in
+    let reads = ap (λ (i : DueItem). length i.reads) c.item.view_is in
+    let writes = ap (λ (i : DueItem). length i.writes) c.item.view_is in
     let counts : AreCounts items item edges paths = record {
       edges_are = omega (arith, c.needs.ensures, c.requires.tally.edges_are);
       paths_are = omega (arith, reads, writes, c.requires.tally.paths_are);

@@ -5,7 +5,7 @@ use Rattle.std.proofs.lemmas.Result.{err_from_is_err_and}
 use Rattle.mk_name.specs.declared.fault.Kind.TheVariants.{BadFootprint, FootprintsTooLarge}
 use Rattle.mk_name.specs.declared.fault.Source.TheVariants as sources
 use Rattle.mk_text.specs.LineFeed.{HasStopped}
-use Rattle.mk_foot.specs.Lines.{Line}
+use Rattle.mk_foot.specs.Lines.{FootprintLine}
 use Rattle.mk_foot.specs.FootReader.{HasUnited, United}
 use Rattle.mk_foot.specs.Footprints.{AreFootprints, AreRead, lines_of, path_count, path_limit, reported_at}
 use Rattle.mk_foot.proofs.FootReading.{bad_first, faults_stay, good_more, large_first, one_line, said_below, stops_by, whole_line}
@@ -34,7 +34,7 @@ returns-in_default-clause-ok c = λ root ended whole before next.
     (said_below root c.root-root.result.now text (Some []) (c.root-root.ensures ∙ inside.united.root_is)
     (c.in_ok-line.ensures.ok ∙ ap (λ o. Some (option_to_list o)) c.in_default.is))
     (omega (arith, none)) inside.few
-    (subst (λ (ls : List Line). AreFootprints root c.self.inside.footprints ls) (sym (append-nil (lines_of root ended))) inside.united))
+    (subst (λ (ls : List FootprintLine). AreFootprints root c.self.inside.footprints ls) (sym (append-nil (lines_of root ended))) inside.united))
 
 pub returns-then-paths-gt-PATH_LIMIT-clause-err : goal.returns-then-paths-gt-PATH_LIMIT-clause-err
 returns-then-paths-gt-PATH_LIMIT-clause-err c = λ root ended whole before next.

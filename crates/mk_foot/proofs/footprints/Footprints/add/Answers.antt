@@ -1,6 +1,6 @@
 use Rattle.std.proofs.Common.{◌≡◌, ◌∷◌, [], ◌++◌, ap, ◌∙◌, sym, subst}
 use Rattle.std.specs.Prelude.{unwrap_or}
-use Rattle.mk_foot.specs.Lines.{Line}
+use Rattle.mk_foot.specs.Lines.{FootprintLine}
 use Rattle.mk_foot.specs.Footprints.{AreFootprints, ByTarget, Footprint, Footprints, Unites, footprint_in, no_footprint}
 use Rattle.mk_jobs.specs.Shape.{AreNamed}
 use Rattle.mk_foot.proofs.Named.{more_named}
@@ -16,7 +16,7 @@ invariant_of-footprint-2 c = (
 
 pub returns : goal.returns
 returns c =
-    let line : Line = record { target = c.line.inside.target; reads = c.line.inside.reads.items; writes = c.line.inside.writes.items } in
+    let line : FootprintLine = record { target = c.line.inside.target; reads = c.line.inside.reads.items; writes = c.line.inside.writes.items } in
     let old : ByTarget = c.self.inside.by_target.entries in
     let before : Footprint = record { reads = c.footprint.inside.reads.keys; writes = c.footprint.inside.writes.keys } in
     let after : Footprint = record { reads = c.add_paths.new.paths.keys; writes = c.add_paths-2.new.paths.keys } in
@@ -34,7 +34,7 @@ returns c =
     record {
       root_is = inside.root_is;
       unites =
-          subst (λ (l : Line). Unites c.insert.new.self.entries (lines ++ l ∷ [])) c.line.view_is
+          subst (λ (l : FootprintLine). Unites c.insert.new.self.entries (lines ++ l ∷ [])) c.line.view_is
           (unites_more line lines old c.remove.new.self.entries c.insert.new.self.entries before after (was ∙ sym c.footprint.view_is) reads writes
           c.remove.ensures.updates.0 c.in_ok-insert.ensures.updates.0 c.insert.ensures.ordered inside.unites);
     }

@@ -1,7 +1,7 @@
 use Rattle.std.proofs.Common.{◌∙◌, List, [], ◌∷◌, ◌++◌, Option, sym, ap, subst, arith, refl, reverse}
 use Rattle.mk_macro.specs.Busy.{busy_names}
 use Rattle.mk_macro.specs.Expansion.{IsExpansion, refusal}
-use Rattle.mk_macro.specs.Layer.{Holds, Text}
+use Rattle.mk_macro.specs.Layer.{OutputHolds, Text}
 use Rattle.mk_macro.specs.Macros.{macros_of}
 use Rattle.mk_macro.specs.Reference.{Change}
 use Rattle.mk_macro.specs.References.{items_of}
@@ -86,7 +86,7 @@ items-preserved c =
 pub items-preserved-in-Some-value : goal.items-preserved-in-Some-value
 items-preserved-in-Some-value c =
     let name = c.in-Refers.reference.name in
-    let opened = subst (λ (change : Option Change). (t : Text) (ts : List Text) → Holds c.refer.new.out t ts → Holds c.open.new.self (record { change = change; own = [] }) (t ∷ ts)) c.into_change.ensures c.in_ok-open-in-Refers.ensures.opened in
+    let opened = subst (λ (change : Option Change). (t : Text) (ts : List Text) → OutputHolds c.refer.new.out t ts → OutputHolds c.open.new.self (record { change = change; own = [] }) (t ∷ ts)) c.into_change.ensures c.in_ok-open-in-Refers.ensures.opened in
     let same =
     ap (λ os. refusal (busy_names os) c.items.count name) (sym c.deref.ensures.value)
     ∙ ap (λ n. refusal (busy_names c.deref.result.now) c.items.count n) (sym c.name-name.ensures) in

@@ -1,6 +1,6 @@
 use Rattle.std.proofs.Common.{◌≡◌, ◌&&◌, subst}
 use Rattle.mk_jobs.specs.Jobs.{Jobs, is_live}
-use Rattle.mk_stale.specs.Watching.{makes_own}
+use Rattle.mk_missing.specs.Watching.{makes_own}
 use Rattle.mk_missing.proofs.Heard.{carries_else, carries_then}
 use Rattle.mk_missing.proofs.hearing.Hearing.carries.Goals as goal
 

@@ -1,5 +1,5 @@
 use Rattle.std.proofs.Common.{ℕ, Some, None, sym, ap, ◌∙◌, arith}
-use Rattle.mk_sched.specs.Stored.{Files, how_many, one_at}
+use Rattle.mk_sched.specs.Stored.{StoredFiles, how_many, one_at}
 use Rattle.mk_sched.proofs.Storing.{how_many-erase, some_has_time, changed, taken}
 use Rattle.mk_sched.proofs.store.Store.erase.Goals as goal
 
@@ -14,7 +14,7 @@ invariant_of-self c = record {
   counted = λ t.
       let left = how_many-erase c.self.inside.files.entries c.args.name.now (Some c.in-Some.file) t c.in-Some.ensures.value in
       let old = ap (λ (s : ℕ). one_at s t) c.time.ensures in
-      let entries = ap (λ (files : Files). how_many files t) c.remove.ensures.entries in
+      let entries = ap (λ (files : StoredFiles). how_many files t) c.remove.ensures.entries in
       omega (arith, left, old, entries, c.take.ensures t, c.self.invariant.counted t);
 }
 

@@ -1,6 +1,6 @@
 use Rattle.std.proofs.Common.{ℕ, Some, None, sym, ap, ◌∙◌, arith}
 use Rattle.mk_sched.specs.Stores.{File}
-use Rattle.mk_sched.specs.Stored.{Files, how_many, one_at}
+use Rattle.mk_sched.specs.Stored.{StoredFiles, how_many, one_at}
 use Rattle.mk_sched.proofs.Storing.{how_many-le, how_many-put, some_has_time, changed}
 use Rattle.mk_sched.proofs.store.Store.put.Goals as goal
 
@@ -15,7 +15,7 @@ invariant_of-self-in-Ok-None c = record {
   counted = λ t.
       let put = how_many-put c.self.inside.files.entries c.args.name c.new.result None t c.self.invariant.in_order (sym c.in-Ok-None.field-0-is ∙ c.in-Ok-None.ensures.old) in
       let timed = ap (λ (f : File). one_at f.time t) c.new.ensures in
-      let entries = ap (λ (files : Files). how_many files t) c.in-Ok-None.ensures.entries in
+      let entries = ap (λ (files : StoredFiles). how_many files t) c.in-Ok-None.ensures.entries in
       omega (arith, put, timed, entries, c.in_ok-add.ensures.ok t, c.self.invariant.counted t);
 }
 
@@ -34,7 +34,7 @@ invariant_of-self-in-Ok-Some c = record {
       let put = how_many-put c.self.inside.files.entries c.args.name c.new.result (Some c.in-Ok-Some.file) t c.self.invariant.in_order (sym c.in-Ok-Some.field-0-is ∙ c.in-Ok-Some.ensures.old) in
       let timed = ap (λ (f : File). one_at f.time t) c.new.ensures in
       let old = ap (λ (s : ℕ). one_at s t) c.time.ensures in
-      let entries = ap (λ (files : Files). how_many files t) c.in-Ok-Some.ensures.entries in
+      let entries = ap (λ (files : StoredFiles). how_many files t) c.in-Ok-Some.ensures.entries in
       omega (arith, put, timed, old, entries, c.take.ensures t, c.in_ok-add.ensures.ok t, c.self.invariant.counted t);
 }
 

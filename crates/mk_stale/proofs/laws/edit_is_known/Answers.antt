@@ -1,5 +1,0 @@
-use Rattle.mk_stale.proofs.Editing.{edit_is_known}
-use Rattle.mk_stale.proofs.laws.edit_is_known.Goals as goal
-
-pub returns : goal.returns
-returns c = edit_is_known

@@ -1,5 +1,0 @@
-use Rattle.mk_stale.proofs.Edited.{edits_leave}
-use Rattle.mk_stale.proofs.worked.edits_leave.Goals as goal
-
-pub returns : goal.returns
-returns c = edits_leave
