@@ -20,14 +20,13 @@ from confirm.tree import take_back
 from confirm.trial import PARALLEL, SERIAL, Trial
 from record import RELEASE
 from record.build.text import shown
-from record.folder import NotWhole, reading
+from record.folder import Missing, NotWhole, reading
 from record.judge import find_race, no_race
-from record.main import SERIAL_FAILED, Missing, version_of
-from record.messages import printable, reason
+from record.main import SERIAL_FAILED, version_of
+from record.messages import after_no_verdict, printable, reason
 from record.orders.builds import TAKES_LEFT, Plan
 from record.orders.graph import Graph
-from record.orders.trees import CannotCopy, copy, remove
-from record.pages import after_no_verdict
+from record.orders.trees import CannotTry, copy, remove
 from record.watch.lay import LIBC
 from record.watch.library import NotBuilt, put_library
 from report.asking import judge
@@ -212,7 +211,7 @@ def run(args: argparse.Namespace) -> int:
     with reading(args.record):
         used = tools_of(args.record)
     if "make" in used:
-        version_of("make", r"GNU Make (\d+)\.(\d+)", (4, 2), "make")
+        version_of("make", r"GNU Make (\d+)\.(\d+)", (4, 2))
     with tempfile.TemporaryDirectory(prefix="race-confirm-") as room:
         put_library(Path(room, "library"))
     if args.keep:
@@ -243,7 +242,7 @@ def main(words: Sequence[str] | None = None) -> int:
         return 3 if end.code else 0
     try:
         return run(args)
-    except (CannotConfirm, CannotCopy) as error:
+    except (CannotConfirm, CannotTry) as error:
         show(iter([f"CANNOT BE CONFIRMED  {error}"]))
         return 2
     except KeyboardInterrupt:

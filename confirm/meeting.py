@@ -17,7 +17,7 @@ from confirm.races import Chosen, Held
 from confirm.schedules import Point, Points, Schedule
 from confirm.uses import FILTER, program_of, use_of
 from record.orders.gate import Gate, Key
-from record.orders.processes import is_quiet, parent_of, words_of
+from record.orders.processes import parent_of, words_of
 from record.orders.reported import Call, go_on
 from record.watch.lay import LIBC
 
@@ -71,7 +71,7 @@ class Meeting(Gate):
     def let_go(self, pid: int, channel: socket.socket) -> None:
         key = self.owners[pid]
         if self.schedule and self.schedule.is_start and key == self.late.key:
-            self.is_reached |= not self.early.is_recipe or self.is_over(self.early.key)
+            self.is_reached |= not self.early.is_recipe or self.early.key in self.over
         for side in self.reported():
             if key == side.key:
                 self.ask_for_reports(pid, channel, side.side)
@@ -114,9 +114,9 @@ class Meeting(Gate):
             self.behind[call.pid] = does, program
             yield self.points.add(side, "before", does, program)
 
-    def is_idle(self, root: int) -> bool:
+    def still(self) -> Collection[int]:
         lent = {above for above in map(parent_of, self.held) if words_of(above)[0] == "D"}  # until a child of vfork begins its program
-        return is_quiet(root, {*self.waiting, *self.held, *lent}) or self.stalled.is_so(root, self.waiting, {*self.held, *lent})
+        return {*self.waiting, *self.held, *lent}
 
     def may_begin(self, key: Key) -> bool:
         if not self.held or not self.early.is_recipe:
@@ -129,7 +129,7 @@ class Meeting(Gate):
         if not self.is_idle(root):
             return False
         self.hear_makes()
-        is_over = self.early.is_recipe and self.is_over(self.early.key)
+        is_over = self.early.is_recipe and self.early.key in self.over
         rows = [self.bare(pid) for pid in self.waiting]
         if not is_over and any((make, name) in self.open or self.may_begin(key) for make, name, key in rows):
             return super().turn(root)

@@ -33,7 +33,6 @@ class Held:
     key: Key = ()
     task: int = 0  # its place in the serial order
     is_part: bool = False  # a process of it, and not the whole recipe
-    is_twice: bool = False  # another statement of ninja has its command
 
 
 @dataclass(frozen=True)
@@ -99,13 +98,12 @@ def choice(number: int, race: Race, graph: Graph) -> Chosen:
     """A race with what its build says of it."""
     about = graph.builds[race.build]
     folder, sides = about["folder"], []
-    sums = Counter(it.get("sum") for it in about["labels"].values())
     for side, recipe in zip(SIDES, (race.first.recipe, race.second.recipe)):
         label = about["labels"].get(recipe.label, {})
         kind, sum_ = label.get("kind", ""), label.get("sum")
         own = (it.key for it in graph.tasks if it.build == race.build and it.key is not None and it.key[-1][:2] == (folder, sum_ or recipe.target))
         key = graph.tasks[graph.at[race.build, recipe.label]].key or next(own, None) or ()  # all rules with two colons of a target are one recipe
-        sides.append(Held(side, recipe.target, folder, kind in ("recipe", "part"), key, graph.at[race.build, recipe.label], kind == "part", sum_ is not None and sums[sum_] > 1))
+        sides.append(Held(side, recipe.target, folder, kind in ("recipe", "part"), key, graph.at[race.build, recipe.label], kind == "part"))
     path = file_in(about, race.path)
     whole = os.path.normpath(os.path.join(folder, path))
     return Chosen(number, race, whole + "/" * path.endswith("/"), (sides[0], sides[1]))

@@ -14,7 +14,7 @@ from pathlib import Path
 
 from confirm.races import CannotConfirm
 from confirm.tree import names_its_folder
-from record.main import Missing
+from record.folder import Missing
 from record.orders import builds
 from record.orders.builds import Plan, is_child_able
 from record.watch.lay import leave

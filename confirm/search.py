@@ -123,8 +123,6 @@ def search(trial: Trial, race: Chosen, runs: int, only: int = 0) -> Finding:
             raise CannotConfirm("both recipes have the same target, so neither can be held alone: fix the race without it")
         if part := [it.target for it in race.sides if it.is_part]:
             raise CannotConfirm(f"a process of the recipe of {part[0]} races by itself, and only whole recipes can be held")
-        if same := [it.target for it in race.sides if it.is_twice]:
-            raise CannotConfirm(f"another build statement has the command of {same[0]}, so it cannot be held alone: give it a command of its own")
         serial = trial.marked(race)
         Search(trial, finding, serial, Reach(trial.tasks, race.race, trial.races)).run(runs, only)
     except CannotConfirm as error:

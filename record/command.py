@@ -6,6 +6,8 @@ import re
 from pathlib import Path
 from typing import List
 
+from record.commands.system import is_below
+
 FOLDER = re.compile(r"\0(?:-C\0?|--build\0|--directory[\0=])([^\0]+)")  # words that name a folder
 
 
@@ -34,7 +36,7 @@ def tops_of(words: List[str], others: List[str]) -> List[str]:
     """The folders that a build works in: where it starts, those that its words name, and the sources that they belong to."""
     found = [os.path.realpath(name) for name in [".", *others, *filter(os.path.isdir, named_folders(words))]]
     found += [os.path.realpath(source) for source in map(source_of, found) if source]
-    return [top for top in dict.fromkeys(found) if not any(top.startswith(other.rstrip("/") + "/") for other in found)]
+    return [top for top in dict.fromkeys(found) if not any(top != other and is_below(top, other) for other in found)]
 
 
 def cached(folder: str, name: str) -> str:

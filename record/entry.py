@@ -25,9 +25,6 @@ PATIENCE = 10  # so many seconds a build has to end
 OF_ITS_OWN = "Nothing of your project or its build is lost. Please report it: the command, and the lines above from Traceback on, which say where it stopped"
 
 
-Left = Callable[[], Iterable[int]]
-
-
 class Stopped(KeyboardInterrupt):
     """A signal has come that ends the program; its name."""
 
@@ -74,28 +71,23 @@ def traced(tracer: int) -> Iterator[int]:
                 yield int(pid)
 
 
-def signal_all(pids: Iterable[int], number: int) -> None:
-    """Sends processes a signal."""
-    for pid in pids:
-        with suppress(OSError):  # it has ended, or is of another user
-            os.kill(pid, number)
-
-
-def have_ended(strace: "subprocess.Popen[bytes]", left: Left, number: int) -> bool:
+def have_ended(strace: "subprocess.Popen[bytes]", left: Callable[[], Iterable[int]], number: int) -> bool:
     """Sends a signal to all processes of a build, once; whether they end in time. strace may have just begun, and then follows none yet; a signal to all may
     have ended it, and not them. Two looks have to show none: one that becomes another program has no environment for a moment."""
     until, looks, is_sent = time.monotonic() + PATIENCE, 0, False
     while looks < 2 and time.monotonic() < until:  # guard: what-becomes-another-program
         is_over = strace.poll() is not None
         found = [*(left() if is_over else traced(strace.pid))]  # guard: what-strace-followed-and-has-left
-        signal_all([] if is_sent else found, number)
+        for pid in [] if is_sent else found:
+            with suppress(OSError):  # it has ended, or is of another user
+                os.kill(pid, number)
         is_sent = is_sent or is_over or bool(found)
         looks = looks + 1 if is_over and not found else 0  # guard: what-strace-has-left-and-lives
         time.sleep(0.02)
     return looks == 2
 
 
-def end_traced(strace: "subprocess.Popen[bytes]", left: Left) -> None:
+def end_traced(strace: "subprocess.Popen[bytes]", left: Callable[[], Iterable[int]]) -> None:
     """Ends all processes of a build, and so strace, which hears no signal itself. `left`: those whose tracer has ended before them."""
     if not any(have_ended(strace, left, number) for number in (signal.SIGTERM, signal.SIGKILL)):
         strace.kill()

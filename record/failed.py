@@ -2,9 +2,8 @@
 lacked: a file that another recipe makes, which had not run yet.
 """
 
-from typing import Dict, List, Optional, Sequence
+from typing import Dict, List, Sequence, Tuple
 
-from record.build.tasks import Job
 from record.build.work import Work
 from record.folder import Record
 from record.make.database import Base
@@ -17,9 +16,10 @@ HINTS = 5
 WIDTH = 100  # signs of the words of a make
 
 
-def failed_job(make: Make) -> Optional[Job]:
-    """The first job of a make whose target could not be made."""
-    return next((job for one in make.words.rounds for job in one.jobs if one.base and job.target in one.base.failed), None)  # guard: which-recipe
+def failure(make: Make) -> Tuple[str, Work]:
+    """The first target that a make could not make, and what its recipe did."""
+    jobs = (job for one in make.words.rounds for job in one.jobs if one.base and job.target in one.base.failed)  # guard: which-recipe
+    return next(((job.target, make.work.get(id(job), Work())) for job in jobs), ("", Work()))
 
 
 def failed(makes: Sequence[Make]) -> List[Make]:
@@ -28,12 +28,7 @@ def failed(makes: Sequence[Make]) -> List[Make]:
     if not failing:
         return []
     last = max(failing, key=lambda make: make.life.died)
-    return [last, *failed(makes_of(make_work(last)))]
-
-
-def make_work(make: Make) -> Work:
-    """What the recipe did by which a make failed."""
-    return make.work.get(id(failed_job(make)), Work())
+    return [last, *failed(makes_of(failure(last)[1]))]
 
 
 def unmade(make: Make, names: Names) -> Dict[str, str]:
@@ -47,11 +42,11 @@ def lacked(makes: Sequence[Make], names: Names) -> List[str]:
     """What the recipe that failed looked for and did not find, where its make, or else one around that, makes it: had it waited, the file would have been
     there."""
     chain = failed(makes)
-    missed = {path for kind, path in make_work(chain[-1]).events if kind == "N"} if chain else set()  # guard: it-lacks-no-file
+    missed = {path for kind, path in failure(chain[-1])[1].events if kind == "N"} if chain else set()  # guard: it-lacks-no-file
     for make in reversed(chain):
-        job, made = failed_job(make), unmade(make, names)
-        if job is not None and missed & made.keys():
-            return ["the recipe that failed looks for %s, and does not wait for it. Write the rule %s: %s" % (made[path], job.target, made[path]) for path in sorted(missed & made.keys())][:HINTS]
+        target, made = failure(make)[0], unmade(make, names)
+        if target and missed & made.keys():
+            return ["the recipe that failed looks for %s, and does not wait for it. Write the rule %s: %s" % (made[path], target, made[path]) for path in sorted(missed & made.keys())][:HINTS]
     return []
 
 

@@ -22,17 +22,15 @@ import tempfile
 from dataclasses import dataclass, field
 from fnmatch import fnmatchcase
 from functools import cached_property
-from typing import TYPE_CHECKING, Container, Dict, FrozenSet, Iterable, Iterator, List, Sequence, Set, Tuple
+from typing import Container, Dict, FrozenSet, Iterable, Iterator, List, Sequence, Set, Tuple
 
 from record import machine
+from record.build.tasks import Build
 from record.make.owners import Make
 from record.messages import plural
 from record.trace.events import BY_LIST, CHANGES, CREATED, ENTERED, HELD, LISTED, MADE_BEFORE, MAKES, OUTPUT, READ, REFUSED, SEEN
+from record.trace.lives import Life
 from record.trace.names import Names
-
-if TYPE_CHECKING:
-    from record.build.tasks import Build
-    from record.trace.lives import Life
 
 GIT = ["git", "--no-optional-locks", "-c", "safe.directory=*"]
 CONFIGURED_BY = ("CMakeCache.txt", "meson-info")  # what stands at the top of a folder that CMake or Meson configured
@@ -49,7 +47,7 @@ class FirstTree:
     commit: str = ""  # none where nothing was committed
     changed: int = 0  # tracked files that are not as in the commit
     new: Tuple[str, ...] = ()  # files that git does not track and does not ignore, where --fresh took them along; below the top
-    tracked: FrozenSet[str] = field(default=frozenset(), repr=False)  # by whole path
+    tracked: FrozenSet[str] = field(default=frozenset(), repr=False)  # whole paths of files, and of the folders that they are in
     left: Tuple[str, ...] = ()  # files that --fresh took out again, as an earlier build made them; whole paths
     said: str = ""  # how --fresh got it
     setup: str = ""  # what ran between the tree and the build
@@ -64,27 +62,15 @@ class FirstTree:
         left = "%s that an earlier build left (%s)" % (plural(len(self.left), "file"), first_names([os.path.relpath(path, self.folder) for path in self.left]))
         return tree + (", without " + left if self.left else "") + (", after %s" % self.setup if self.setup else "")
 
-    def has(self, path: str) -> bool:
-        """Whether git tracks a name, or a name below it."""
-        return path in self.tracked
-
     def is_own(self, path: str) -> bool:
         """Whether a path is in the work tree, and not among the new files."""
         below = os.path.relpath(path, self.top) if self.top else ".."
         return below.partition("/")[0] not in (".", "..") and below not in self.new_names
 
-    def is_new(self, path: str) -> bool:
-        """Whether a path is a new file, or a folder of new files."""
-        return bool(self.new) and os.path.relpath(path, self.top) in self.new_names
-
     @cached_property
     def new_names(self) -> Set[str]:
         """The new files, and the folders that they are in."""
         return {*with_folders(self.new, "")}
-
-    def may_go(self, path: str) -> bool:
-        """Whether --fresh may take a file out again: it is below the folder, and git does not track it, nor has an archive it."""
-        return path.startswith(self.folder + "/") and not self.has(path)
 
 
 def first_names(names: Sequence[str]) -> str:
@@ -137,7 +123,7 @@ def has_rules(text: str) -> bool:
     return any(line.strip(" \t")[:1] not in ("", "#") for line in text.split("\n"))
 
 
-def left_behind(tree: FirstTree, before: Dict[str, str], lives: "List[Life]", builds: "Sequence[Build]", kept: str, texts: Dict[str, str],
+def left_behind(tree: FirstTree, before: Dict[str, str], lives: List[Life], builds: Sequence[Build], kept: str, texts: Dict[str, str],
                 names: Names) -> Set[str]:
     """What an earlier build left, and this one used. `before`: the kinds of the names that were there; `kept`: the folder of the record; `texts`: what
     makefiles said when make read them. What a recipe looked at counts where any recipe changes it, what make or ninja looked at where others use it, too:
@@ -150,25 +136,25 @@ def left_behind(tree: FirstTree, before: Dict[str, str], lives: "List[Life]", bu
     early, made = early_folders(before, builds, lives)
     early = {path for path in early if path not in names.tops and not (path + "/").startswith(tops)}  # guard: folders-that-were-configured
     written = by_any & shared | by_recipes & changed | early & made  # guard: what-one-recipe-changes
-    written |= {path for path in changed & before.keys() if tree.is_new(path)}  # guard: new-files-that-recipes-write
+    written |= {path for path in changed & before.keys() if tree.new and os.path.relpath(path, tree.top) in tree.new_names}  # guard: new-files-that-recipes-write
     own = {path for path in by_any | by_recipes | early if tree.is_own(path) and not (path + "/").startswith(tops)}
-    found = {path for path in written | own if not tree.has(path)} - kept_by_git(lives)
+    found = (written | own) - tree.tracked - kept_by_git(lives)
     return {path for path in found if not (path + "/").startswith(kept + "/") and (path not in texts or has_rules(texts[path]))}  # guard: what-earlier-build-left
 
 
-def kept_by_git(lives: "Iterable[Life]") -> Set[str]:
+def kept_by_git(lives: Iterable[Life]) -> Set[str]:
     """What git uses in its own folder."""
     found = {path for life in lives if os.path.basename(life.program) == "git" for _, path in life.events if "/.git/" in path + "/"}
     return found | {os.path.dirname(path) for path in found}  # guard: what-git-uses
 
 
-def locks(lives: "Iterable[Life]") -> Set[str]:
+def locks(lives: Iterable[Life]) -> Set[str]:
     """The files on which somebody took a lock, and into which nobody wrote."""
     done = {kind: {path for life in lives for event, path in life.events if event == kind} for kind in (HELD, OUTPUT)}
     return done[HELD] - done[OUTPUT]
 
 
-def used(before: Dict[str, str], lives: "Iterable[Life]") -> Set[str]:
+def used(before: Dict[str, str], lives: Iterable[Life]) -> Set[str]:
     """The files that were there and that somebody read, or saw who does not write them, before anybody wrote them."""
     looks: Dict[str, int] = {}
     changes: Dict[str, int] = {}
@@ -189,14 +175,7 @@ class Folder:
     makers: Dict[int, int] = field(default_factory=dict)
     refused: Set[int] = field(default_factory=set)  # those in which a process fails that could not make it
 
-    def add(self, at: int, kind: str, place: int, has_failed: bool) -> None:
-        """Takes one event, of a process that has failed in the end or has not."""
-        places = self.makers if kind in MAKES else self.users
-        places[at] = min(place, places.get(at, place))
-        if kind == MADE_BEFORE and has_failed:  # guard: folders-that-could-not-be-made
-            self.refused.add(at)
-
-    def is_early(self, build: "Build") -> bool:
+    def is_early(self, build: Build) -> bool:
         """Whether a recipe uses it that has not made it first, and waits for none that does; or two make it in no order, and one fails where it is there."""
         used = (not (self.makers.get(at, place) < place or any(build.is_before(one, at) for one in self.makers)) for at, place in self.users.items())
         if any(used):  # guard: folders-that-were-there
@@ -204,7 +183,7 @@ class Folder:
         return any(build.unordered(at, other) for at in self.refused for other in self.makers)  # guard: folders-that-two-make
 
 
-def folders_of(build: "Build", before: Dict[str, str]) -> Dict[str, Folder]:
+def folders_of(build: Build, before: Dict[str, str]) -> Dict[str, Folder]:
     """By path: what recipes do with the folders that were there; not what the makes in them look at."""
     found: Dict[str, Folder] = {}
     for at, task in enumerate(build.tasks):
@@ -212,11 +191,14 @@ def folders_of(build: "Build", before: Dict[str, str]) -> Dict[str, Folder]:
             for (kind, name), place in life.events.items():
                 path = os.path.dirname(name.rstrip("/")) if kind == CREATED else name.rstrip("/")
                 if kind in FOLDER_USED + MAKES and before.get(path) == "d":
-                    found.setdefault(path, Folder()).add(at, kind, place, life.has_failed)
+                    folder = found.setdefault(path, Folder())
+                    places = folder.makers if kind in MAKES else folder.users
+                    places[at] = min(place, places.get(at, place))
+                    folder.refused.update([at] if kind == MADE_BEFORE and life.has_failed else [])  # guard: folders-that-could-not-be-made
     return found
 
 
-def early_folders(before: Dict[str, str], builds: "Sequence[Build]", lives: "Iterable[Life]") -> Tuple[Set[str], Set[str]]:
+def early_folders(before: Dict[str, str], builds: Sequence[Build], lives: Iterable[Life]) -> Tuple[Set[str], Set[str]]:
     """The folders that were there and that a recipe uses or makes too early; and those that recipes make."""
     inside = {id(make) for build in builds for task in build.tasks for work in task.works for make in work.makes}
     early: Set[str] = set()
@@ -230,13 +212,13 @@ def early_folders(before: Dict[str, str], builds: "Sequence[Build]", lives: "Ite
     return early - sooner, {path for path, place in first.items() if place < sys.maxsize}  # guard: folders-that-nobody-waits-for
 
 
-def listed(before: Dict[str, str], builds: "Iterable[Build]") -> Iterator[str]:
+def listed(before: Dict[str, str], builds: Iterable[Build]) -> Iterator[str]:
     """What was there and a recipe, or make itself, may have met as it listed the folder: what comes later has no place in the list."""
     lives = (life for build in builds for task in build.tasks for work in task.works for life in work.lives if not life.is_make)
     inside = {path: ["*"] for life in lives for kind, path in life.events if kind == LISTED}
     for make in {id(build.make): build.make for build in builds if isinstance(build.make, Make)}.values():
         for folder in (path for kind, path in make.life.events if kind == LISTED):
-            inside.setdefault(folder, []).extend(make.patterns_in(folder))  # guard: what-make-lists
+            inside.setdefault(folder, []).extend(make.patterns)  # guard: what-make-lists
     for path, kind in before.items():
         if kind in ("f", "d") and any(fnmatchcase(os.path.basename(path), pattern) for pattern in inside.get(os.path.dirname(path), ())):
             yield path  # guard: what-lists-show
@@ -246,4 +228,4 @@ def came_with(tree: FirstTree, paths: Iterable[str], statuses: Iterable[str], wr
     """Of what the build has recipes for what came with the tree: a manual, a parser, a stamp of translations. That is what git tracks; elsewhere what no
     recipe of this build wrote, and is older than a `config.status` that was there, or than what `--setup` runs."""
     since = float("inf") if tree.setup else max((machine.mtime(path) for path in statuses if machine.exists(path)), default=float("-inf"))
-    return {path for path in paths if tree.has(path) or not tree.top and path not in written and machine.exists(path) and machine.mtime(path) <= since}  # guard: what-came-with-release
+    return {path for path in paths if path in tree.tracked or not tree.top and path not in written and machine.exists(path) and machine.mtime(path) <= since}  # guard: what-came-with-release

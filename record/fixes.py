@@ -40,9 +40,8 @@ def remedy(about: Dict[str, Any], race: Race) -> Remedy:
     kind = it.kind
     if kind in (AT_ONCE, LEFT, TWO):  # guard: no-line-orders-processes
         return Remedy(is_edge=False, advice=kind.advice)
-    instead = without_line(it)
-    if instead:
-        return Remedy(is_edge=False, advice=instead)
+    if it.first.get("colons", 0) > 1:  # guard: later-rule-with-two
+        return Remedy(is_edge=False, advice="write the rules of %s as one: what needs it is only sure to wait for the first of them" % it.first["target"])
     advice = better(it, kind)
     if it.tool == "ninja":
         return in_ninja(it, advice)
@@ -89,12 +88,6 @@ def in_ninja(it: Meeting, advice: str) -> Remedy:
     if late[0] == "meson" and late[1]:
         return Remedy(advice=by_meson(race.first, late[1]))
     return Remedy(words=("build %s: .. || %s" % (race.second, race.first),), advice=advice)
-
-
-def without_line(it: Meeting) -> str:
-    """What to do where no line orders two tasks: one has to wait for a rule with two colons that is not the first of its target. Nothing where a line does."""
-    is_later = it.first.get("colons", 0) > 1  # guard: later-rule-with-two
-    return "write the rules of %s as one: what needs it is only sure to wait for the first of them" % it.first["target"] if is_later else ""
 
 
 def is_needed(verdict: Verdict, race: Race) -> bool:

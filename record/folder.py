@@ -9,30 +9,27 @@ import tempfile
 from contextlib import contextmanager
 from dataclasses import dataclass, field
 from pathlib import Path
-from typing import TYPE_CHECKING, Any, Container, Dict, Iterable, Iterator, List, Optional, Set, Tuple
+from typing import Any, Container, Dict, Iterable, Iterator, List, Optional, Set, Tuple
 
 from record import VERSION, machine
+from record.commands.system import is_below
 from record.entry import in_one_step
 from record.first_tree import FirstTree
 from record.messages import reason
 from record.places import Places
-from record.build.assumptions import TEXTS, TRIED_OUT
+from record.build.assumptions import TEXTS, TRIED_OUT, Assumptions
+from record.build.tasks import Build
 from record.build.text import labels_of, lines_of, relative, shown
 from record.trace.lives import Address, Child, apart
-
-if TYPE_CHECKING:
-    from record.build.assumptions import Assumptions
-    from record.build.tasks import Build
 
 ROOMS = "/tmp" if os.path.isdir("/tmp") else None  # where temporary folders are made
 NO_ROOM = "no folder for temporary files lets programs run (%s: they are mounted with noexec, or not for you): name one by TMPDIR that is not in the project"
 NAMES = 12  # so many of the targets that were there before are named
 INSIDE = ("apart", "configured", "first", "is_parallel", "known", "lucky", "markers", "up_to_date")  # what the record does not hold as it is
-FOUND = 3  # so many names of a folder that is no record
 
 
-class Taken(Exception):
-    """The place of the record is in use, or there is none for what comes before it."""
+class Missing(Exception):
+    """A tool or a file is not there, too old, in use, or may not do its work."""
 
 
 class Idle(Exception):
@@ -76,7 +73,6 @@ class Record:
     builds: List[str] = field(default_factory=list)
     warm: List[str] = field(default_factory=list)  # files that the build makes and that were there before
     configured: List[str] = field(default_factory=list)  # others that were there: what `./configure` made
-    stands_alone: bool = False  # their recipes did not run, and can run beside no other
     notes: List[str] = field(default_factory=list)
     hints: List[str] = field(default_factory=list)  # what to try: of a build that failed, who looks for what others make
     first: Optional[FirstTree] = None  # the tree that it started from
@@ -122,18 +118,14 @@ class Record:
 
     def text(self) -> str:
         """As it is written."""
-        found: Dict[str, Any] = {"version": VERSION, **{name: value for name, value in vars(self).items() if name not in INSIDE}}
-        alone = found.pop("stands_alone")
+        found: Dict[str, Any] = {"version": VERSION, **{name: value for name, value in vars(self).items() if name not in INSIDE and value is not None}}
         found["tree"] = self.first.text() if self.first else ""
         found["top"] = shown(top_of(self.folder))
-        for name in ("missing", "orders"):
-            if found[name] is None:
-                del found[name]
-        found["warm"] = {"count": len(self.warm), "example": shown(self.warm[0]) if self.warm else "", "names": [shown(name) for name in self.warm[:NAMES]], "alone": alone}
+        found["warm"] = {"count": len(self.warm), "example": shown(self.warm[0]) if self.warm else "", "names": [shown(name) for name in self.warm[:NAMES]]}
         return json.dumps(found, indent=1, ensure_ascii=True) + "\n"
 
 
-def callers(builds: "List[Build]") -> Dict[int, Dict[str, str]]:
+def callers(builds: List[Build]) -> Dict[int, Dict[str, str]]:
     """By id of the process of a make or ninja: the build and the task that it ran inside, the innermost; none where no recipe ran it."""
     wanted, found = {id(build.make.life) for build in builds}, {}
     for number, build in enumerate(builds, 1):  # outer ones come first
@@ -143,7 +135,7 @@ def callers(builds: "List[Build]") -> Dict[int, Dict[str, str]]:
     return found
 
 
-def label_about(build: "Build", at: int, places: Places, leaves: Set[str]) -> Dict[str, Any]:
+def label_about(build: Build, at: int, places: Places, leaves: Set[str]) -> Dict[str, Any]:
     """What the label of a task stands for. Who waits for a recipe that leaves no file under its target's name does so behind `|`: make would run it
     again each time."""
     task, root, own = build.tasks[at], build.folder, build.about(at)
@@ -163,10 +155,13 @@ def label_about(build: "Build", at: int, places: Places, leaves: Set[str]) -> Di
     return {"target": shown(task.node.name), "kind": task.kind, **place, **{key: value for key, value in more.items() if value not in (None, False, [], {})}}
 
 
-def write_build(folder: Path, build: "Build", within: Optional[Dict[str, str]], record: Record) -> None:
+def write_build(folder: Path, build: Build, within: Optional[Dict[str, str]], record: Record) -> None:
     """One round: its tasks, what its labels and names stand for, and the task `within` which it ran."""
     folder.mkdir(parents=True)
-    root, labels, places, leaves = build.folder, labels_of(build.tasks), Places(build.folder), leaves_of(build)
+    root, labels, places = build.folder, labels_of(build.tasks), Places(build.folder)
+    leaves: Dict[int, Set[str]] = {}  # by id of a target: what its recipe leaves, and no other task touches
+    for task in build.tasks:
+        leaves.setdefault(id(task.node), set()).update(task.leaves)
     about = {label: label_about(build, at, places, leaves[id(build.tasks[at].node)]) for at, label in enumerate(labels)}
     edges = 0
     with open(folder / "tasks", "w", encoding="utf-8", errors="backslashreplace") as file:
@@ -184,15 +179,7 @@ def write_build(folder: Path, build: "Build", within: Optional[Dict[str, str]], 
     (folder / "build.json").write_text(json.dumps(text, indent=1, ensure_ascii=False) + "\n", encoding="utf-8")
 
 
-def leaves_of(build: "Build") -> Dict[int, Set[str]]:
-    """By id of a target: what its recipe leaves, and no other task touches."""
-    found: Dict[int, Set[str]] = {}
-    for task in build.tasks:
-        found.setdefault(id(task.node), set()).update(task.leaves)
-    return found
-
-
-def write_record(folder: Path, record: Record, builds: "List[Build]", assumed: "Assumptions") -> None:
+def write_record(folder: Path, record: Record, builds: List[Build], assumed: Assumptions) -> None:
     """The whole record; an older one at the same place goes."""
     if folder.exists():
         shutil.rmtree(folder)
@@ -269,7 +256,7 @@ def alone(folder: Path) -> Iterator[None]:
         try:
             held.bind(b"\0race-record " + hashlib.sha256(place).digest())  # guard: one-at-time
         except OSError as fault:
-            raise Taken("another race-record makes the record %s now: wait until it has ended, or let one of the two build in a copy of the project" % folder) from fault
+            raise Missing("another race-record makes the record %s now: wait until it has ended, or let one of the two build in a copy of the project" % folder) from fault
         yield
 
 
@@ -281,19 +268,15 @@ def runs_programs(folder: str) -> bool:
         return False
 
 
-def rooms_of_programs() -> List[str]:
-    """Folders for temporary files, those that are made for them first. The recorder's make runs from there, and many systems mount /tmp with noexec."""
-    named = ("/tmp", os.environ.get("TMPDIR", ""), "/var/tmp", os.environ.get("XDG_RUNTIME_DIR", ""), "/dev/shm", os.path.expanduser("~/.cache"))
-    return [path for path in named if os.path.isabs(path) and os.path.isdir(path)]
-
-
 def room_of_programs(tops: List[str]) -> str:
-    """The first one in which programs run, and which is no part of the project."""
-    inside = [os.path.realpath(top).rstrip("/") + "/" for top in tops]
-    for path in filter(runs_programs, rooms_of_programs()):  # guard: rooms-that-run-programs
-        if path == ROOMS or not (os.path.realpath(path) + "/").startswith(tuple(inside)):  # guard: temporary-folders
+    """A folder for temporary files in which programs run, and which is no part of the project: one that is made for them, if there is one. The recorder's make
+    runs from there, and many systems mount /tmp with noexec."""
+    named = ("/tmp", os.environ.get("TMPDIR", ""), "/var/tmp", os.environ.get("XDG_RUNTIME_DIR", ""), "/dev/shm", os.path.expanduser("~/.cache"))
+    there = [path for path in named if os.path.isabs(path) and os.path.isdir(path)]
+    for path in filter(runs_programs, there):  # guard: rooms-that-run-programs
+        if path == ROOMS or not any(is_below(os.path.realpath(path), os.path.realpath(top)) for top in tops):  # guard: temporary-folders
             return path
-    raise Taken(NO_ROOM % ", ".join(rooms_of_programs()))
+    raise Missing(NO_ROOM % ", ".join(there))
 
 
 @contextmanager
@@ -326,12 +309,6 @@ def former(folder: Path) -> Tuple[float, int]:
         return 0.0, 0
 
 
-def what_stands(folder: Path) -> str:
-    """What stands where a record is wanted; nothing where it may be replaced: it is absent, empty, or a record."""
-    if not folder.exists() or (folder / "record.json").is_file():
-        return ""
-    if not folder.is_dir():
-        return "a file"
-    names = sorted(path.name for path in folder.iterdir())
-    more = " and %d more" % (len(names) - FOUND) if len(names) > FOUND else ""
-    return "a folder without record.json, with %s%s" % (", ".join(names[:FOUND]), more) if names else ""
+def holds_other(folder: Path) -> bool:
+    """Whether something stands where a record is wanted that may not be replaced: a file, or a folder that holds something and no record."""
+    return folder.exists() and not (folder / "record.json").is_file() and (not folder.is_dir() or any(folder.iterdir()))

@@ -9,25 +9,23 @@ from record import machine
 from record.build.tasks import Build, Task
 from record.build.text import relative, shown
 from record.make.graph import MakeBuild
-from record.missing.footprints import is_below
 from record.trace.events import CREATED, LOOKS, REMOVED, WRITTEN
 from record.trace.names import Names
 
 
-def listing(build: Build, names: Names, out: str) -> List[str]:
-    """The files, folders and links from before the build, and what make found elsewhere; the record is none of them."""
+def listing(build: Build, names: Names) -> List[str]:
+    """The files, folders and links from before the build, and what make found elsewhere."""
     root = build.make.folder
-    found = {path for path in names.before if path != root and not is_below(path, out)}
+    found = names.before.keys() - {root}
     for node in build.graph.nodes.values() if isinstance(build, MakeBuild) else ():
-        is_foreign = not any(is_below(node.path, top) for top in names.tops)
-        if is_foreign and not node.jobs and not node.phony and machine.lexists(node.path):
+        if not (names.is_inside(node.path) or node.jobs or node.phony) and machine.lexists(node.path):
             found.add(node.path)
     return sorted(relative(root, path) for path in found)
 
 
-def touched(task: Task, kinds: str, tops: List[str]) -> Set[str]:
+def touched(task: Task, kinds: str, names: Names) -> Set[str]:
     """The names below the tops that a recipe has these events on."""
-    return {path for work in task.works for kind, path in work.events if kind in kinds and not path.endswith("/") and any(is_below(path, top) for top in tops)}
+    return {path for work in task.works for kind, path in work.events if kind in kinds and not path.endswith("/") and names.is_inside(path)}
 
 
 def footprints(build: Build, names: Names) -> Iterator[Dict[str, object]]:
@@ -35,20 +33,20 @@ def footprints(build: Build, names: Names) -> Iterator[Dict[str, object]]:
     in the tasks."""
     root = build.make.folder
     inside: Dict[str, Set[str]] = {}
-    for path in (path for task in build.tasks for path in touched(task, CREATED + REMOVED, names.tops)):
+    for path in (path for task in build.tasks for path in touched(task, CREATED + REMOVED, names)):
         inside.setdefault(os.path.dirname(path), set()).add(path)
     for task in build.tasks:
         if task.kind == "recipe":
-            writes = task.writes | touched(task, WRITTEN + CREATED + REMOVED, names.tops)  # guard: footprints
-            reads = (task.reads | touched(task, LOOKS, names.tops)).union(*(inside.get(folder, ()) for folder in task.lists)) - writes  # guard: lists-in-footprints
+            writes = task.writes | touched(task, WRITTEN + CREATED + REMOVED, names)  # guard: footprints
+            reads = (task.reads | touched(task, LOOKS, names)).union(*(inside.get(folder, ()) for folder in task.lists)) - writes  # guard: lists-in-footprints
             folders = {path for path in reads if names.before.get(path) == "d"} - writes
             yield {"target": shown(task.node.name), "reads": sorted(relative(root, p) for p in reads - folders - {root}),
                    "writes": sorted(relative(root, p) for p in writes)}
 
 
-def write_footprints(folder: Path, build: Build, names: Names, out: str) -> None:
+def write_footprints(folder: Path, build: Build, names: Names) -> None:
     """Both texts of one build."""
-    (folder / "listing").write_text("".join(line + "\n" for line in listing(build, names, out)), encoding="utf-8", errors="surrogateescape")
+    (folder / "listing").write_text("".join(line + "\n" for line in listing(build, names)), encoding="utf-8", errors="surrogateescape")
     with open(folder / "footprints", "w", encoding="utf-8", errors="backslashreplace") as file:
         for line in footprints(build, names):
             file.write(json.dumps(line, ensure_ascii=False, separators=(",", ":")) + "\n")

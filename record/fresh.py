@@ -12,13 +12,12 @@ import pickle
 import shlex
 import shutil
 import signal
-import stat
 import sys
 import tempfile
 from contextlib import contextmanager, suppress
 from dataclasses import replace
 from pathlib import Path
-from typing import Callable, Dict, Iterator, List, Set, Tuple, cast
+from typing import Callable, Iterator, List, Set, cast
 
 from record.command import named_folders, ninja_folder
 from record.entry import in_one_step
@@ -28,6 +27,7 @@ from record.messages import reason
 from record.ninja import clean as ninja
 from record.ninja.clean import CannotClean, run
 from record.orders.builds import WITH_PARENT, is_child_able
+from record.orders.trees import copy as copy_tree
 from record.orders.trees import remove
 from record.watch.lay import BELOW, BIND, LIBC, OWN_MOUNTS, mount
 
@@ -48,14 +48,15 @@ def record_fresh(options: argparse.Namespace, out: Path, record: Callable[[Path]
         kept = Path(room, "record")
         for number in range(TRIES):
             with tempfile.TemporaryDirectory(dir=room) as place:
-                found = recorded(options, Path(place), fresh_tree(options, os.path.join(place, "tree"), {os.path.realpath(out)}, left), record)
+                tree = fresh_tree(options, os.path.join(place, "tree"), left)
+                found = recorded(options, Path(place), tree, record)
                 if records and found.status != 0:
                     print("race-record: the build fails without that: what was recorded before stands", file=sys.stderr, flush=True)
                     break
                 records.append(found)
                 shutil.rmtree(kept, ignore_errors=True)
                 Path(place, "record").rename(kept)
-            more = {path for path in found.warm if found.first is not None and found.first.may_go(path)} - left
+            more = {path for path in found.warm if path.startswith(tree.folder + "/")} - tree.tracked - left  # what neither git nor the archive has
             if not more or options.warm or found.status != 0 or number == TRIES - 1:
                 break
             left |= more
@@ -72,7 +73,11 @@ def recorded(options: argparse.Namespace, place: Path, tree: FirstTree, record: 
         options.tree = clean(tree, options.words)
         said.write_bytes(pickle.dumps(record(place / "record")))
 
-    in_place(tree.folder, str(place / "tree"), place / "fault", work)
+    if is_child_able(lambda: lay(tree.folder, tree.folder)):
+        beside(work, place, tree.folder)
+    else:
+        with moved(str(place / "tree"), tree.folder):
+            work()
     return cast(Record, pickle.loads(said.read_bytes()))
 
 
@@ -85,52 +90,30 @@ def refuse_left_over(words: List[str]) -> None:
                               "  %s is a copy of it. If you have worked in the copy since, keep that, and remove %s" % (saved, own, saved, own, own, saved))
 
 
-def fresh_tree(options: argparse.Namespace, copy: str, out: Set[str], left: Set[str]) -> FirstTree:
-    """Makes a copy that holds the tree. `out`: paths that are no part of it; `left`: what an earlier build left, neither."""
+def fresh_tree(options: argparse.Namespace, copy: str, left: Set[str]) -> FirstTree:
+    """Makes a copy that holds the tree. `left`: what an earlier build left, and is no part of it."""
     folder = os.path.realpath(".")
     if options.archive:
         return of_archive(options.archive, folder, copy, options.setup)
     tree = replace(tree_of(folder), left=tuple(sorted(left)), setup=options.setup, ninja="" if options.setup else ninja_folder(options.words))
     if tree.top and not tree.ninja:
-        files = copy_work_tree(tree.top, copy, out | left)
-        return replace(tree, new=tuple(os.path.relpath(path, tree.top) for path in files if not tree.has(path)))
-    if not tree.ninja and not shutil.which("git") and any((up / ".git").exists() for up in Path(folder, ".git").parents):  # guard: git-that-is-missing
+        tree = replace(tree, new=tuple(name for name in copy_work_tree(tree.top, copy) if os.path.join(tree.top, name) not in left | tree.tracked))
+    elif not tree.ninja and not shutil.which("git") and any((up / ".git").exists() for up in Path(folder, ".git").parents):  # guard: git-that-is-missing
         raise CannotClean("git is missing (Debian: apt-get install git): --fresh builds what it tracks here")
-    place, copier = ninja.place_of(tree.ninja, copy) if tree.ninja else folder, Copier()
-    shutil.copytree(place, copy, symlinks=True, copy_function=copier.copy, ignore=without(out | left))
-    return replace(tree, folder=place, linked=tuple(place + path[len(copy):] for path in copier.linked()))
+    else:
+        place = ninja.place_of(tree.ninja, copy) if tree.ninja else folder
+        copy_tree(Path(place), Path(copy))
+        tree = replace(tree, folder=place, linked=tuple(linked(place, copy)))
+    for gone in (Path(copy, os.path.relpath(path, tree.folder)) for path in left):
+        shutil.rmtree(gone) if gone.is_dir() and not gone.is_symlink() else gone.unlink(missing_ok=True)  # guard: what-earlier-builds-left
+    return tree
 
 
-def without(out: Set[str]) -> Callable[[str, List[str]], List[str]]:
-    """What says of the names in a folder that is copied which stay out."""
-    return lambda place, names: [name for name in names if os.path.join(place, name) in out]
-
-
-class Copier:
-    """Copies files; a file with several names in the tree is one file there too."""
-
-    def __init__(self) -> None:
-        self.copies: Dict[Tuple[int, int], str] = {}
-        self.names: Dict[Tuple[int, int], int] = {}  # names that were not met yet
-
-    def copy(self, source: str, target: str) -> str:
-        """One file, for `shutil.copytree`."""
-        found = os.stat(source)
-        if not stat.S_ISREG(found.st_mode):  # guard: nothing-that-cannot-be-copied
-            raise CannotClean("%s is no file, link or folder, and cannot be copied: remove it, or clean the project and record without --fresh"
-                              % os.path.realpath(source))
-        key = found.st_dev, found.st_ino
-        self.names[key] = self.names.get(key, found.st_nlink) - 1  # guard: name-outside-of-file-that-nobody-writes
-        if key in self.copies:  # guard: two-names-of-file
-            os.link(self.copies[key], target)
-            return target
-        self.copies[key] = target
-        shutil.copy2(source, target)
-        return target
-
-    def linked(self) -> List[str]:
-        """The copies whose files have names elsewhere too."""
-        return [path for key, path in self.copies.items() if self.names[key] > 0]
+def linked(place: str, copy: str) -> Iterator[str]:
+    """The files of a folder that have names outside of it too, as those of its copy have fewer."""
+    for path in (os.path.join(at, name) for at, _, names in os.walk(place) for name in names):
+        if os.lstat(path).st_nlink > os.lstat(copy + path[len(place):]).st_nlink:  # guard: names-outside-of-folder
+            yield path
 
 
 def of_archive(archive: str, folder: str, copy: str, setup: str) -> FirstTree:
@@ -147,26 +130,19 @@ def of_archive(archive: str, folder: str, copy: str, setup: str) -> FirstTree:
     return FirstTree(folder, tracked=frozenset(with_folders(files, folder)), said="the tree of " + os.path.basename(archive), setup=setup)
 
 
-def copy_work_tree(top: str, copy: str, out: Set[str]) -> List[str]:
-    """Copies what git tracks, new files that are not ignored, and git's own folder, except what is to stay out; their paths."""
-    os.mkdir(copy)
-    names = git(top, "ls-files", "-z", "--recurse-submodules") + git(top, "ls-files", "-z", "--others", "--exclude-standard")
-    files, copier = [], Copier()
-    for name in dict.fromkeys([".git", *filter(None, names.split("\0"))]):
-        source, target = os.path.join(top, name), os.path.join(copy, name)
-        if not out.isdisjoint([source.rstrip("/"), *map(str, Path(source).parents)]) or not os.path.lexists(source):
-            continue
-        os.makedirs(os.path.dirname(target), exist_ok=True)
-        if os.path.isdir(source) and not os.path.islink(source):
-            shutil.copytree(source, target, symlinks=True, dirs_exist_ok=True, copy_function=copier.copy, ignore=without(out))  # guard: what-stays-out-of-inner-repository
-        elif os.path.islink(source):
-            shutil.copy2(source, target, follow_symlinks=False)
+def copy_work_tree(top: str, copy: str) -> List[str]:
+    """Copies what git tracks, new files that are not ignored, and git's own folder, as far as they are there; their names."""
+    found = git(top, "ls-files", "-z", "--recurse-submodules") + git(top, "ls-files", "-z", "--others", "--exclude-standard")
+    names = [name.rstrip("/") for name in dict.fromkeys([".git", *filter(None, found.split("\0"))]) if os.path.lexists(os.path.join(top, name))]
+    for source, target in ((Path(top, name), Path(copy, name)) for name in names):
+        target.parent.mkdir(parents=True, exist_ok=True)
+        if source.is_dir() and not source.is_symlink():
+            copy_tree(source, target)
         else:
-            copier.copy(source, target)
-        files.append(source)
+            shutil.copy2(source, target, follow_symlinks=False)
     for place, _, _ in os.walk(copy, topdown=False):
         shutil.copystat(os.path.join(top, os.path.relpath(place, copy)), place)
-    return files
+    return names
 
 
 def clean(tree: FirstTree, words: List[str]) -> FirstTree:
@@ -187,24 +163,16 @@ def lay(copy: str, top: str) -> bool:
     return LIBC.unshare(OWN_MOUNTS) == 0 and mount("none", "/", BELOW | PRIVATE) and mount(copy, top, BIND)
 
 
-def in_place(top: str, copy: str, faults: Path, work: Callable[[], None]) -> None:
-    """Does some work where a tree is in the place of the project."""
-    if is_child_able(lambda: lay(top, top)):
-        return beside(work, copy, top, faults)
-    with moved(copy, top):
-        return work()
-
-
-def beside(work: Callable[[], None], copy: str, top: str, faults: Path) -> None:
-    """Does some work in a process over whose project the tree is laid. Where it fails, it says why in a file, and so does this."""
-    here = os.path.realpath(".")
+def beside(work: Callable[[], None], place: Path, top: str) -> None:
+    """Does some work in a process over whose project the tree is laid that a place has. Where it fails, it says why in a file there, and so does this."""
+    here, faults = os.path.realpath("."), place / "fault"
     with in_one_step() as heard:
         child = os.fork()
         if child == 0:
             try:
                 with heard():
                     LIBC.prctl(WITH_PARENT, signal.SIGTERM)
-                    if not lay(copy, top):
+                    if not lay(str(place / "tree"), top):
                         raise CannotClean("the tree cannot be laid over " + top)
                     os.chdir(here)
                     work()

@@ -23,7 +23,8 @@ from record.make.owners import Owners, beginning
 from record.make.spellings import twice
 from record.make.words import makefiles, read_logs
 from record.ninja.builds import versions as ninja_versions
-from record.ninja.builds import beside, find_ninjas, import_ninjas
+from record.ninja.builds import beside, import_ninjas
+from record.ninja.runs import Runs
 from record.premises import add_granted, add_granted_by_ninjas, add_seen, unasked
 from record.progress import watched
 from record.tools.caches import settle_caches
@@ -36,7 +37,7 @@ from record.trace.sifting import SYSTEM, unseen_changes
 from record.trace.snapshots import Past
 from record.trace.strace import read_trace
 from record.watch.files import OWN_WORDS, PRINTS, files_in, open_file, read_start
-from record.warm import Cleaned, did_nothing, is_inside, made_unseen, stand_alone, warm_names
+from record.warm import did_nothing, is_gone, is_inside, made_unseen, moves_of, stand_alone, start_of, warm_names
 
 
 IDLE = "nothing was to be done, so nothing was seen: record a clean tree (--fresh)"
@@ -49,23 +50,16 @@ def replay_trace(facts: Facts, folder: str) -> Calls:
     trace = spool / ("sifted" if (spool / "sifted").exists() and not names.leads_to(SYSTEM) else "trace")  # guard: links-that-lead
     if facts.said_place:
         replay.own, replay.said, replay.covered = (facts.place, os.path.dirname(facts.said_place)), facts.said_place + "/", {*facts.covered}
-        note_silent(replay, facts.said)
+    for _, _, path in files_in(facts.said) if facts.said_place else ():
+        with open_file(path) as lines:
+            start = read_start(lines)
+        replay.silent.update([] if start.says else [path.name])  # most makes that say nothing of what they do only answer
+        replay.holes += [OWN_WORDS % " ".join(start.args)[:200]] if start.asks in PRINTS else []  # guard: make-with-words-of-its-own
     with open(trace, encoding="latin-1", newline="\n") as lines:
         for event in read_trace(watched(lines, trace.stat().st_size)):
             replay.play(event)
     replay.holes += unseen_changes(replay.outside) if trace.name == "sifted" else []  # guard: changes-that-no-line-shows
     return replay
-
-
-def note_silent(replay: Calls, said: Path) -> None:
-    """The makes that say nothing of what they do: most only answer."""
-    for _, _, path in files_in(said):
-        with open_file(path) as lines:
-            start = read_start(lines)
-        if not start.says:
-            replay.silent.add(path.name)
-        if start.asks in PRINTS:  # guard: make-with-words-of-its-own
-            replay.holes.append(OWN_WORDS % " ".join(start.args)[:200])
 
 
 class Imported:
@@ -78,10 +72,11 @@ class Imported:
         self.owners = self.settle()
         self.makes = self.owners.makes
         self.note_holes()
-        self.ninjas, ties, holes = find_ninjas(self.lives, self.owners, self.names, facts.kept, record.status == 0)
-        add_granted_by_ninjas(self.ninjas, ties, self.owners, self.assumed)
+        runs = Runs(self.lives, self.owners, self.names, facts.kept, record.status == 0)
+        self.ninjas = runs.ninjas
+        add_granted_by_ninjas(self.ninjas, self.owners, self.assumed)
         self.builds, more = import_ninjas(self.ninjas, self.lives, self.names, self.assumed, self.past())
-        record.holes += holes + more
+        record.holes += runs.holes + more
         note_failure(record, self.lives, self.makes, self.ninjas, self.names)
         for name in unasked(self.makes, self.ninjas):
             self.assumed.add("unasked", name)  # guard: recipes-that-nothing-asked
@@ -105,10 +100,10 @@ class Imported:
             self.assumed.add(kind, example)
         for words in settle_caches(self.lives, self.names.tops):
             self.assumed.add("caches", words)
-        markers = settle_exists(self.lives, logs)
-        self.record.markers = sorted(markers.paths)
-        owners = Owners(self.lives, logs, self.names.links)
-        credit_makes(owners, markers)  # guard: makes-that-would-make-folder
+        markers, looks = settle_exists(self.lives, logs)
+        self.record.markers = sorted(markers)
+        owners = Owners(self.lives, logs)
+        credit_makes(owners, markers, looks)  # guard: makes-that-would-make-folder
         if owners.makes:
             self.assumed.add("serial", "")
         return owners
@@ -145,8 +140,8 @@ class Imported:
     def finish(self, out: str, warm: bool) -> None:
         """What is known when all builds are: whether they were cold."""
         record, names = self.record, self.names
-        cleaned = Cleaned(names, self.replay.changes, [tool.life for tool in (*self.makes, *self.ninjas)], self.lives)
-        there, configured = {*warm_names(self.makes, self.builds, self.ninjas, names, cleaned)}, find_configured(self.owners, names)
+        moves, last = moves_of(names, self.replay.changes), max((start_of(tool.life) for tool in (*self.makes, *self.ninjas)), default=0)
+        there, configured = {*warm_names(self.makes, self.builds, self.ninjas, names, moves)}, find_configured(self.owners, names)
         record.configured = sorted(there & configured)
         there -= configured
         if record.first is not None:
@@ -154,23 +149,18 @@ class Imported:
             statuses = (path for path in names.before if os.path.basename(path) == STATUS and path not in self.owners.written)
             part = came_with(record.first, there, statuses, written)
             record.up_to_date = sorted(part - written)
-            before = {path: kind for path, kind in names.before.items() if path not in cleaned.since}
+            before = {path: kind for path, kind in names.before.items() if not is_gone(moves, path, last)}
             there = there - part | left_behind(record.first, before, self.lives, self.builds, out, self.texts(), names) - configured
-        record.warm = sorted(there)
-        record.stands_alone = bool(record.warm) and stand_alone(record.warm, self.builds, self.ninjas)
-        start = record.warm if warm or record.stands_alone else []  # guard: said
+        alone = there if stand_alone(there, self.builds, self.ninjas) else set()
+        record.warm = sorted(there - alone)
+        start = sorted(there if warm else alone)
         for kind, found in (("up-to-date", record.up_to_date), ("configured", record.configured), ("up-to-date", start)):  # guard: configured-said
             for name in found:
                 self.assumed.add(kind, name)
         if self.ninjas:
-            self.ask_ninja()
-
-    def ask_ninja(self) -> None:
-        """What ninja itself finds."""
-        record = self.record
-        record.tools["ninja"] = ninja_versions(self.ninjas)
-        record.missingdeps, beyond = beside(self.ninjas, self.builds, self.names) if not record.warm and record.status == 0 else (0, [])  # guard: what-missingdeps-finds
-        record.holes += ["ninja -t missingdeps finds that %s reads %s, and the record has no such race" % one for one in beyond]
+            record.tools["ninja"] = ninja_versions(self.ninjas)
+            record.missingdeps, beyond = beside(self.ninjas, self.builds, names) if not record.warm and record.status == 0 else (0, [])  # guard: what-missingdeps-finds
+            record.holes += ["ninja -t missingdeps finds that %s reads %s, and the record has no such race" % one for one in beyond]
 
 
 def imported(record: Record, facts: Facts, warm: bool, out: str = "") -> Imported:
@@ -190,7 +180,7 @@ def complete(record: Record, facts: Facts, out: Path, options: argparse.Namespac
     write_record(out, record, found.builds, found.assumed)
     for number, build in zip(record.builds, found.builds if options.footprints else ()):
         if build.tool == "make":
-            write_footprints(out / "builds" / number, build, facts.names, str(out))
+            write_footprints(out / "builds" / number, build, facts.names)
     if options.missing:
         from record.missing.inputs import write_missing  # it builds in copies, and nothing else of an import does
         record.missing = write_missing(out, record, found.builds, found.makes, facts.names, found.lives)

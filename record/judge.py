@@ -6,10 +6,10 @@ import shutil
 import subprocess
 from dataclasses import dataclass, field
 from pathlib import Path
-from typing import List, Optional, Tuple
+from typing import List, Optional
 
 from record.build.text import shown
-from record.pages import TOP, page
+from record.messages import TOP, page
 
 PLACES = (TOP / "record" / "race", TOP / "race", TOP / "crates" / "race" / "out" / "race", TOP / "out" / "race")  # beside the script, in the checkout
 FAULT = re.compile(r"refused (F\d+)\b")
@@ -50,14 +50,9 @@ def can_run(path: Path) -> bool:
     return path.is_file() and os.access(path, os.X_OK)
 
 
-def named_race(option: Optional[str]) -> Tuple[str, str]:
-    """What names the program, and the name: `--race`, or else `$RACE`. No name where neither does."""
-    return ("--race", option) if option else ("$RACE", os.environ.get("RACE", ""))
-
-
 def find_race(option: Optional[str]) -> Optional[str]:
     """The program: `--race`, `$RACE`, beside the script, in the checkout, on PATH. A name that leads nowhere is not passed over."""
-    _, name = named_race(option)
+    name = option or os.environ.get("RACE", "")
     if name:
         found = shutil.which(name) or (name if can_run(Path(name)) else None)
         return os.path.abspath(found) if found else None
@@ -67,10 +62,9 @@ def find_race(option: Optional[str]) -> Optional[str]:
 
 def no_race(option: Optional[str]) -> str:
     """What to say where `find_race` finds none: what is missing, where it was looked for, and how to get it."""
-    how, name = named_race(option)
+    name = option or os.environ.get("RACE", "")
     if name:
-        why = "is not there" if not os.path.exists(name) else "is a folder" if os.path.isdir(name) else "cannot be run: chmod +x %s" % name
-        looked = "%s names %s, which %s" % (how, name, why)
+        looked = "%s names %s, which is no program that can be run" % ("--race" if option else "$RACE", name)
     else:
         looked = "looked for: --race PROGRAM (not given), $RACE (not set), %s, and race on PATH" % ", ".join(map(str, PLACES))
     script = TOP / "install"
@@ -90,9 +84,9 @@ def ended(status: int) -> str:
     return "ended with status %d" % status if status >= 0 else "was stopped by signal %d: race-report asks it again" % -status
 
 
-def ask(race: str, command: str, tasks: Path, root: str) -> "subprocess.CompletedProcess[str]":
+def ask(race: str, command: str, tasks: Path, root: str, *more: str) -> "subprocess.CompletedProcess[str]":
     """Runs one command of `race` over a text of tasks, in its folder: `race` takes no word that is not UTF-8, and that folder may have any name."""
-    words = [race, command, "--tasks", tasks.name, "--root", shown(root)]  # guard: folder-that-is-not-utf-8
+    words = [race, command, "--tasks", tasks.name, "--root", shown(root), *more]  # guard: folder-that-is-not-utf-8
     return subprocess.run(words, cwd=tasks.parent, capture_output=True, text=True, errors="replace", stdin=subprocess.DEVNULL)
 
 

@@ -3,10 +3,10 @@
 from __future__ import annotations
 
 import os
-import re
 from dataclasses import dataclass
 from typing import Any, Dict
 
+from record.build.text import OWN_NAME
 from record.judge import Race
 
 
@@ -40,12 +40,11 @@ WIDE = Kind("wide-footprint", "a footprint that is too wide: a tree where a few 
 
 # WIDE is advice for footprints that are written by hand: nothing in a race shows it, so no race is given this kind.
 KINDS = (FORGOTTEN, TWO, TEMPORARY, LOG, OUTPUT, ARCHIVE, FOLDER, AT_ONCE, LEFT, WIDE)
-OF_FOLDER = re.compile(r"(?:^|/)~seen(?:/|$)")  # names that stand for it that a folder is there
 
 
 def is_of_folder(path: str) -> bool:
     """Whether a path is about a folder."""
-    return bool(OF_FOLDER.search(path)) or path.endswith("/")
+    return bool(OWN_NAME.search(path)) or path.endswith("/")
 
 
 def whole(about: Dict[str, Any], name: str) -> str:

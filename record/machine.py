@@ -60,6 +60,9 @@ class Answers:
         return answers
 
 
+CURRENT: List[Optional[Answers]] = [None]  # the last one has the answers that count now; none where the machine is asked and nothing noted
+
+
 def packed(found: Any) -> Any:
     """An answer as JSON can have it. The times of a file are left out: nobody asks for them."""
     if isinstance(found, bytes):
@@ -80,18 +83,13 @@ def unpacked(found: Any) -> Any:
     return found["bytes"].encode("utf-8", "surrogateescape") if "bytes" in found else os.stat_result((*found["stat"], 0, 0, 0))
 
 
-class Current:
-    """Whose answers count now; none where the machine is asked and nothing noted."""
-
-    answers: Optional[Answers] = None
-
-
 def asked(ask: Ask) -> Ask:
     """Marks a function that asks the machine. Its words are texts and numbers, and its answer one of those, bytes, a list of texts, or what `stat` gives."""
 
     @wraps(ask)
     def answer(*words: Any) -> Any:
-        return ask(*words) if Current.answers is None else Current.answers.answer((ask.__name__, *words), ask)
+        answers = CURRENT[-1]
+        return ask(*words) if answers is None else answers.answer((ask.__name__, *words), ask)
 
     return cast(Ask, answer)
 
@@ -99,11 +97,11 @@ def asked(ask: Ask) -> Ask:
 @contextmanager
 def answering(answers: Optional[Answers]) -> Iterator[None]:
     """Notes answers, or plays those that were noted."""
-    before, Current.answers = Current.answers, answers
+    CURRENT.append(answers)
     try:
         yield
     finally:
-        Current.answers = before
+        CURRENT.pop()
 
 
 isfile, isdir, islink = asked(os.path.isfile), asked(os.path.isdir), asked(os.path.islink)

@@ -14,7 +14,7 @@ import threading
 import time
 from concurrent.futures import ThreadPoolExecutor
 from contextlib import ExitStack
-from functools import lru_cache, partial
+from functools import partial
 from importlib import import_module
 from itertools import islice
 from pathlib import Path
@@ -25,22 +25,21 @@ from record.command import tops_of, with_jobs
 from record.entry import STOPPING, UNHEARD, Stopped, end_traced, forget_coerced
 from record.messages import printable
 from record.facts import Facts, first_tree
-from record.first_tree import FirstTree, tree_of
-from record.folder import Idle, NotWhole, Record, Taken, accept_warm, alone, aside, former, reading, rewrite, room_of_programs, what_stands
+from record.first_tree import tree_of
+from record.folder import Idle, Missing, NotWhole, Record, accept_warm, alone, aside, former, holds_other, reading, rewrite, room_of_programs
 from record.build.assumptions import UNTRIED
 from record.fresh import record_fresh
 from record.judge import find_race, judge, no_race
 from record.ninja.clean import CannotClean
 from record.ninja.retry import JOBS, TRIES, by_hand, hints, undo
-from record.orders.builds import CannotTry, Plan, with_many
+from record.orders.builds import Plan, with_many
 from record.orders.graph import Graph
 from record.orders.exploring import MOST, beside, explore, new_room
-from record.orders.result import Orders, tried, whatever
-from record.orders.trees import CannotCopy
+from record.orders.result import tried, whatever
+from record.orders.trees import CannotTry
 from record.orders.waits import try_waits
-from record.progress import Elapsed
+from record.progress import Progress
 from record.report import Judged, colours, read_json, report
-from record.standstill import Standstill
 from record.trace.classes import shown_as_numbers, traced
 from record.trace.unfollowed import Older
 from record.trace.pipe import Pipe
@@ -61,6 +60,8 @@ statuses: 0 safe, with --missing also nothing missing, 1 races or missing inputs
 NOT_TRACED = ("strace may not follow processes here, so nothing was built (see its lines above). In a container allow it, such as docker run --cap-add=SYS_PTRACE; "
               "on a machine /proc/sys/kernel/yama/ptrace_scope must be less than 3")
 PACKAGES = {"make": "make", "ninja": "ninja-build", "cmake": "cmake", "meson": "meson"}  # of Debian, by what builds
+ABSENT = "%s is missing (Debian: apt-get install %s)"
+NO_COMMAND = "no such command: %s, or it cannot be run; behind -- stands the command that builds, such as make: race-record -- make"
 MAKES = ("make", "gmake", "bmake")
 SILENT = "%s cannot be recorded: %s. Nothing was built. Let a GNU make build, of version 4.2 or later (Debian: apt-get install make), and record again"
 SETUP = " || exit\nexec \"$@\""  # behind what comes before the build
@@ -72,34 +73,24 @@ WARM_FRESH = ("WARM: the build used what was there before, and --fresh leaves it
               "such as --setup 'cmake -B build'; if builds start from this tree, say race-record --warm")
 
 
-class Missing(Exception):
-    """A tool or a file is not there, too old, or may not do its work."""
-
-
-@lru_cache(maxsize=None)
-def said_of_itself(path: str, _: int) -> str:
-    """What a program prints of its version, which was written at some time."""
-    return subprocess.run([path, "--version"], capture_output=True, text=True, errors="replace", env=dict(os.environ, LC_ALL="C")).stdout
-
-
-def version_of(program: str, pattern: str, least: Tuple[int, int], package: str) -> str:
+def version_of(program: str, pattern: str, least: Tuple[int, int]) -> str:
     """The version that a program reports of itself."""
     path = shutil.which(program)
     if path is None:
-        raise Missing("%s is missing (Debian: apt-get install %s)" % (program, package))
-    output = said_of_itself(path, os.stat(path).st_mtime_ns)
+        raise Missing(ABSENT % (program, program))
+    output = subprocess.run([path, "--version"], capture_output=True, text=True, errors="replace", env=dict(os.environ, LC_ALL="C")).stdout
     match = re.search(pattern, output)
     if not match or (int(match.group(1)), int(match.group(2))) < least:
         needed = "%s %d.%d" % ("GNU make" if program == "make" else program, *least)
-        raise Missing("%s is %s, and %s or later is needed (Debian: apt-get install %s)" % (path, output.split("\n")[0] or "of no version that it says", needed, package))
+        raise Missing("%s is %s, and %s or later is needed (Debian: apt-get install %s)" % (path, output.split("\n")[0] or "of no version that it says", needed, program))
     return "%s.%s" % match.groups()
 
 
 def versions() -> Dict[str, str]:
     """The tools that record. A machine without make can build with ninja."""
-    found = {"strace": version_of("strace", r"version (\d+)\.(\d+)", (5, 10), "strace")}
+    found = {"strace": version_of("strace", r"version (\d+)\.(\d+)", (5, 10))}
     if shutil.which("make"):
-        found["make"] = version_of("make", r"GNU Make (\d+)\.(\d+)", (4, 2), "make")
+        found["make"] = version_of("make", r"GNU Make (\d+)\.(\d+)", (4, 2))
     return found
 
 
@@ -110,12 +101,6 @@ def refuse_silent(word: str) -> None:
         why = why_silent(path) if os.path.isfile(path) else ""
         if why:  # guard: make-that-shows-no-names
             raise Missing(SILENT % (path, why))
-
-
-def has_calls(trace: Path) -> bool:
-    """Whether a trace has a call: the first one is that which starts the command, also where that fails."""
-    with open(trace, "rb") as lines:
-        return any(b"(" in line for line in islice(lines, 9))
 
 
 def enter(watch: Watch, older: Older, heard: object, held: Set[signal.Signals]) -> None:
@@ -154,13 +139,8 @@ def run_build(words: List[str], spool: Path, tops: List[str], watch: Watch, expe
         process = subprocess.Popen(words, env=env, close_fds=False, preexec_fn=lambda: enter(watch, older, heard, held))  # what the caller has opened for the build stays open  # guard: descriptors-of-caller
         watch.note(process.pid)
         ended, filled = threading.Event(), threading.Event()
-        standstill, elapsed = Standstill(process.pid), Elapsed(expected)
-
-        def see(data: bytes) -> None:
-            standstill.see(data)
-            elapsed.see(data)
-
-        filling = pool.submit(pipe.fill, ended.wait, see)
+        progress = Progress(expected, process.pid)
+        filling = pool.submit(pipe.fill, ended.wait, progress.see)
         filling.add_done_callback(lambda _: filled.set())
         counting = [*watch.covered, env.get("PATH", os.defpath).split(":")[0]]  # where a shell looks first for programs
         sifting, loading = pool.submit(sift, pipe.file, tops, spool / "sifted", filled.wait, counting), pool.submit(import_module, "record.importing")
@@ -174,16 +154,17 @@ def run_build(words: List[str], spool: Path, tops: List[str], watch: Watch, expe
             ended.set()
             signal.signal(signal.SIGINT, old)
         filling.result()
-        elapsed.end()
+        progress.end()
         sifting.result(), loading.result()
     if interrupts and status != 0:  # guard: interrupt
         raise Stopped("SIGINT")
-    if status != 0 and not has_calls(pipe.file):  # guard: nobody-may-trace
+    with open(pipe.file, "rb") as lines:
+        has_calls = any(b"(" in line for line in islice(lines, 9))  # the first one is that which starts the command, also where that fails
+    if status != 0 and not has_calls:  # guard: nobody-may-trace
         raise Missing(NOT_TRACED)
     return status, seconds
 
 
-@lru_cache(maxsize=None)
 def parser_of_words() -> argparse.ArgumentParser:
     """What reads the words of the command line."""
     parser = argparse.ArgumentParser(prog="race-record", usage="race-record [options] -- COMMAND ..", epilog=EXAMPLE,
@@ -204,9 +185,8 @@ def parser_of_words() -> argparse.ArgumentParser:
     parser.add_argument("--missing", action="store_true", help="report missing inputs too: files whose edit does not make a target again")
     parser.add_argument("-V", "--version", action="version", version="%(prog)s " + RELEASE, help="print the version")
     parser.add_argument("words", nargs=argparse.REMAINDER, metavar="-- COMMAND ..", help="what builds the project")
-    parser.set_defaults(tree=None)  # the first tree, where --fresh made it
-    parser.set_defaults(gate="", held=())  # where recipes wait in a build in another order; processes that are held at their end
-    parser.set_defaults(expected=0.0, made=0)  # seconds and builds of the former record
+    # The first tree, where --fresh made it; where recipes wait in another order; processes that are held at their end; seconds and builds of the former record.
+    parser.set_defaults(tree=None, gate="", held=(), expected=0.0, made=0)
     return parser
 
 
@@ -232,28 +212,18 @@ def parse(args: List[str]) -> argparse.Namespace:
     return found
 
 
-def no_command(word: str) -> str:
-    """What to say of a command that cannot be run."""
-    if word in PACKAGES:
-        return "%s is missing (Debian: apt-get install %s)" % (word, PACKAGES[word])
-    if os.path.isfile(word) and "/" in word:
-        return "%s cannot be run: chmod +x %s" % (word, word)
-    here = " (here is ./%s)" % word if os.path.isfile(word) else ""
-    return "no such command: %s%s; behind -- stands the command that builds, such as make: race-record -- make" % (word, here)
-
-
-def judge_build(folder: Path, race: str, orders: Orders) -> Judged:
-    """Asks `race` about one build of a record, and takes in what other orders came to."""
-    about = read_json(folder / "build.json")
-    return Judged(folder.name, about, tried(orders, folder.name, about["folder"], judge(race, folder / "tasks", about["folder"])), orders)
-
-
 def judge_record(out: Path, race: str) -> Tuple[int, List[Judged]]:
-    """Asks `race` about each build of a record, several at once; the worst status."""
+    """Asks `race` about each build of a record, several at once, and takes in what other orders came to; the worst status."""
     record = read_json(out / "record.json")
     orders = record.get("orders")
+
+    def judge_build(number: str) -> Judged:
+        folder = out / "builds" / number
+        about = read_json(folder / "build.json")
+        return Judged(number, about, tried(orders, number, about["folder"], judge(race, folder / "tasks", about["folder"])), orders)
+
     with ThreadPoolExecutor(ASKED) as pool:
-        judged = list(pool.map(lambda number: judge_build(out / "builds" / number, race, orders), record["builds"]))
+        judged = list(pool.map(judge_build, record["builds"]))
     if record["holes"] or any(j.verdict.status not in (0, 1) for j in judged):  # guard: no-yes
         return 2, judged
     return int(any(j.verdict.races for j in judged) or bool(whatever(orders))), judged
@@ -263,16 +233,15 @@ def attempt(options: argparse.Namespace, words: List[str], tools: Dict[str, str]
     """One recorded build, and whether it failed in a way that another may not, and was undone."""
     real, folder = shutil.which("make") or "make", os.path.realpath(".")
     before, after = (machine.Answers(), machine.Answers()) if options.keep_trace else (None, None)
-    tree = options.tree or tree_of(folder)
     with machine.answering(before):
-        names, kept = first_tree(tops_of(words, options.top), tree.linked)
+        names, kept = first_tree(tops_of(words, options.top), options.tree.linked)
     rooms = room_of_programs(names.tops)
     room = Path(tempfile.mkdtemp(prefix="race-record-", dir=rooms))
     spool, watch = Path(os.path.realpath(room)), Watch(os.path.dirname(options.gate) or rooms, options.gate)
     try:
         watch.prepare(makes_of(os.environ.get("PATH", os.defpath)))
         status, seconds = run_build(prepared(options) + words, spool, names.tops, watch, options.expected)
-        record, facts = Record(options.words, folder, status, round(seconds, 2), dict(tools), first=tree), Facts(spool, str(spool), real, names, kept, watch.said, str(watch.said), list(watch.covered))
+        record, facts = Record(options.words, folder, status, round(seconds, 2), dict(tools), first=options.tree), Facts(spool, str(spool), real, names, kept, watch.said, str(watch.said), list(watch.covered))
         from record.importing import complete  # it was loaded while the build ran
         with machine.answering(after):
             found = complete(record, facts, out, options)
@@ -289,11 +258,11 @@ def attempt(options: argparse.Namespace, words: List[str], tools: Dict[str, str]
         watch.remove()
 
 
-def record_in_order(options: argparse.Namespace, tools: Dict[str, str], first: Optional[FirstTree], place: Path, plan: Plan) -> int:
+def record_in_order(options: argparse.Namespace, tools: Dict[str, str], place: Path, plan: Plan) -> int:
     """Records a build in a copy, whose recipes wait at a gate in its folder, or whose processes are held at their end; its status."""
     words, env = with_many(options.words, os.environ, plan.jobs)
     os.environ.update(env)
-    own = argparse.Namespace(**{**vars(options), "tree": first, "expected": 0.0, "held": plan.ends})
+    own = argparse.Namespace(**{**vars(options), "expected": 0.0, "held": plan.ends})
     if not plan.ends:
         own.gate, own.missing, own.footprints, own.keep_trace = str(place / "gate"), False, False, False
     record = attempt(own, words, tools, place / "record")[0]
@@ -303,23 +272,24 @@ def record_in_order(options: argparse.Namespace, tools: Dict[str, str], first: O
 
 def record_all(options: argparse.Namespace, tools: Dict[str, str], out: Path, race: str) -> Record:
     """The record, and what other orders came to."""
-    tops, first = tops_of(options.words, options.top), options.tree or tree_of(os.path.realpath("."))
+    options.tree = options.tree or tree_of(os.path.realpath("."))
+    tops = tops_of(options.words, options.top)
+    rooms = room_of_programs(tops)
     with ExitStack() as stack:
         room, running, why = None, None, ""
-        rooms = room_of_programs(tops)
         try:
             if options.orders:
-                room = stack.enter_context(new_room(tops, prepared(options), options.words, os.path.realpath(out), rooms, partial(record_in_order, options, tools, first)))
+                room = stack.enter_context(new_room(tops, prepared(options), options.words, os.path.realpath(out), rooms, partial(record_in_order, options, tools)))
                 running = stack.enter_context(beside(room, options.expected, options.made))
-        except (CannotCopy, CannotTry) as fault:
+        except CannotTry as fault:
             why = str(fault)
         record = record_serial(options, tools, out)
         try:
-            if room is not None and running is not None and record.status == 0 and not record.holes and (not record.warm or options.warm or record.stands_alone):
+            if room is not None and running is not None and record.status == 0 and not record.holes and (not record.warm or options.warm):
                 room.bound(record.seconds)
                 record = try_waits(room, record, out, race, options.orders)
                 record.try_out(explore(room, record, out, race, options.orders, running))
-        except (CannotCopy, CannotTry) as fault:
+        except CannotTry as fault:
             why = str(fault)
         record.notes += ["not built in other orders: " + why] * bool(why)
         record.note_pairs(*Graph(out).free_pairs() if record.status == 0 and (record.orders is None or record.orders["untried"]) else (0, ""))
@@ -339,6 +309,7 @@ def record_serial(options: argparse.Namespace, tools: Dict[str, str], out: Path)
     found, number = record.hints, 0
     while is_again:
         number += 1
+        shutil.rmtree(out)  # the build does not see it
         print("race-record: the serial build failed; recording again with -j%d (%d of %d)" % (JOBS, number, TRIES), file=sys.stderr, flush=True)
         record, is_again = attempt(options, with_jobs(options.words, JOBS), tools, out, number < TRIES)  # guard: last-build-stays
         record.notes.append(SERIAL_FAILED + "; this is build %d with -j%d" % (number, JOBS))
@@ -352,16 +323,15 @@ def run(options: argparse.Namespace) -> int:
     race = find_race(options.race)
     if race is None:
         raise Missing(no_race(options.race))
-    if options.missing and not import_module("record.missing.inputs").knows_missing(race):
-        raise Missing("%s does not answer `race missing --tasks`: it is an older version of race, or another program. Name race by --race, or leave --missing out" % race)
     tools, out = versions(), Path(options.output).absolute()
-    if what_stands(out):
-        raise Missing("%s is there and is no record: it is %s. Nothing there was changed; name another folder by -o" % (out, what_stands(out)))
+    if holds_other(out):
+        raise Missing("%s is there and is no record: nothing there was changed; name another folder by -o" % out)
     if not options.words:
         return judge_warm(out, race)
-    if shutil.which(options.words[0]) is None:
-        raise Missing(no_command(options.words[0]))
-    refuse_silent(options.words[0])
+    word = options.words[0]
+    if shutil.which(word) is None:
+        raise Missing(ABSENT % (word, PACKAGES[word]) if word in PACKAGES else NO_COMMAND % word)
+    refuse_silent(word)
     with alone(out):
         return record_and_judge(options, tools, out, race)
 
@@ -377,7 +347,7 @@ def record_and_judge(options: argparse.Namespace, tools: Dict[str, str], out: Pa
         record.bar(UNTRIED)
         rewrite(out, record)
     ended, judged = judge_record(out, race)
-    if ended == 0 and record.warm and not (options.warm or record.stands_alone):  # guard: ninja-warm-no-yes
+    if ended == 0 and record.warm and not options.warm:  # guard: ninja-warm-no-yes
         ended = 2
         record.holes.append(WARM_FRESH if options.fresh else WARM % (" --setup ./configure" if record.configured else "", shlex.join(options.words)))
         rewrite(out, record)
@@ -421,6 +391,6 @@ def main(args: Optional[List[str]] = None) -> int:
     except Idle as idle:
         print("\n".join(["NO VERDICT", *("  - %s" % why for why in idle.args), "  the record that was in %s stays: race-report shows it" % Path(options.output).absolute()]))
         return 2
-    except (CannotClean, Missing, NotBuilt, NotWhole, Taken) as fault:
+    except (CannotClean, CannotTry, Missing, NotBuilt, NotWhole) as fault:
         print("race-record: %s" % fault, file=sys.stderr)
         return 3

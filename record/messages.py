@@ -1,9 +1,12 @@
-"""Messages: what the system says of a file, and texts without the signs that a terminal obeys."""
+"""Messages: what the system says of a file, texts without the signs that a terminal obeys, and the pages that a message names: in the checkout that the scripts
+stand in, or below the prefix of an installation."""
 
 import errno
 import os
 import re
+from pathlib import Path
 
+TOP = Path(__file__).resolve().parent.parent  # the checkout, or PREFIX/share/race
 HELPS = {errno.ENOSPC: " (make room there, and run it again)", errno.EFBIG: " (raise the limit on the size of files, ulimit -f, and run it again)"}
 # Signs that a terminal obeys, or that a page must not have; and the colours that race-record prints itself.
 CONTROL = re.compile(r"(\x1b\[(?:1;3[12]|0)m)|[\x00-\x08\x0b-\x1f\x7f-\x9f]")
@@ -25,3 +28,14 @@ def reason(error: OSError) -> str:
 def plural(count: int, word: str) -> str:
     """`1 race`, `2 races`."""
     return "%d %s%s" % (count, word, "" if count == 1 else "s")
+
+
+def page(name: str) -> str:
+    """The path of a page of docs/, such as RECORD.md; where none is there, as the repository names it."""
+    places = (TOP.parent / "doc" / "race" / "docs" / name, TOP / "docs" / name)
+    return next((str(place) for place in places if place.is_file()), "docs/" + name)
+
+
+def after_no_verdict(heading: str = "No verdict, and what to do", name: str = "RECORD.md") -> str:
+    """The line under a verdict that is none: where the reasons are explained."""
+    return '  what to do: "%s" in %s' % (heading, page(name))

@@ -23,7 +23,8 @@ class Places:
         """The place of a target of which the build says this; nothing where no generator says more than that."""
         owner = about.get("owner", {})
         if owner.get("by") == "meson":
-            return meson_place(self.folder, owner.get("target") or name)
+            target = owner.get("target") or name
+            return self.meson.get(target) or self.meson.get(os.path.normpath(os.path.join(self.folder, target)))
         found = CMAKE_OBJECT.search(name) or CMAKE_OBJECT.search(about.get("file", ""))
         target = owner.get("target") or (found[1] if found else "")
         return self.cmake.get(target) if target else None
@@ -33,6 +34,12 @@ class Places:
         """The targets of CMake, where somebody has asked for them before it configured the folder or one above it."""
         tops = (Path(self.folder), *Path(self.folder).parents)
         return next((dict(replied(top / ".cmake/api/v1/reply")) for top in tops if machine.isfile(str(top / "CMakeCache.txt"))), {})
+
+    @cached_property
+    def meson(self) -> Dict[str, Place]:
+        """The targets of Meson, and the files that they write."""
+        targets = read(Path(self.folder, "meson-info/intro-targets.json")) or []
+        return {name: (target["defined_in"], 1) for target in reversed(targets) for name in (target["name"], *target["filename"])}
 
 
 def replied(replies: Path) -> Iterator[Tuple[str, Place]]:
@@ -45,14 +52,6 @@ def replied(replies: Path) -> Iterator[Tuple[str, Place]]:
             node = graph["nodes"][at] if at is not None else {}
             if "line" in node:
                 yield target["name"], (os.path.normpath(os.path.join(model["paths"]["source"], graph["files"][node["file"]])), node["line"])
-
-
-def meson_place(folder: str, name: str) -> Optional[Place]:
-    """The file of Meson that makes a target, or what writes a file."""
-    for target in read(Path(folder, "meson-info/intro-targets.json")) or ():
-        if name == target["name"] or any(one == os.path.normpath(os.path.join(folder, name)) for one in target["filename"]):
-            return target["defined_in"], 1
-    return None
 
 
 def read(path: Path) -> Any:

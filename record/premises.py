@@ -23,27 +23,17 @@ def add_granted(owners: Owners, assumed: Assumptions) -> None:
     for make in owners.makes:
         for job in (j for r in make.words.rounds for j in r.jobs):
             lucky(make.work.get(id(job)), job.target, assumed)
-        for name in [*guile(make), *make.words.loaded]:
+        features = {word for one in make.words.rounds for value in (one.base or Base()).values.get(".FEATURES", ()) for word in value.split()}
+        for name in [*["$(guile ..)"] * ("guile" in features), *make.words.loaded]:  # guard: another-language
             assumed.add("loaded", name)  # guard: loaded-objects-said
-    for _, second in at_once(make.life for make in owners.makes):
-        assumed.add("tops", shown(second))  # guard: two-makes-at-once
     for life in beside(owners):
         assumed.add("beside", shown(life))  # guard: said
 
 
-def guile(make: Make) -> List[str]:
-    """Another language that a make has inside."""
-    values = (value for one in make.words.rounds for value in (one.base or Base()).values.get(".FEATURES", ()))
-    return ["$(guile ..)"] if any("guile" in value.split() for value in values) else []  # guard: another-language
-
-
-def add_granted_by_ninjas(ninjas: List[Ninja], ties: List[str], owners: Owners, assumed: Assumptions) -> None:
-    """What ninjas and their commands take for granted, whatever their tasks are."""
-    for text in ties:
-        assumed.add("ties", text[:WIDTH])
-    for first, second in at_once(tool.life for tool in (*ninjas, *owners.makes)):
-        if first.is_ninja or second.is_ninja:
-            assumed.add("tops", shown(second))  # guard: two-beside-each-other
+def add_granted_by_ninjas(ninjas: List[Ninja], owners: Owners, assumed: Assumptions) -> None:
+    """What ninjas and their commands take for granted, whatever their tasks are; and makes and ninjas that run at once."""
+    for life in at_once(tool.life for tool in (*ninjas, *owners.makes)):
+        assumed.add("tops", shown(life))  # guard: two-beside-each-other
     for job in (j for ninja in ninjas for stage in ninja.stages for j in stage.jobs):
         lucky(job.work, job.edge.label if job.edge is not None else job.text[:WIDTH], assumed)
     if ninjas:
@@ -65,10 +55,10 @@ def shown(life: Life) -> str:
     return " ".join(life.argv)[:WIDTH]
 
 
-def at_once(lives: Iterable[Life]) -> Iterator[Tuple[Life, Life]]:
-    """Of makes and ninjas that no other one started those that ran at once, in pairs: one begins before the other has ended."""
+def at_once(lives: Iterable[Life]) -> Iterator[Life]:
+    """Of makes and ninjas that no other one started those that begin before another one has ended."""
     tops = sorted((life for life in lives if not is_inside(life)), key=lambda life: life.born)
-    return ((first, second) for first, second in zip(tops, tops[1:]) if second.born < first.died)
+    return (second for first, second in zip(tops, tops[1:]) if second.born < first.died)
 
 
 def lucky(work: Optional[Work], target: str, assumed: Assumptions) -> None:

@@ -5,22 +5,23 @@ import os
 import sys
 import textwrap
 from dataclasses import dataclass
+from functools import partial
 from pathlib import Path
-from typing import Any, Dict, List, Sequence, Tuple
+from typing import Any, Callable, Dict, Iterable, List, Sequence, Tuple, TypeVar
 
 from record.fixes import Remedy, is_needed, merged, remedy
 from record.judge import Race, Verdict, explained
 from record.kinds import Meeting, target, whole
-from record.messages import plural
+from record.messages import after_no_verdict, plural
 from record.ninja.fix import pool_text
 from record.orders import result
-from record.pages import after_no_verdict
 from record.build.assumptions import OF_TREE
 from record.build.text import OWN_NAME, file_of, shown
 
 SHOWN_BLOCKS, SHOWN_LINES, SHOWN_FILES, SHOWN_HOLES = 10, 3, 3, 20
 SHOWN_SIGNS = 80  # of an example
-WORDS = 100  # signs of a call
+WORDS = 100  # signs of a call, at most
+Item = TypeVar("Item")
 UNJUDGED = "what the trace shows, and nobody can judge, does no harm: "
 
 
@@ -101,12 +102,6 @@ def rows(about: Dict[str, Any], race: Race) -> List[str]:
     return ["  %s  %s  %s" % (row[0].ljust(wide[0]), row[1].ljust(wide[1]), row[2]) for row in found] + (["  " + pool] if pool else [])
 
 
-def heading(about: Dict[str, Any], path: str) -> str:
-    """A path, and what it stands for if it is no file."""
-    meaning = about.get("meanings", {}).get(path)
-    return name_of(about, path) + ("  (%s)" % meaning if meaning else "")
-
-
 def remedy_text(remedies: List[Remedy], is_fixed: bool) -> List[str]:
     """What ends some races: advice, and the lines to write, with what was checked of them."""
     lines = ["  advice: " + advice for advice in dict.fromkeys(one.advice for one in remedies if one.advice)]
@@ -126,12 +121,8 @@ def race_text(one: Judged, races: List[Race]) -> List[str]:
     ended = ["  the lines of other races end this one too"] if not remedies else []
     more = [more_text(about, races)] if len(races) > 1 else []
     inside = "  in %s: %s, %s" % (target(about, races[0].first), *(who(about, races[0], it) for it in (races[0].first, races[0].second))) if Meeting(about, races[0]).is_of_one_recipe else ""
-    return ["RACE  " + heading(about, races[0].path) + inside, *rows(about, races[0]), *result.seen(one.orders, races[0].first, races[0].second), *more, *ended, *remedy_text(remedies, verdict.is_fixed)]
-
-
-def short(words: str) -> str:
-    """The first words of a call: a make may hand on a hundred macros. record.json has them all."""
-    return words if len(words) <= WORDS else words[:WORDS].rpartition(" ")[0] + " .."  # guard: calls-with-many-words
+    meaning = about.get("meanings", {}).get(races[0].path)  # what the path stands for if it is no file
+    return ["RACE  " + name_of(about, races[0].path) + ("  (%s)" % meaning if meaning else "") + inside, *rows(about, races[0]), *result.seen(one.orders, races[0].first, races[0].second), *more, *ended, *remedy_text(remedies, verdict.is_fixed)]
 
 
 def in_order(count: int, word: str) -> str:
@@ -154,22 +145,23 @@ def more_text(about: Dict[str, Any], races: List[Race]) -> str:
     return "  and %d more of this kind by the same writer, also on %s%s" % (count, ", ".join(files[1:SHOWN_FILES + 1]), others)
 
 
-def groups_of(judged: Judged) -> List[List[Race]]:
-    """All races of one round, in groups."""
-    groups: Dict[Tuple[str, str], List[Race]] = {}
-    for race in judged.verdict.races:
-        groups.setdefault(group_of(judged.about, race), []).append(race)
+def grouped(found: Iterable[Item], key: Callable[[Item], Tuple[str, ...]]) -> List[List[Item]]:
+    """What has the same key stands together."""
+    groups: Dict[Tuple[str, ...], List[Item]] = {}
+    for one in found:
+        groups.setdefault(key(one), []).append(one)
     return list(groups.values())
 
 
 def races_text(judged: List[Judged], colour: Colours) -> List[str]:
     """The races of all rounds: the first groups, and how many others there are."""
-    groups = [(one, group) for one in judged for group in groups_of(one)]
+    groups = [(one, group) for one in judged for group in grouped(one.verdict.races, partial(group_of, one.about))]
     lines: List[str] = []
     last = None
     for one, group in groups[:SHOWN_BLOCKS]:
         if len(judged) > 1 and one is not last:
-            lines.append("%s  in %s" % (short(("%s %s" % (one.about.get("tool", "make"), one.about["words"])).strip()), one.about["folder"]))
+            call = "%s %s" % (one.about.get("tool", "make"), one.about["words"])  # a make may hand on a hundred macros: record.json has them all
+            lines.append("%s  in %s" % (textwrap.shorten(call, WORDS, placeholder=" .."), one.about["folder"]))  # guard: calls-with-many-words
         first, *others = race_text(one, group)
         lines += [colour.bad + first + colour.end, *others, ""]
         last = one
@@ -200,21 +192,16 @@ def checked(remedies: Sequence[Remedy], is_whole: bool) -> str:
 
 
 def assumptions_text(record: Dict[str, Any], is_safe: bool) -> List[str]:
-    """What was taken for granted."""
-    texts, keys = granted(record), [one["kind"] for one in record["assumptions"] if one["kind"] != "orders" or not record.get("orders")]
+    """What was taken for granted: a line for each kind or, where other orders were tried, three at most."""
+    found = [(one["kind"], one["text"], example_text(one, record["folder"])) for one in record["assumptions"] if one["kind"] != "orders" or not record.get("orders")]
+    texts = [text + example for _, text, example in found]
+    if record.get("orders"):
+        tree = "; ".join(text + example for kind, text, example in found if kind in OF_TREE)
+        left = ", ".join(kind + example for kind, _, example in found if kind not in OF_TREE)
+        texts = [*result.premise(record["orders"]), *filter(None, [tree, left and UNJUDGED + left])]
     lines = ["safe, if:" if is_safe else "Assumed:", *(line for text in texts for line in wrapped(text, "  - ", "    "))]
-    lines += wrapped("race-explain says what to do about a line, by its key: " + ", ".join(keys)) if keys else []
-    return lines if texts else []
-
-
-def granted(record: Dict[str, Any]) -> List[str]:
-    """The same as lines: one for each kind or, where other orders were tried, three at most."""
-    found = [(one["kind"], one["text"], example_text(one, record["folder"])) for one in record["assumptions"]]
-    if not record.get("orders"):
-        return [text + example for _, text, example in found]
-    tree = "; ".join(text + example for kind, text, example in found if kind in OF_TREE)
-    left = ", ".join(kind + example for kind, _, example in found if kind not in (*OF_TREE, "orders"))
-    return [*result.premise(record["orders"]), *filter(None, [tree, left and UNJUDGED + left])]
+    keys = ", ".join(kind for kind, _, _ in found)
+    return [*lines, *(wrapped("race-explain says what to do about a line, by its key: " + keys) if keys else [])] if texts else []
 
 
 def example_text(one: Dict[str, Any], folder: str) -> str:
@@ -271,7 +258,7 @@ def warm_text(record: Dict[str, Any], colour: Colours) -> List[str]:
     if not warm["count"]:
         return []
     was = "was" if warm["count"] == 1 else "were"
-    names = [os.path.relpath(shown(name), shown(record["folder"])) for name in warm.get("names", [warm["example"]])]
+    names = [os.path.relpath(shown(name), shown(record["folder"])) for name in warm["names"]]
     more = ["%d more" % (warm["count"] - len(names))] if warm["count"] > len(names) else []
     first = "%sWARM%s  %s that this build makes %s there before: this is about builds from such a tree" % (colour.bad, colour.end, plural(warm["count"], "file"), was)
     return [first, *wrapped(", ".join(names + more))]

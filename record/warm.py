@@ -1,46 +1,26 @@
 """Cold and warm: whether something that a build makes was there before it (first_tree.py says what an earlier build left besides)."""
 
 import os
-import sys
 from dataclasses import dataclass
-from typing import Dict, Iterable, Iterator, List, Set
+from typing import Dict, Iterator, List, Set, Tuple
 
 from record import machine
 from record.build.tasks import Build, Node
 from record.commands.shelltext import SHELLS
-from record.commands.system import OF_SYSTEM
+from record.commands.system import OF_SYSTEM, is_below
 from record.make.database import Base
 from record.make.graph import Graph, MakeBuild
 from record.make.owners import Make
 from record.make.words import DEFAULTS
-from record.missing.footprints import is_below
 from record.ninja.runs import Ninja
+from record.trace.events import CREATED, MADE
 from record.trace.lives import Life
 from record.trace.names import Names
-from record.trace.snapshots import Change, Past
+from record.trace.snapshots import Change
 
 CHANGES = "WCDMTX"  # kinds of events of a file or a folder
 NOTHING = ("", ":", "true")  # lines of a recipe
-
-
-class Cleaned:
-    """Targets of an earlier build that were removed before a make or a ninja began, as by `cmake --build DIR --clean-first` or a script with `make clean`. By
-    name: when the first make or ninja began that found it absent."""
-
-    def __init__(self, names: Names, changes: List[Change], tools: Iterable[Life], lives: Iterable[Life]) -> None:
-        past, left = Past(names.before, changes), {path.rstrip("/") for _, kind, path in changes if kind in "DX"} & names.before.keys()
-        self.since: Dict[str, int] = {}
-        for start in sorted({start_of(life) for life in tools}):
-            found = left - past.until(start).keys()
-            self.since.update(dict.fromkeys(found, start))
-            left -= found
-        own = (life for life in lives if not any(up.is_make or up.is_ninja for up in life.up()))  # guard: what-makes-have-made-since
-        for path in {path for life in own for kind, path in life.events if kind == "C"}:
-            self.since.pop(path, None)  # what a script makes again may be of the earlier build  # guard: what-is-put-back
-
-    def is_gone(self, path: str, life: Life) -> bool:
-        """Whether a make or a ninja found it absent, or as recipes have made it since."""
-        return self.since.get(path, sys.maxsize) <= start_of(life)  # guard: what-is-removed-first
+Moves = Dict[str, List[Tuple[int, bool]]]  # by name: the places, in order, where it goes or comes, and whether it is there behind that
 
 
 def start_of(life: Life) -> int:
@@ -48,15 +28,30 @@ def start_of(life: Life) -> int:
     return life.starts[0 if life.is_make else -1][0]
 
 
+def moves_of(names: Names, changes: List[Change]) -> Moves:
+    """Where names that were there before the build go and come again."""
+    found: Moves = {}
+    for place, kind, path in changes:
+        name = path.rstrip("/")
+        if name in names.before:
+            found.setdefault(name, []).append((place, name != path or kind in CREATED + MADE))
+    return found
+
+
+def is_gone(moves: Moves, path: str, place: int) -> bool:
+    """Whether a name that was there before the build is gone at a place, as by `rm` or `make clean` in a script."""
+    return not next((is_there for at, is_there in reversed(moves.get(path, [])) if at < place), True)  # guard: what-is-removed-first
+
+
 @dataclass(frozen=True)
 class Target:
-    """A target with a recipe that a make considered in a round. `spelled`: its file, as the makefile says."""
+    """A target with a recipe that a make considered in a round. `own`: the name of its file, which may be a link."""
 
     make: Make
     stage: str
     base: Base
     name: str
-    spelled: str
+    own: str
     path: str
     is_idle: bool  # its recipe did not run, and need not
 
@@ -73,9 +68,8 @@ class Target:
         return self.name in first and self.name in DEFAULTS and not is_inside(self.make.life)  # guard: makefile-that-words-name
 
     def was_there(self, names: Names) -> bool:
-        """Whether its file was there before the build; what a link leads to that the build has made is no target."""
-        is_there = names.before.get(self.path) in ("f", "l") or self.is_idle and is_beyond(self.path, names)  # guard: targets-outside-of-project
-        return is_there and not is_made_link(names.find(self.make.folder, self.spelled, False).path, names)  # guard: links-that-are-made
+        """Whether its file was there before the build."""
+        return names.before.get(self.own) in ("f", "l") or self.is_idle and is_beyond(self.own, names)  # guard: targets-outside-of-project
 
 
 def targets_of(makes: List[Make], names: Names) -> Iterator[Target]:
@@ -87,18 +81,19 @@ def targets_of(makes: List[Make], names: Names) -> Iterator[Target]:
         for name in dict.fromkeys((*one.nodes, *ran)):
             if name in base.recipes and (ran or name not in due):
                 spelled = one.vpath.get(name, name)
-                file = spelled.rpartition("(")[0] if spelled.endswith(")") else spelled
-                yield Target(make, one.stage, base, name, spelled, names.find(make.folder, file or spelled, True).path, name not in due)
+                file = spelled.rpartition("(")[0] if spelled.endswith(")") else ""
+                own, path = (names.find(make.folder, file or spelled, follow).path for follow in (False, True))  # guard: links-that-are-made
+                yield Target(make, one.stage, base, name, own, path, name not in due)
 
 
-def warm_names(makes: List[Make], builds: List[Build], ninjas: List[Ninja], names: Names, cleaned: Cleaned) -> List[str]:
+def warm_names(makes: List[Make], builds: List[Build], ninjas: List[Ninja], names: Names, moves: Moves) -> List[str]:
     """The targets that were there before: made again, or up to date.
 
-    What a tool makes to read it itself (makefiles, manifests) is no part of the question: configuring made it. Nor is what was removed first.
+    What a tool makes to read it itself (makefiles, manifests) is no part of the question: configuring made it. Nor is what was gone when it began.
     """
-    found = {path for build in builds for path in left_folders(build, names) if not cleaned.is_gone(path, build.make.life)}  # guard: folders-that-are-left
+    found = {path for build in builds for path in left_folders(build, names) if not is_gone(moves, path, start_of(build.make.life))}  # guard: folders-that-are-left
     made = {path for ninja in ninjas for path in made_by(ninja, names)}
-    for path in (path for ninja in ninjas for path in outputs_of(ninja, names) if not cleaned.is_gone(path, ninja.life)):  # guard: what-ninja-finds-removed
+    for path in (path for ninja in ninjas for path in outputs_of(ninja, names) if not is_gone(moves, path, start_of(ninja.life))):  # guard: what-ninja-finds-removed
         kinds = ("f", "l") if path in made else ("f", "l", "d")  # a folder too: its statement did not run  # guard: folder-that-is-up-to-date
         if names.before.get(path) in kinds or path not in made and is_beyond(path, names):  # guard: outputs-outside-of-project
             found.add(path)
@@ -106,8 +101,9 @@ def warm_names(makes: List[Make], builds: List[Build], ninjas: List[Ninja], name
     written = set().union(*(build.writers for build in builds))
     for target in targets_of(makes, names):
         is_kept = target.is_idle and target.path not in written and (target.does_nothing() or target.is_beginning())  # guard: recipes-that-do-nothing
-        if target.stage == "goals" and target.name not in target.base.phony and target.path not in read and not is_kept and target.was_there(names):
-            found.update([] if cleaned.is_gone(target.path, target.make.life) else [target.path])  # guard: what-make-finds-removed
+        is_out = is_gone(moves, target.own, start_of(target.make.life))  # guard: what-make-finds-removed
+        if target.stage == "goals" and target.name not in target.base.phony and target.path not in read and not (is_kept or is_out) and target.was_there(names):
+            found.add(target.path)
     return sorted(found)
 
 
@@ -145,41 +141,29 @@ def left_folders(build: Build, names: Names) -> Iterator[str]:
             yield node.path
 
 
-def is_made_link(path: str, names: Names) -> bool:
-    """Whether there is a link at this path that was not there before."""
-    return path not in names.before and machine.islink(path)
-
-
-def output_path(ninja: Ninja, path: str, names: Names) -> str:
-    """The path of an output of a statement: of what a link leads to, except where the build has made the link."""
-    own = names.find(ninja.folder, path, False).path
-    return own if is_made_link(own, names) else names.find(ninja.folder, path, True).path  # guard: link-that-build-makes
-
-
 def outputs_of(ninja: Ninja, names: Names) -> Set[str]:
     """Outputs of the statements with commands below a ninja's goals, of all where a goal is not known; except those that generate for the
     manifest, which ninja itself reads: it, and what it needs."""
     edges = [edge for edge in ninja.wanted() if not edge.is_phony]
     below = ninja.below_manifest() if any(edge.is_generator for edge in edges) else set()
-    return {output_path(ninja, path, names) for edge in edges if not (edge.is_generator and edge.number in below) for path in edge.makes()}  # guard: what-generates-for-others
+    outputs = (path for edge in edges if not (edge.is_generator and edge.number in below) for path in edge.makes())  # guard: what-generates-for-others
+    return {names.find(ninja.folder, path, False).path for path in outputs}  # guard: link-that-build-makes
 
 
 def made_by(ninja: Ninja, names: Names) -> Set[str]:
     """Outputs of the statements whose commands ran."""
-    return {output_path(ninja, path, names) for stage in ninja.stages for edge in stage.ran() for path in edge.makes()}
+    return {names.find(ninja.folder, path, False).path for stage in ninja.stages for edge in stage.ran() for path in edge.makes()}
 
 
-def stand_alone(warm: List[str], builds: List[Build], ninjas: List[Ninja]) -> bool:
-    """Whether all targets that were there before were up to date, and none of their recipes can ever run beside another one.
-
-    One make alone built, and each other target with a recipe needs such a target, or is needed by it.
-    """
+def stand_alone(warm: Set[str], builds: List[Build], ninjas: List[Ninja]) -> bool:
+    """Whether all targets that were there before were up to date, and none of their recipes can ever run beside another one: one make alone built, and each other
+    target with a recipe needs such a target, or is needed by it."""
     goals = [build for build in builds if isinstance(build, MakeBuild) and build.stage == "goals"]
     if ninjas or len(goals) != 1 or len({id(build.make) for build in builds}) != 1:  # guard: several-makes
         return False
-    graph, left = goals[0].graph, set(warm)
-    nodes = [node for node in graph.nodes.values() if node.path in left and node.has_recipe]
-    return left == {node.path for node in nodes} and all(is_alone(graph, node) for node in nodes)
+    graph = goals[0].graph
+    nodes = [node for node in graph.nodes.values() if node.path in warm and node.has_recipe]
+    return warm == {node.path for node in nodes} and all(is_alone(graph, node) for node in nodes)
 
 
 def is_alone(graph: Graph, node: Node) -> bool:

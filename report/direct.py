@@ -14,7 +14,7 @@ from typing import Any
 from record.folder import top_of
 from record.fixes import merged
 from record.judge import RACE_LINE, Race, Verdict, explained, unshown
-from record.pages import page
+from record.messages import page
 from report.model import Assumption, BadRecord, Build, Report
 
 ORDER = re.compile(r"^\d+ (plain|recipe|inferred) ([^ ]+)(?: :((?: [^ ]+)*))?$")

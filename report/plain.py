@@ -5,8 +5,8 @@ from __future__ import annotations
 from collections.abc import Iterator
 from textwrap import wrap
 
+from record.messages import after_no_verdict
 from record.missing.report import missing_text
-from record.pages import after_no_verdict
 from record.report import Colours
 from report.model import Race, Report
 

@@ -8,7 +8,6 @@ from record.trace.lives import Course
 TEXTS = {
     "serial": "make decides goals in this order, without --shuffle, and recipes do the same on the same looks: they do not go by macros that another one sets ($(eval ..)) or that a target hands down (a: V = 1), the time, how long things take, the space that is free, when a file was read last, MAKEFLAGS, the order in which make prints, the number of processors, a terminal, standard input, descriptors of a job server, or files that were opened for them before make began",
     "ninja": "commands of ninja do the same on the same looks: they do not go by the time, how long things take, the space that is free, when a file was read last, the number of jobs, the number of processors, a terminal, standard input, or files that were opened for them before ninja began; and nobody looks at the order of what ninja prints",
-    "ties": "build statements with one command ran in the order that the log of ninja shows",
     "up-to-date": "builds start from this tree: targets that were up to date stay so",
     "configured": "builds start when ./configure has run: what it makes is there and up to date",
     "unasked": "builds have the same goals: recipes that nothing asked for are not judged",

@@ -4,10 +4,12 @@ What a task reads is what was read, and each name that it looked for and that an
 shows, is tried out in other orders.
 """
 
-from typing import Dict, Iterable, List, Set, Tuple
+from typing import Collection, Dict, List, Sequence, Set, Tuple
 
 from record.build.assumptions import Assumptions
-from record.build.tasks import Build, Task
+from record.build.folders import add_folders
+from record.build.locks import pass_locks
+from record.build.tasks import Build, Node, Task, befores, drop_lonely, order_tasks, renumber
 from record.build.work import Work, settle_parts
 from record.trace.events import CHANGES, LISTED, LOOKS
 from record.trace.names import Names
@@ -21,32 +23,69 @@ class Builder:
         self.holes: List[str] = []
         self.of_node: Dict[str, int] = {}
 
-    def events(self, task: Task) -> Iterable[Tuple[str, str, int]]:
-        """The kinds, paths and places of all that is judged as a task."""
-        for work in task.judged:
-            yield from ((kind, path, place) for (kind, path), place in work.events.items())
+    # ---------------------------------------------------------------- tasks and their order
+    def add(self, node: Node, kind: str, works: Sequence[Work] = ()) -> None:
+        """One more task, and where it is a recipe that is divided, those of its other parts behind it."""
+        tasks, task = self.build.tasks, Task(node.label, node, kind, works=list(works))
+        self.of_node[node.label] = len(tasks)
+        tasks.append(task)
+        for work in [work for work in works if work.parts][:1]:
+            settle_parts(work)
+            *others, task.part = work.parts
+            task.parts = [len(tasks) + number for number in range(len(others))]
+            tasks += [Task("%s&%d" % (task.label, number), node, "part", part=part) for number, part in enumerate(others, 1)]
 
-    def add_parts(self, at: int) -> List[Task]:
-        """The tasks of the parts of a recipe that is divided, behind the last task that there is."""
-        task, begin = self.build.tasks[at], len(self.build.tasks)
-        work = next((work for work in task.works if work.parts), Work())
-        settle_parts(work)
-        if work.parts:
-            task.part = work.parts[-1]
-            task.parts = [begin + number for number in range(len(work.parts) - 1)]
-        return [Task("%s&%d" % (task.label, number), task.node, "part", part=part) for number, part in enumerate(work.parts[:-1], 1)]
+    def put_in_order(self, after: List[Set[int]], keys: List[Tuple[int, int]]) -> int:
+        """Orders the tasks, each part of a recipe behind all that the recipe waits for; the number of edges that closed a cycle. `after`, `keys`: by the
+        number of a task."""
+        tasks = self.build.tasks
+        for at, task in enumerate(tasks):
+            row, earlier = [*task.parts, at], after[at]
+            for one in row if task.parts else ():
+                part = tasks[one].part
+                after[one] = earlier | {row[number] for number in (part.after if part is not None else ())}
+        order, dropped = order_tasks(tasks, after, keys)
+        self.arrange(order, after)
+        return dropped
 
-    def order_parts(self, at: int, after: List[Set[int]]) -> None:
-        """Which parts of a recipe come after which, and after which tasks: all that the recipe waits for. `after`: of each task."""
-        row = [*self.build.tasks[at].parts, at]
-        for one in row[:-1]:
-            after[one] = after[at] | self.behind(one, row)
-        after[at] |= self.behind(at, row)
+    def arrange(self, order: List[int], after: List[Set[int]]) -> None:
+        """Puts the tasks in an order, each with those that it waits for. `after`: by the old number, the old numbers of these."""
+        build = self.build
+        build.tasks, number = renumber(build.tasks, order, after)
+        build.bits = befores(build.tasks)
+        build.writers = {path: {number[at] for at in found} for path, found in build.writers.items()}
+        self.of_node = {label: number[at] for label, at in self.of_node.items()}
 
-    def behind(self, at: int, row: List[int]) -> Set[int]:
-        """The tasks of a recipe, in the order of its parts, after which one of them comes."""
-        part = self.build.tasks[at].part
-        return {row[number] for number in part.after} if part is not None else set()
+    # ---------------------------------------------------------------- footprints
+    def fill(self, kept: Collection[str] = ()) -> None:
+        """What each task reads and writes. `kept`: paths that count though one task alone touches them."""
+        for task in self.build.tasks:
+            self.add_events(task)
+        self.add_asked()
+        add_folders(self.build, self.names, self.before)
+        pass_locks(self.build)
+        drop_lonely(self.build.tasks, kept)
+        self.note_late()
+
+    def note_writers(self) -> None:
+        """Which task writes, creates or removes which name."""
+        for at, task in enumerate(self.build.tasks):
+            for kind, path, _ in task.events():
+                if kind in CHANGES and not path.endswith("/"):
+                    self.build.writers.setdefault(path, set()).add(at)
+
+    def add_events(self, task: Task) -> None:
+        """What a task reads and writes, and which folders it lists, by its events."""
+        for kind, path, _ in task.events():
+            if kind in CHANGES and not path.endswith("/"):
+                task.writes.add(path)
+            elif kind in LOOKS and path in self.build.writers:  # guard: failed-looks-are-reads
+                task.reads.add(path)
+            elif kind == LISTED:
+                task.lists.add(path)  # guard: listings-count
+
+    def add_asked(self) -> None:
+        """What make itself asks for."""
 
     def note_late(self) -> None:
         """Files on which recipes meet that wait for a process by luck alone: it may still run beside what comes later."""
@@ -56,20 +95,3 @@ class Builder:
             for (kind, path), (words, waits) in (found for work in task.works for found in work.late.items()):
                 if kind in CHANGES and path in writes or path in reads and any(self.build.is_before(at, other) for other in self.build.writers.get(path, ())):
                     self.assumed.add_luck("%s by %s in %s" % (path, words, task.label), waits)
-
-    def note_writers(self) -> None:
-        """Which task writes, creates or removes which name."""
-        for at, task in enumerate(self.build.tasks):
-            for kind, path, _ in self.events(task):
-                if kind in CHANGES and not path.endswith("/"):
-                    self.build.writers.setdefault(path, set()).add(at)
-
-    def add_events(self, task: Task) -> None:
-        """What a task reads and writes, and which folders it lists, by its events."""
-        for kind, path, _ in self.events(task):
-            if kind in CHANGES and not path.endswith("/"):
-                task.writes.add(path)
-            elif kind in LOOKS and path in self.build.writers:  # guard: failed-looks-are-reads
-                task.reads.add(path)
-            elif kind == LISTED:
-                task.lists.add(path)  # guard: listings-count

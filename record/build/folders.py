@@ -7,34 +7,34 @@ the folder before: it may make that itself. What comes of all this is tried out 
 import os
 from typing import Dict, List, Set, Tuple
 
-from record.build.builder import Builder
-from record.build.tasks import Task
+from record.build.tasks import Build, Task
 from record.trace.events import ABSENT, CREATED, ENTERED, FOLDER_REMOVED, LISTED, MADE_BEFORE, MAKES, SEEN
+from record.trace.names import Names
 
 
-def add_folders(builder: Builder) -> None:
+def add_folders(build: Build, names: Names, before: Dict[str, str]) -> None:
     """A name for each two that meet on a folder; and for each task which folders that stay it makes, and which it found there when it tried."""
     makers: Dict[str, Set[int]] = {}
     gone: Set[str] = set()
-    for at, task in enumerate(builder.build.tasks):
-        for kind, path, _ in builder.events(task):
-            if kind in MAKES and is_new(builder, path):  # guard: there-before-build
+    for at, task in enumerate(build.tasks):
+        for kind, path, _ in task.events():
+            if kind in MAKES and before.get(path) != "d" and path not in names.above:  # guard: there-before-build
                 makers.setdefault(path, set()).add(at)
                 task.folders.setdefault("found" if kind == MADE_BEFORE else "made", set()).add(path)
             elif kind == FOLDER_REMOVED:
                 gone.add(path)
-    for at, task in enumerate(builder.build.tasks) if makers else ():
+    for at, task in enumerate(build.tasks) if makers else ():
         task.folders = {how: paths - gone for how, paths in task.folders.items() if paths - gone}  # guard: folders-that-are-removed-again
-        for path in used(builder, task, makers):
-            if at not in makers[path] and not any(builder.build.is_before(maker, at) for maker in makers[path]):  # guard: user-needs-maker
-                apart(builder, path + "/~seen", "that the folder %s is there" % path, at, makers[path])
+        for path in used(task, makers):
+            if at not in makers[path] and not any(build.is_before(maker, at) for maker in makers[path]):  # guard: user-needs-maker
+                apart(build, path + "/~seen", "that the folder %s is there" % path, at, makers[path])
 
 
-def used(builder: Builder, task: Task, makers: Dict[str, Set[int]]) -> List[str]:
+def used(task: Task, makers: Dict[str, Set[int]]) -> List[str]:
     """The folders that a task uses before it looks for them."""
     looks: Dict[str, int] = {}
     uses: List[Tuple[str, int]] = []
-    for kind, path, place in builder.events(task):
+    for kind, path, place in task.events():
         if kind in SEEN and path in makers:
             looks[path] = min(place, looks.get(path, place))
         elif kind in CREATED + ENTERED + LISTED + ABSENT:
@@ -42,16 +42,11 @@ def used(builder: Builder, task: Task, makers: Dict[str, Set[int]]) -> List[str]
     return sorted({path for path, place in uses if path in makers and not looks.get(path, place) < place})  # guard: who-looks-for-the-folder
 
 
-def is_new(builder: Builder, path: str) -> bool:
-    """Whether a folder was not there before the build: the one that the build works in, and so those above it, are not made by it."""
-    return builder.before.get(path) != "d" and path not in builder.names.above
-
-
-def apart(builder: Builder, name: str, meaning: str, at: int, others: Set[int]) -> None:
+def apart(build: Build, name: str, meaning: str, at: int, others: Set[int]) -> None:
     """A name for a task and each other that nothing orders: one sees what the other changes."""
     for other in sorted(others):
-        if builder.build.unordered(at, other):
+        if build.unordered(at, other):
             own = "%s/%d/%d" % (name, at, other)
-            builder.build.tasks[at].reads.add(own)
-            builder.build.tasks[other].writes.add(own)
-            builder.build.meanings[own] = meaning
+            build.tasks[at].reads.add(own)
+            build.tasks[other].writes.add(own)
+            build.meanings[own] = meaning

@@ -4,42 +4,29 @@ Where nobody in a build changes such a file, it is there behind each recipe that
 make it makes no difference, except to those who look whether it is there. What the commands under the lock do counts as ever.
 """
 
-from dataclasses import dataclass, field
-from typing import Dict, Set
+from typing import Dict, Set, Tuple
 
-from record.build.builder import Builder
-from record.trace.events import CHANGES, CREATED, LISTED, LOCKED
-
-
-@dataclass
-class Lock:
-    """What tasks did to the file of a lock."""
-
-    makers: Set[int] = field(default_factory=set)
-    askers: Set[int] = field(default_factory=set)
-    is_changed: bool = False  # by more than a lock
+from record.build.tasks import Build
+from record.trace.events import CREATED, LISTED, LOCKED, REMOVED, WRITTEN
 
 
-def pass_locks(builder: Builder) -> None:
+def pass_locks(build: Build) -> None:
     """Tasks that only lock a file do not write it, where each task that asks for it comes behind one of them."""
-    tasks, build = builder.build.tasks, builder.build
-    for path, lock in gather(builder).items():
-        writers = {at for at, task in enumerate(tasks) if path in task.writes}
-        is_seen = any(not any(build.is_before(maker, at) for maker in lock.makers - {at}) for at in lock.askers)  # guard: who-looks-at-one-behind-its-maker
-        if not (lock.is_changed or is_seen or writers - lock.makers):  # guard: who-changes
-            for at in lock.makers:
-                tasks[at].writes.discard(path)  # guard: who-makes-one-first
+    for path, done in gather(build).items():
+        makers, askers = {at for at, kind in done if kind == LOCKED}, {at for at, kind in done if kind != LOCKED}
+        others = {at for at, task in enumerate(build.tasks) if path in task.writes} - makers
+        is_changed = any(kind in WRITTEN + REMOVED for _, kind in done)
+        is_seen = any(not any(build.is_before(maker, at) for maker in makers - {at}) for at in askers)  # guard: who-looks-at-one-behind-its-maker
+        if not (is_changed or is_seen or others):  # guard: who-changes
+            for at in makers:
+                build.tasks[at].writes.discard(path)  # guard: who-makes-one-first
 
 
-def gather(builder: Builder) -> Dict[str, Lock]:
-    """All files that recipes lock so."""
-    events = [(at, kind, path) for at, task in enumerate(builder.build.tasks) for kind, path, _ in builder.events(task)]
-    table = {path: Lock() for _, kind, path in events if kind == LOCKED}
-    for at, kind, path in events if table else ():
-        lock = table.get(path)
-        if lock is not None and kind == LOCKED:
-            lock.makers.add(at)
-        elif lock is not None and kind not in CREATED + LISTED:  # guard: what-is-under-the-lock
-            lock.askers.add(at)
-            lock.is_changed = lock.is_changed or kind in CHANGES
-    return table
+def gather(build: Build) -> Dict[str, Set[Tuple[int, str]]]:
+    """All files that recipes lock so: which task did what to each."""
+    found: Dict[str, Set[Tuple[int, str]]] = {path: set() for task in build.tasks for kind, path, _ in task.events() if kind == LOCKED}
+    for at, task in enumerate(build.tasks) if found else ():
+        for kind, path, _ in task.events():
+            if path in found and kind not in CREATED + LISTED:  # guard: what-is-under-the-lock
+                found[path].add((at, kind))
+    return found

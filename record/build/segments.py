@@ -84,7 +84,7 @@ def conflicts_in(lives: List[Life]) -> List[Conflict]:
     if len(courses) < 2 or not any(course.marks for course in courses):
         return []
     changed = {path.rstrip("/") for life in lives for kind, path in life.events if KINDS.get(kind, SEEN) in GIVES}
-    return Frontier(courses, changed).conflicts() if changed else []
+    return [*Frontier(courses, changed).found.values()] if changed else []
 
 
 class Frontier:
@@ -100,13 +100,9 @@ class Frontier:
         self.table: Dict[str, Dict[Tuple[int, int, str], Did]] = {}
         self.asked: Set[Tuple[int, str]] = set()  # who has looked for which folder, or tried to make it
         self.found: Dict[Tuple[str, int, int, int, int], Conflict] = {}
-
-    def conflicts(self) -> List[Conflict]:
-        """All of them."""
         for row in self.rows:
             if row.kind not in HELD + LOCKED:
                 self.take(row)
-        return list(self.found.values())
 
     def take(self, row: Did) -> None:
         """One thing that was done, to its path and to the folders that the path is in."""

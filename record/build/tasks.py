@@ -2,9 +2,23 @@
 
 import heapq
 from dataclasses import dataclass, field
-from typing import Any, Dict, List, Optional, Set, Tuple
+from typing import Any, Callable, Collection, Dict, Iterable, Iterator, List, Optional, Set, Tuple, TypeVar
 
 from record.build.work import Part, Tool, Work
+
+One = TypeVar("One")
+
+
+def reached(starts: Iterable[One], then: Callable[[One], Iterable[One]]) -> Set[One]:
+    """Some things, and all to which they lead, by way of others too."""
+    found: Set[One] = set()
+    todo = list(starts)
+    while todo:
+        one = todo.pop()
+        if one not in found:
+            found.add(one)
+            todo.extend(then(one))
+    return found
 
 
 @dataclass
@@ -21,7 +35,7 @@ class Node:
 
     name: str
     label: str
-    first: int
+    first: int  # when make looked at it first, and when it had looked at its prerequisites; of ninja the number of its statement
     done: int
     prerequisites: Dict[str, None] = field(default_factory=dict)  # labels of other nodes
     jobs: List[Job] = field(default_factory=list)
@@ -50,10 +64,10 @@ class Task:
     part: Optional[Part] = None  # of a recipe, that is judged as this task: of one that is divided the one with which it ends
     parts: List[int] = field(default_factory=list)  # of a recipe that is divided: the tasks of its other parts, in order
 
-    @property
-    def judged(self) -> List[Work]:
-        """What is judged as this task."""
-        return [self.part.work] if self.part is not None else self.works
+    def events(self) -> Iterator[Tuple[str, str, int]]:
+        """The kinds, paths and places of all that is judged as this task."""
+        for work in [self.part.work] if self.part is not None else self.works:
+            yield from ((kind, path, place) for (kind, path), place in work.events.items())
 
 
 @dataclass
@@ -91,29 +105,25 @@ class Build:
 def order_tasks(tasks: List[Task], after: List[Set[int]], keys: List[Tuple[int, int]]) -> Tuple[List[int], int]:
     """A serial order of tasks; edges that close a cycle are dropped and counted."""
     users: List[List[int]] = [[] for _ in tasks]
-    left = [len(a) for a in after]
     for at, earlier in enumerate(after):
         for one in earlier:
             users[one].append(at)
-    heap = [(keys[at], at) for at in range(len(tasks)) if not left[at]]
+    left = {at: len(earlier) for at, earlier in enumerate(after)}  # of those that are not in order yet: for so many each waits
+    heap = [(keys[at], at) for at, count in left.items() if not count]
     heapq.heapify(heap)
     order: List[int] = []
-    done = [False] * len(tasks)
     dropped = 0
-    while len(order) < len(tasks):
+    while left:
         if not heap:
-            at = min((a for a in range(len(tasks)) if not done[a]), key=lambda a: (left[a], keys[a]))
+            at = min(left, key=lambda one: (left[one], keys[one]))
             dropped += left[at]
-            after[at] = {p for p in after[at] if done[p]}
-            left[at] = 0
-            heapq.heappush(heap, (keys[at], at))
+            after[at].difference_update(left)
+            heap.append((keys[at], at))
         _, at = heapq.heappop(heap)
-        if done[at]:
-            continue
-        done[at] = True
         order.append(at)
+        del left[at]
         for user in users[at]:
-            if not done[user] and at in after[user]:
+            if user in left and at in after[user]:
                 left[user] -= 1
                 if left[user] == 0:
                     heapq.heappush(heap, (keys[user], user))
@@ -139,7 +149,7 @@ def befores(tasks: List[Task]) -> List[int]:
     return bits
 
 
-def drop_lonely(tasks: List[Task], kept: Set[str]) -> None:
+def drop_lonely(tasks: List[Task], kept: Collection[str]) -> None:
     """Paths that one task alone touches say nothing, except those to keep; nor do reads of what nobody writes."""
     count: Dict[str, int] = {}
     written: Set[str] = set()

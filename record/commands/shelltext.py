@@ -1,4 +1,4 @@
-"""What the words of a process say: texts of shells, removals, programs that are well known."""
+"""What the words of a process say: removals, interpreters of scripts, programs that are well known."""
 
 import os
 import re
@@ -12,10 +12,8 @@ NINJA = re.compile(r"(?:ninja|ninja-build|samu|samurai)(?:[-.\d]*)$")  # `ninja-
 PROGRESS = ("cmake_progress_start", "cmake_progress_report", "cmake_echo_color")  # what `cmake -E` does to count what is built
 
 # Words of programs.
-NAMES_NEXT = re.compile(r"[-+]\w*[oO]\w*|--rcfile|--init-file")  # options of a shell whose value is the next word: `-euo pipefail`
 FORCES, SAYS = re.compile(r"-[a-zA-Z]*f[a-zA-Z]*|--force"), re.compile(r"-[a-zA-Z]*[viI][a-zA-Z]*|--(?:verbose|interactive.*)")  # of rm: `-rf`, `-v`
 SHOWS = re.compile(r"-(?:print|ls|fprint|fls|exec|ok)")  # what find does beside `-delete`
-REMOVES = re.compile(r"\s*rm\s[^;&|<>`$()\n]*$")  # a text of a shell that runs `rm` and nothing else
 
 
 def base_name(argv: List[str]) -> str:
@@ -28,23 +26,8 @@ def is_removal(argv: List[str]) -> bool:
     name = base_name(argv)
     if name == "find":
         return "-delete" in argv and not any(SHOWS.match(word) for word in argv)  # guard: what-find-does-beside
-    words = argv if name == "rm" else shell_text(argv).split() if REMOVES.match(shell_text(argv)) else []  # guard: what-is-removed
-    options = [word for word in words[1:] if word.startswith("-")]
-    return any(FORCES.fullmatch(word) for word in options) and not any(SAYS.fullmatch(word) for word in options)  # guard: status
-
-
-def shell_text(argv: List[str]) -> str:
-    """The text of `sh -c TEXT`, else nothing: the first word that is no option of the shell."""
-    if base_name(argv) not in SHELLS:
-        return ""
-    options, at = "", 1
-    while at < len(argv) and argv[at][:1] in ("-", "+"):
-        word, at = argv[at], at + 1
-        if word in ("-", "--"):
-            break
-        options += word if re.match(r"-\w", word) else ""  # of one letter each, as `-ec`
-        at += bool(NAMES_NEXT.fullmatch(word))
-    return argv[at] if "c" in options and at < len(argv) else ""
+    options = [word for word in argv[1:] if word.startswith("-")]
+    return name == "rm" and any(FORCES.fullmatch(word) for word in options) and not any(SAYS.fullmatch(word) for word in options)  # guard: status
 
 
 @machine.asked

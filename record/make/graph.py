@@ -1,8 +1,9 @@
 """The order of one round: what make considered, as tasks and what each of them waits for."""
 
+from dataclasses import replace
 from typing import Any, Dict, List, Optional, Set
 
-from record.build.tasks import Build, Job, Node
+from record.build.tasks import Build, Job, Node, reached
 from record.make.database import Base
 from record.make.owners import Make
 from record.make.words import Round
@@ -14,20 +15,16 @@ class Graph:
     def __init__(self, make: Make, number: int) -> None:
         self.round: Round = make.words.rounds[number]
         self.base: Base = self.round.base or Base()
-        self.nodes: Dict[str, Node] = {}
+        self.nodes = {name: replace(seen, done=max(seen.first, seen.done), prerequisites={**seen.prerequisites}, jobs=[]) for name, seen in self.round.nodes.items()}
         self.read_nodes()
         self.split_double_colons()
         self.join_grouped()
         self.wait_for_all_rules()  # guard: who-alone-needs-it-waits-for-all-rules
-        self.goals = [n for n in self.round.goals if n in self.nodes]
 
     # ---------------------------------------------------------------- nodes
     def read_nodes(self) -> None:
-        """The targets that make considered or made, with what the data base says of them."""
+        """What ran for the targets that make considered, or made without that, and what the data base says of them."""
         base = self.base
-        for name, seen in self.round.nodes.items():
-            node = Node(name, name, seen.index, max(seen.index, seen.done), dict.fromkeys(seen.prerequisites))
-            self.nodes[name] = node
         for job in self.round.jobs:
             if job.target not in self.nodes:
                 self.nodes[job.target] = Node(job.target, job.target, 0, 0)
@@ -49,8 +46,10 @@ class Graph:
             jobs, node.jobs = node.jobs, []
             parts = [node]
             for at in range(1, len(rules)):
-                label = self.free("%s@rule%d" % (name, at + 1))
-                part = Node(name, label, node.first, node.done, {}, [], node.must, node.has_recipe, node.phony, "", at)
+                label = "%s@rule%d" % (name, at + 1)
+                while label in self.nodes:
+                    label += "+"
+                part = replace(node, label=label, prerequisites={}, jobs=[], rule=at)
                 self.nodes[label] = part
                 parts.append(part)
             for at, (part, rule) in enumerate(zip(parts, rules)):
@@ -98,35 +97,16 @@ class Graph:
     def hold_back(self, parts: List[Node]) -> None:
         """What a later rule alone needs is looked at when the rule before it has ended."""
         for before, part in zip(parts, parts[1:]):
-            without = self.reached(part)
+            without = self.reached_from([*self.round.goals, *(node.label for node in self.nodes.values() if node.rule and node is not part)], part)
             for label in list(part.prerequisites):
                 if label not in without and label != before.label and label in self.nodes:
                     for one in self.reached_from([label]) - without:
                         if one not in (before.label, part.label):
                             self.nodes[one].prerequisites.setdefault(before.label)
 
-    def reached(self, but: Node) -> Set[str]:
-        """What is reached where one node needs nothing."""
-        return self.reached_from(list(self.round.goals) + [n.label for n in self.nodes.values() if n.rule and n is not but], but)
-
     def reached_from(self, starts: List[str], but: Optional[Node] = None) -> Set[str]:
         """All that some targets need, by way of others too; what `but` needs does not count."""
-        seen: Set[str] = set()
-        todo = [s for s in starts if s in self.nodes]
-        while todo:
-            label = todo.pop()
-            if label not in seen:
-                seen.add(label)
-                node = self.nodes[label]
-                if node is not but:
-                    todo.extend(p for p in node.prerequisites if p in self.nodes)
-        return seen
-
-    def free(self, label: str) -> str:
-        """A label that no node has."""
-        while label in self.nodes:
-            label += "+"
-        return label
+        return reached(starts, lambda label: self.nodes[label].prerequisites if self.nodes.get(label, but) is not but else ()) & self.nodes.keys()
 
     def join_grouped(self) -> None:
         """Targets of one recipe: the one that make names has it, the others wait for it; not those that may be a part of a name with a blank."""

@@ -3,19 +3,21 @@ tried out in other orders."""
 
 import errno
 import os
+import re
 from dataclasses import dataclass, field
-from typing import Container, Dict, Iterable, Iterator, List, Optional
+from functools import cached_property
+from typing import Dict, Iterable, Iterator, List, Optional, Set
 
 from record import machine
 from record.build.parts import divide
 from record.build.tasks import Job
 from record.build.work import Part, Tool, Work, written_by
-from record.commands.system import OF_SYSTEM
-from record.make.asked import asked_in
 from record.make.words import Words, makefiles
 from record.trace.events import ENTERED, INSIDE, READ
 from record.trace.lives import Life
 
+MAGIC = re.compile(r"[*?\[]")
+LOOSE = re.compile(r"\\.|\[[!^]?\]?[^\]/]*\]|\[")  # what stands for one sign in a pattern of `glob`: more names fit `?`
 OF_PROCESS = ("/dev/fd/", "/dev/std", "/proc/")  # how names begin that lead each process elsewhere
 
 
@@ -35,7 +37,6 @@ class Make(Tool):
     life: Life
     folder: str
     work: Dict[int, Work] = field(default_factory=dict)  # by id of the job
-    by_links: bool = False  # it went by links: folders have other paths than its makefiles say
     left: List[Part] = field(default_factory=list)  # processes that its own calls leave running, as `$(shell a &)`
 
     def known_text(self, name: str) -> Optional[str]:
@@ -45,9 +46,11 @@ class Make(Tool):
         except OSError:
             return None
 
-    def patterns_in(self, folder: str) -> List[str]:
-        """The patterns of names for which it looked in a folder; any name where nobody has heard them."""
-        return ["*"] if self.words.is_deaf else [*asked_in(self.words.patterns, self.folder, folder, self.by_links)]  # guard: makes-with-glob-of-their-own
+    @cached_property
+    def patterns(self) -> Set[str]:
+        """The patterns of the names for which it looked, in whatever folder; any name where nobody has heard them."""
+        parts = {part for word in self.words.patterns for part in LOOSE.sub("?", word).split("/") if MAGIC.search(part)}
+        return {"*"} if self.words.is_deaf else parts  # guard: makes-with-glob-of-their-own
 
     def has_one_slot(self) -> bool:
         """Whether it runs one job at a time whatever the user says: a ninja runs it, which hands no jobs on, no make is above, and it asks for none itself."""
@@ -67,26 +70,11 @@ def makes_of(work: Work) -> List[Make]:
     return [one for one in work.makes if isinstance(one, Make)]
 
 
-def only_places(wanted: List[int], there: List[int]) -> Optional[List[int]]:
-    """The places at which numbers stand in a row in their order; nothing where they do not, or in more than one way."""
-    first, last = places_of(wanted, there), places_of(wanted[::-1], there[::-1])
-    return first if len(first) == len(wanted) and first == [len(there) - 1 - place for place in last[::-1]] else None  # guard: that-come-again
-
-
-def places_of(wanted: List[int], there: List[int]) -> List[int]:
-    """The first places at which they stand so; of some of them, if not all do."""
-    found: List[int] = []
-    for place, number in enumerate(there):
-        if len(found) < len(wanted) and number == wanted[len(found)]:
-            found.append(place)
-    return found
-
-
 class Owners:
     """Brings the words of makes and the lives of processes together."""
 
-    def __init__(self, lives: List[Life], words: List[Words], links: Container[str] = ()) -> None:
-        self.lives, self.links = lives, links  # `links`: all names that were links at some time
+    def __init__(self, lives: List[Life], words: List[Words]) -> None:
+        self.lives = lives
         self.holes: List[str] = []
         self.makes: List[Make] = []
         self.of_life: Dict[int, Make] = {}
@@ -116,7 +104,6 @@ class Owners:
     def add_make(self, life: Life, words: Words) -> None:
         """One more make, with what it said; that it did not end, or failed, is a hole."""
         make = Make(words, life, self.folder_of(life, words))
-        make.by_links = any(act.kind == READ and act.path in self.links and not OF_SYSTEM.match(act.path) for act in life.acts)
         self.makes.append(make)
         self.of_life[id(life)] = make
         self.holes += ["a make did not end: make " + words.args] if words.status is None else []  # guard: make-that-did-not-end
@@ -132,18 +119,16 @@ class Owners:
         return folder
 
     def match_jobs(self, make: Make) -> None:
-        """Make names the processes of its jobs in the order in which it starts them. Others that it starts may have had their numbers: in a
-        long build numbers come again."""
+        """Make names the processes of its jobs in the order in which it starts them. In a long build another that it starts may have had the number of one."""
         numbers = [pid for pid, _ in make.words.processes]
         kids = sorted((life for life in make.life.children if life.pid in numbers), key=lambda life: life.born)
         lost = set(numbers) - {life.pid for life in kids}
-        places = only_places(numbers, [life.pid for life in kids])
         if lost:
             self.holes.append("a recipe that ran has no process: " + next(job.target for pid, job in make.words.processes if pid in lost))
-        elif places is None:  # guard: jobs-that-do-not-fit
+        elif numbers != [life.pid for life in kids]:  # guard: jobs-that-do-not-fit
             self.holes.append("a process number came again, or the jobs of make are not in the order of the trace: make " + make.words.args)
-        for place, (_, job) in zip(places or (), make.words.processes):
-            self.jobs[id(kids[place])] = job
+        else:
+            self.jobs.update((id(life), job) for life, (_, job) in zip(kids, make.words.processes))
 
     def run_at_once(self, make: Make) -> bool:
         """Whether a make ran several recipes at once."""
@@ -176,8 +161,6 @@ class Owners:
             job = self.jobs.get(id(life))
             if job is not None:
                 self.take(make.work.setdefault(id(job), Work()), life)
-        if make.words.log and any(path == make.words.log for work in make.work.values() for _, path in work.events):  # guard: recipes-that-look-into
-            self.holes.append("a recipe looks into the file that keeps what its make prints: " + make.words.log)
 
     def divide(self, work: Work) -> List[Part]:
         """The parts of a recipe."""

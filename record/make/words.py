@@ -5,11 +5,11 @@ from collections import Counter
 from dataclasses import dataclass, field
 from functools import lru_cache
 from pathlib import Path
-from typing import Container, Dict, Iterable, Iterator, List, Optional, Set, Tuple
+from typing import Dict, Iterable, Iterator, List, Optional, Set, Tuple
 
-from record.build.tasks import Job
+from record.build.tasks import Job, Node, reached
 from record.make.database import Base, read_base
-from record.watch.files import OWN_WORDS, Output, Start, files_in, open_file, own_outputs, read_start
+from record.watch.files import OWN_WORDS, Start, files_in, open_file, read_start
 
 KEPT = 1 << 14  # how many lines are remembered: most come again for each target that needs the same
 CHILD = re.compile(r"(Putting child|Live child|Reaping (?:winning|losing) child|Removing child) (0x[0-9a-f]+) (?:\((.*)\) )?PID (\d+)")
@@ -29,38 +29,22 @@ READING = re.compile(r"^Reading makefile '(.*)'((?: \([^)]*\))*)\.\.\.$")
 
 
 @dataclass
-class Considered:
-    """A target that make looked at: when first, when it had looked at its prerequisites, and which these are."""
-
-    name: str
-    index: int
-    done: int
-    prerequisites: Dict[str, None] = field(default_factory=dict)  # in order
-
-
-@dataclass
 class Round:
     """`makefiles` or `goals` of one start of make."""
 
     stage: str
     start: int
-    nodes: Dict[str, Considered] = field(default_factory=dict)
+    nodes: Dict[str, Node] = field(default_factory=dict)
     goals: List[str] = field(default_factory=list)
     jobs: List[Job] = field(default_factory=list)
-    must: Dict[str, int] = field(default_factory=dict)  # target: jobs before its line
+    must: Set[str] = field(default_factory=set)  # targets that have to be made
     failed: List[str] = field(default_factory=list)
     vpath: Dict[str, str] = field(default_factory=dict)
     base: Optional[Base] = None
 
     def below(self, name: str) -> Set[str]:
         """A target, and all that it needs, by way of others too."""
-        found, todo = {name}, [name]
-        while todo:
-            node = self.nodes.get(todo.pop())
-            fresh = set(node.prerequisites) - found if node is not None else set()
-            found |= fresh
-            todo.extend(fresh)
-        return found
+        return reached([name], lambda one: self.nodes[one].prerequisites if one in self.nodes else ())
 
 
 @dataclass
@@ -70,8 +54,6 @@ class Words:
     pid: int
     life: int
     args: str = ""
-    flags: str = ""
-    log: str = ""  # the file to which its output goes, where that of the build does not go there
     version: str = ""
     status: Optional[int] = None
     rounds: List[Round] = field(default_factory=list)
@@ -149,7 +131,7 @@ class _Reader:
             self.stack.pop()
         nodes = self.round.nodes
         if name not in nodes:
-            nodes[name] = Considered(name, self.clock, -1)
+            nodes[name] = Node(name, name, self.clock, -1)
         if self.stack:
             parent = self.stack[-1][1]
             if name != parent:
@@ -159,7 +141,7 @@ class _Reader:
         self.stack.append((depth, name))
 
     def line(self, text: str) -> None:
-        """One line of make's words, or of the wrapper's."""
+        """One line of make's words, or of the library's."""
         words = self.words
         considered = considered_in(text) if self.round is not None else None
         child = CHILD.match(text) if considered is None else None
@@ -184,13 +166,10 @@ class _Reader:
         elif READING.match(text) and words.read:
             self.name = READING.match(text).group(1)  # type: ignore[union-attr]
             words.times[self.name] += 1
-            (words.included if self.is_making() else words.read[-1]).append(self.name)
+            is_making = self.round is not None and self.round.start == len(words.read) - 1
+            (words.included if is_making else words.read[-1]).append(self.name)
         elif self.round is not None:
             self.target(text)
-
-    def is_making(self) -> bool:
-        """Whether make has read its makefiles, since it was started anew."""
-        return self.round is not None and self.round.start == len(self.words.read) - 1
 
     def is_of_library(self, text: str) -> bool:
         """Whether a line is one that the library adds to make's own (watch.c); what it says is kept."""
@@ -225,7 +204,7 @@ class _Reader:
             self.round.vpath[name] = path
             self.found.update({path: name} if path not in self.round.nodes else {})
         elif must:
-            self.round.must.setdefault(must.group(1), len(self.round.jobs))
+            self.round.must.add(must.group(1))
         elif FAILED.match(text):
             self.round.failed.append(FAILED.match(text).group(1))  # type: ignore[union-attr]
 
@@ -270,18 +249,10 @@ def failures(words: Words) -> Iterator[str]:
                 yield "a recipe failed for a makefile that need not be there, and what stands behind it did not run: %s" % name
 
 
-def begun(words: Words, start: Start, own: Container[Tuple[int, int]]) -> Words:
-    """The words of a make as it was called. `own`: the files to which the output of the recorder itself goes."""
-    first = start.outputs.get(1, Output())
-    words.start, words.version, words.args = start, start.version, " ".join(start.args).replace("\n", " ")
-    words.flags = start.environment.get("MAKEFLAGS", "")
-    words.log = first.path if first.kind == "f" and (first.device, first.number) not in own else ""
-    return words
-
-
-def read_words(pid: int, life: int, lines: Iterable[str], place: str = "", start: Optional[Start] = None, own: Container[Tuple[int, int]] = ()) -> Words:
+def read_words(pid: int, life: int, lines: Iterable[str], place: str = "", start: Optional[Start] = None) -> Words:
     """What a make process said, of the lines that the library kept: each of its starts ends in a data base."""
-    words = begun(Words(pid, life, place=place), start or Start(), own)
+    start = start or Start()
+    words = Words(pid, life, " ".join(start.args).replace("\n", " "), start.version, place=place, start=start)
     reader = _Reader(words)
     bases = 0  # how many data bases it printed
     base: List[str] = []  # the lines of the one that has not ended
@@ -310,13 +281,13 @@ def read_words(pid: int, life: int, lines: Iterable[str], place: str = "", start
 
 def read_logs(said: Path, place: str) -> List[Words]:
     """The words of all makes of a recorded build, without those that only answer. `place` is where their folder was then."""
-    logs, own = [], own_outputs(said)
+    logs = []
     for pid, life, path in files_in(said):
         with open_file(path) as lines:
             start = read_start(lines)
         if start.says:
             with open_file(path) as lines:
-                logs.append(read_words(pid, life, lines, "%s/%s" % (place, path.name[:-len("make")]), start, own))
+                logs.append(read_words(pid, life, lines, "%s/%s" % (place, path.name[:-len("make")]), start))
     return logs
 
 

@@ -2,10 +2,11 @@
 
 import os
 import re
-from typing import Iterable, Iterator, List, Set, Tuple
+from typing import Iterable, List, Set, Tuple
 
 from record.build.tasks import Task
 from record.commands.shelltext import is_removal
+from record.commands.system import is_below
 from record.make.graph import MakeBuild
 from record.tools.python import BYTE_CODE
 from record.trace.events import ABSENT, LISTED
@@ -15,16 +16,11 @@ CHANGES = "WCD"
 FIXED = re.compile(r"/\.git/objects/|/CMakeFiles/[^/]+\.dir/cmake_clean_target\.cmake$")  # no edit changes what git names by its sum, or CMake writes
 
 
-def is_below(path: str, folder: str) -> bool:
-    """Whether a path is a folder or below it."""
-    return path == folder or path.startswith(folder.rstrip("/") + "/")
-
-
 class Footprints:
     """What each recipe of a build reads and writes in the project."""
 
-    def __init__(self, build: MakeBuild, names: Names, out: str) -> None:
-        self.build, self.names, self.out = build, names, out
+    def __init__(self, build: MakeBuild, names: Names) -> None:
+        self.build, self.names = build, names
         self.reads: List[Set[str]] = [set() for _ in build.tasks]
         self.writes: List[Set[str]] = [set() for _ in build.tasks]
         self.removes: List[Set[str]] = [set() for _ in build.tasks]
@@ -37,7 +33,7 @@ class Footprints:
         self.set_back: Set[str] = set()  # names whose time a recipe sets
         self.gone: Set[str] = set()  # files that are read, and that somebody else makes and removes
         for at, task in enumerate(build.tasks):
-            for kind, path in self.events(task) if task.kind == "recipe" else ():
+            for kind, path in self.events(task):
                 self.take(at, kind, path)
         self.written = set().union(*self.writes)
         for at, task in enumerate(build.tasks):
@@ -46,7 +42,8 @@ class Footprints:
         self.changes = [reads & writes for reads, writes in zip(self.reads, self.writes)]
         inputs = self.inputs(set().union(*self.reads, self.written))
         for at, task in enumerate(build.tasks):
-            found = self.written.intersection(self.looks_otherwise(task))  # guard: what-later-recipes-make
+            # Names for which it looks, and that it finds otherwise in a later build: there, or gone.
+            found = {path for kind, path in self.events(task) if kind in "NSl" and os.path.lexists(path) == (kind == "N")} & self.written  # guard: what-later-recipes-make
             self.reads[at] = inputs.intersection(self.reads[at] | found) - self.writes[at]
             self.looks |= self.own_looks[at] - self.reads[at] - self.written  # guard: looks-at-what-others-read
         self.looks |= {path for path in self.written if os.path.islink(path)}  # guard: links-that-are-made
@@ -54,12 +51,7 @@ class Footprints:
 
     def events(self, task: Task) -> Iterable[Tuple[str, str]]:
         """What a recipe did."""
-        for work in task.works:
-            yield from work.events
-
-    def is_inside(self, path: str) -> bool:
-        """Whether a name is in the project, and not in the record."""
-        return self.names.is_inside(path) and not is_below(path, self.out)
+        return (event for work in task.works for event in work.events) if task.kind == "recipe" else ()
 
     def take(self, at: int, kind: str, path: str) -> None:
         """One event."""
@@ -72,7 +64,7 @@ class Footprints:
         if code and kind != "R":
             return  # Python keeps what it has compiled, and holds it against the source
         name = code.group(1) + code.group(2) + ".py" if code else name
-        if not self.is_inside(name):
+        if not self.names.is_inside(name):
             if kind == "R":
                 self.outside.add(name)
         elif kind in "MTE" or path.endswith("/"):
@@ -86,17 +78,13 @@ class Footprints:
         else:
             (self.absent if kind == "N" else self.own_looks[at]).add(name)
 
-    def looks_otherwise(self, task: Task) -> Iterator[str]:
-        """The names for which a recipe looks, and that it finds otherwise in a later build: there, or gone."""
-        for kind, path in self.events(task) if task.kind == "recipe" else ():
-            if kind in "NSl" and os.path.lexists(path) == (kind == "N"):
-                yield path
-
     def removed_later(self, at: int, task: Task) -> Set[str]:
         """What a recipe finds nothing to remove of in this build, and what another recipe makes: a later build has it when the first one runs."""
-        lives = [life for work in task.works for life in work.lives if is_removal(life.argv)]
-        plain, listed = ({path.rstrip("/") for life in lives for event, path in life.events if event == kind} for kind in (ABSENT, LISTED))
-        others = set().union(*(writes for other, writes in enumerate(self.writes) if other != at)) - self.writes[at] if lives else set()
+        lives = [life for work in task.works for life in work.lives]
+        removing = [life for life in lives if is_removal(life.argv)]
+        listing = [life for life in lives if life in removing or life.children and all(is_removal(child.argv) for child in life.children)]  # guard: what-is-removed
+        plain, listed = ({path.rstrip("/") for life in some for event, path in life.events if event == kind} for kind, some in ((ABSENT, removing), (LISTED, listing)))
+        others = set().union(*(writes for other, writes in enumerate(self.writes) if other != at)) - self.writes[at] if plain | listed else set()
         return {path for path in others if any(is_below(path, name) for name in plain) or os.path.dirname(path) in listed}  # guard: trees-that-it-removes-later
 
     def drop_temporaries(self) -> None:

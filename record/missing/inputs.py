@@ -6,7 +6,6 @@ What make knows in a later build, and what the recipes read, become the tasks of
 import json
 import os
 import re
-import subprocess
 from dataclasses import dataclass, field, replace
 from pathlib import Path
 from typing import Any, Dict, Iterator, List, Sequence, Set, Tuple
@@ -16,7 +15,7 @@ from record.build.tasks import Build
 from record.build.text import relative, shown
 from record.commands.shelltext import base_name
 from record.folder import Record
-from record.judge import ended, unshown
+from record.judge import ask, ended, unshown
 from record.make.graph import MakeBuild
 from record.make.owners import Make
 from record.make.words import makefiles
@@ -53,7 +52,7 @@ def write_missing(out: Path, record: Record, builds: List[Build], makes: List[Ma
             premises.add("unjudged", build.words)
         else:
             holes += [ANOTHER + why for why in another(build, knows, names)]
-            tree = OldTree(build, names, later, knows, premises, str(out))
+            tree = OldTree(build, names, later, knows, premises)
             holes += ["the recipe of %s does not run where all sources have a new time" % name for name in tree.silent]  # guard: recipes-that-do-not-run-again
             judged += write_old_tree(out / "builds" / number, tree)
     for path in sorted(later.unstable):
@@ -125,17 +124,6 @@ class Answer:
     refused: str = ""
 
 
-def ask(race: str, tasks: Path, listing: Path, root: str) -> "subprocess.CompletedProcess[str]":
-    """Runs `race missing` over tasks, in their folder as `record.judge` does."""
-    words = [race, "missing", "--tasks", tasks.name, "--listing", listing.name, "--root", shown(root)]
-    return subprocess.run(words, cwd=tasks.parent, capture_output=True, text=True, errors="replace", stdin=subprocess.DEVNULL, check=False)
-
-
-def knows_missing(race: str) -> bool:
-    """Whether this program answers `missing` over tasks."""
-    return ask(race, Path(os.devnull), Path(os.devnull), "/").returncode == 0
-
-
 def labels_in(tasks: Path) -> Tuple[Dict[str, str], Set[str]]:
     """The label of each name by which a report calls a task: the file that it makes, or the label itself. And the files that have no rule."""
     found: Dict[str, str] = {}
@@ -173,7 +161,7 @@ def judge_missing(race: str, folder: Path, root: str) -> Answer:
     """What `race missing` says of the old tree of one build; nothing where the build has none."""
     if not (folder / TASKS).exists():
         return Answer()
-    ran = ask(race, folder / TASKS, folder / LISTING, root)
+    ran = ask(race, "missing", folder / TASKS, root, "--listing", LISTING)
     lines = ran.stdout.split("\n")
     head = next((at for at, text in enumerate(lines) if text.startswith("waits ")), -1) + 1
     counts = {word: int(number) for word, _, number in (text.partition(" ") for text in lines[:head]) if number.isdigit()}

@@ -7,6 +7,7 @@ build left, except for what two such builds leave in two ways: so it shows what 
 import os
 import re
 import time
+from dataclasses import dataclass, field
 from pathlib import Path
 from typing import Dict, Iterable, Iterator, List, Optional, Sequence, Set, Tuple
 
@@ -16,9 +17,9 @@ from record.make.database import Base
 from record.make.graph import MakeBuild
 from record.make.owners import Make, makes_of
 from record.make.words import Words, read_logs
-from record.orders.builds import OWN, Built, CannotTry, Plan, Room, side_by_side
+from record.orders.builds import OWN, Built, Plan, Room, side_by_side
 from record.orders.exploring import new_room
-from record.orders.trees import CannotCopy, differing, held_by
+from record.orders.trees import CannotTry, differing, held_by
 from record.trace.names import Names
 
 ANOTHER = "a later build is another one, where nothing is edited: "
@@ -29,17 +30,17 @@ Call = Tuple[str, str, str]  # of a make: its folder, its words, and the flags i
 
 def call_of(words: Words) -> Call:
     """What says that the makes of two builds are the same one."""
-    return words.start.folder, words.args, " ".join(word for word in words.flags.split(" ") if not word.startswith("--jobserver"))
+    return words.start.folder, words.args, " ".join(word for word in words.start.environment.get("MAKEFLAGS", "").split(" ") if not word.startswith("--jobserver"))
 
 
+@dataclass
 class Knows:
     """What the makes of one call know and do."""
 
-    def __init__(self) -> None:
-        self.base = Base()
-        self.vpath: Dict[str, str] = {}
-        self.nodes: Set[str] = set()  # targets that they considered
-        self.ran: Set[str] = set()  # targets whose recipes ran
+    base: Base = field(default_factory=Base)
+    vpath: Dict[str, str] = field(default_factory=dict)
+    nodes: Set[str] = field(default_factory=set)  # targets that they considered
+    ran: Set[str] = field(default_factory=set)  # targets whose recipes ran
 
     def take(self, words: Words) -> None:
         """One more make."""
@@ -160,7 +161,7 @@ def look_ahead(record: Record, makes: Sequence[Make], names: Names, changed: Set
             with new_room(names.tops, (), record.words, os.path.realpath(out), rooms, lambda place, plan: 1) as room:
                 room.bound(record.seconds)
                 later.run(room)
-    except (CannotCopy, CannotTry) as fault:
+    except CannotTry as fault:
         later.holes.append(UNKNOWN + str(fault))
     return later
 
@@ -177,7 +178,7 @@ def another(build: MakeBuild, later: Knows, names: Names) -> Iterator[str]:
             yield "the recipe of %s is another one" % name
         if vpath.get(name) != later.vpath.get(name):  # guard: another-file
             yield "make finds %s for %s" % (later.vpath.get(name, name), name)
-        then, now = (needs(name, one) for one in (base, later.base))
+        then, now = ([*one.prerequisites.get(name, ()), *sorted(one.order_only.get(name, ()))] for one in (base, later.base))
         gone = [one for one in then if one not in now and base.recipes.get(one)]
         for one in gone[:1]:  # guard: what-is-needed-no-more
             yield "%s does not need %s any more" % (name, one)
@@ -185,8 +186,3 @@ def another(build: MakeBuild, later: Knows, names: Names) -> Iterator[str]:
         new = {one: names.find(build.folder, one, False).path for one in now if one not in met and later.base.recipes.get(one)}
         for one in [one for one, path in new.items() if path in names.before or not os.path.lexists(path)][:1]:  # else another make has made it  # guard: what-is-needed-too
             yield "%s needs %s too" % (name, one)
-
-
-def needs(name: str, base: Base) -> List[str]:
-    """All prerequisites, those in order alone too."""
-    return [*base.prerequisites.get(name, ()), *sorted(base.order_only.get(name, ()))]

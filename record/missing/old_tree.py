@@ -21,11 +21,11 @@ KEPT = "@kept"  # and below this one for the run of a recipe that leaves its tar
 class OldTree:
     """Makes the text; see the module."""
 
-    def __init__(self, build: MakeBuild, names: Names, later: Later, knows: Knows, premises: Assumptions, out: str) -> None:
+    def __init__(self, build: MakeBuild, names: Names, later: Later, knows: Knows, premises: Assumptions) -> None:
         self.build, self.names, self.later, self.knows, self.premises = build, names, later, knows, premises
         self.first, self.again = build.graph.base, later.busy.get(call_of(build.make.words))
         self.phony = self.first.phony | self.knows.base.phony
-        self.foot = Footprints(build, names, out)
+        self.foot = Footprints(build, names)
         self.tasks = [Task(t.label, t.node, t.kind, set(t.after), r, w) for t, r, w in zip(build.tasks, self.foot.reads, self.foot.writes)]
         self.labels = labels_of(build.tasks)
         self.writers = self.writing()  # before any name is lent
@@ -35,7 +35,8 @@ class OldTree:
         self.owners: Dict[int, str] = {}  # of a task that stands for an output: the label of the recipe
         self.kept: Set[int] = set()  # recipes that may leave their target alone where nothing has changed
         self.choose()
-        self.silent = self.find_silent()
+        touched = (self.tasks[at].node for at, needs in self.needs.items() if not later.sources.isdisjoint(needs))
+        self.silent = [node.name for node in touched if node.jobs and not self.runs(self.again, node)]  # they do not run again though a source has a new time
         self.lend_names()
         self.drop_named()
         self.sort()
@@ -77,7 +78,7 @@ class OldTree:
         node = self.tasks[at].node
         if node.name in self.phony or node.phony:
             return "always"
-        if node.name in self.first.double or node.name.endswith(")") or not self.foot.is_inside(path):
+        if node.name in self.first.double or node.name.endswith(")") or not self.names.is_inside(path):
             return "unjudged"
         if not self.is_there(node.name, path):
             return "always"
@@ -106,11 +107,6 @@ class OldTree:
         """Whether a recipe ran in a later build, as far as its make was called there."""
         return knows is None or not knows.ran.isdisjoint({node.name, *self.first.also.get(node.name, ())})
 
-    def find_silent(self) -> List[str]:
-        """Recipes that make does not run again though a source which they need has a new time."""
-        touched = [self.tasks[at].node for at, needs in self.needs.items() if not self.later.sources.isdisjoint(needs)]
-        return [node.name for node in touched if node.jobs and not self.runs(self.again, node)]
-
     def paths_needed(self, node: Node) -> Optional[List[str]]:
         """The files that make a target run, those of all targets of its recipe. None where a name is none of the data base: blanks in names cut them."""
         found: Dict[str, None] = {}
@@ -131,7 +127,7 @@ class OldTree:
         if name in self.phony or not self.is_there(name, paths[0]):  # guard: phony-prerequisites
             yield self.stand_in(NEVER, name)
         else:
-            yield from (path for path in dict.fromkeys(paths) if self.foot.is_inside(path) and self.is_behind(name, path))
+            yield from (path for path in dict.fromkeys(paths) if self.names.is_inside(path) and self.is_behind(name, path))
 
     def is_behind(self, name: str, path: str) -> bool:
         """Whether make looks at a path by this name when a recipe that writes it has ended: the name is the target of that recipe, or

@@ -2,7 +2,6 @@
 
 import hashlib
 import os
-import textwrap
 from dataclasses import dataclass
 from pathlib import Path
 from typing import Any, Dict, Iterator, List, Tuple
@@ -10,10 +9,9 @@ from typing import Any, Dict, Iterator, List, Tuple
 from record.folder import name_from
 from record.judge import explained
 from record.kinds import target
-from record.messages import plural
+from record.messages import after_no_verdict, plural
 from record.missing.inputs import Answer, Found, judge_missing
-from record.pages import after_no_verdict
-from record.report import Colours, listed, near, place, read_json, spot
+from record.report import Colours, example_text, grouped, listed, near, place, read_json, spot, wrapped
 from record.build.text import shown
 
 SHOWN_FILES, SHOWN_TARGETS = 40, 5
@@ -135,17 +133,9 @@ def add_line(judged: Judged, found: List[Found]) -> List[str]:
     return ["  add: %s: %s" % (late, early)] if adding else []
 
 
-def groups_of(judged: Judged) -> List[List[Found]]:
-    """The violations of a build by kind, path and writer."""
-    groups: Dict[Tuple[str, str, str], List[Found]] = {}
-    for one in judged.answer.found:
-        groups.setdefault((one.kind, one.path, one.writer), []).append(one)
-    return list(groups.values())
-
-
 def build_text(judged: Judged, is_alone: bool, colour: Colours) -> List[str]:
     """All that one build misses."""
-    groups = groups_of(judged)
+    groups = grouped(judged.answer.found, lambda one: (one.kind, one.path, one.writer))
     lines = [] if is_alone or not groups else ["%s  in %s" % (("make " + judged.about["words"]).strip(), judged.about["folder"])]
     for found in groups[:SHOWN_FILES]:
         lines.append("%s%s%s  %s" % (colour.bad, found[0].kind.upper(), colour.end, judged.name(found[0].path)))
@@ -160,8 +150,7 @@ def premises_text(question: Question) -> List[str]:
     racing = "when no recipes race, " if question.races() else ""
     lines = [racing + "no `make clean` is needed after an edit, if:" if question.verdict() == "nothing" else "Assumed:"]
     for one in question.record["missing"]["premises"]:
-        example = " (%d, such as %s)" % (one["count"], one["example"][:60]) if one["example"] else ""
-        lines += textwrap.wrap(one["text"] + example, 78, initial_indent="  - ", subsequent_indent="    ", break_long_words=False, break_on_hyphens=False)
+        lines += wrapped(one["text"] + example_text(one, question.record["folder"]), "  - ", "    ")
     return lines
 
 

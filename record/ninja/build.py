@@ -2,14 +2,12 @@
 
 import os
 from pathlib import Path
-from typing import Any, Dict, List, Set, Tuple
+from typing import Any, Dict, List, Set
 
 from record.build.assumptions import Assumptions
 from record.build.builder import Builder
-from record.build.tasks import Build, Node, Task, befores, drop_lonely, order_tasks, renumber
+from record.build.tasks import Build, Node, order_tasks, reached
 from record.build.work import Work
-from record.build.folders import add_folders
-from record.build.locks import pass_locks
 from record.ninja.fix import owner_of
 from record.ninja.manifest import Edge
 from record.ninja.runs import NEVER, Job, Ninja, Stage
@@ -35,14 +33,17 @@ class NinjaBuild(Build):
 
     def __init__(self, ninja: Ninja, stage: Stage, name: str) -> None:
         super().__init__(ninja, name, ninja.args, len(ninja.wanted() if name == "goals" else stage.manifest.edges))
-        self.ninja, self.from_manifest = ninja, stage
-        self.edges: List[Edge] = []  # of each task
+        self.ninja, self.manifest = ninja, stage.manifest
+
+    def edge(self, at: int) -> Edge:
+        """The statement of a task."""
+        return self.manifest.edges[self.tasks[at].node.first]
 
     def about(self, at: int) -> Dict[str, Any]:
-        edge = self.edges[at]
+        edge = self.edge(at)
         has_run = self.tasks[at].kind == "recipe"
         return {"file": edge.file, "line": edge.line, "recipe": edge.command[:TEXT_LIMIT], "rule": edge.rule, "pool": edge.value("pool"),
-                "sum": command_sum(edge.command) if has_run else "", "owner": owner_of(edge, self.from_manifest.manifest)}
+                "sum": command_sum(edge.command) if has_run else "", "owner": owner_of(edge, self.manifest)}
 
 
 class NinjaBuilder(Builder):
@@ -68,45 +69,22 @@ class NinjaBuilder(Builder):
 
     # ---------------------------------------------------------------- tasks
     def make_tasks(self) -> None:
-        """The statements that ran, and all between them, in an order in which they could run one after the other."""
-        manifest = self.stage.manifest
+        """The statements that ran, and all between them, in an order in which they could run one after the other. A node has the number of its statement."""
+        manifest, first = self.stage.manifest, self.first()  # guard: what-manifest-needs-comes-first
         jobs = {job.edge.number: job for job in self.stage.jobs if job.edge is not None}
-        kept = self.taking_part(jobs)
-        place = {edge.number: at for at, edge in enumerate(kept)}
-        after = [{place[m.number] for m in manifest.makers_of(edge) if m.number in place} for edge in kept]  # guard: header-that-log-knows-is-no-input
-        first = self.first()  # guard: what-manifest-needs-comes-first
-        for edge, before in zip(kept, after):
-            before |= {place[number] for number in first} if edge.number in jobs.keys() - first else set()
-        for edge in kept:
-            job = jobs.get(edge.number)
-            task = Task(edge.label, Node(edge.label, edge.label, 0, 0), "recipe" if job else "group")
+        place: Dict[int, int] = {}
+        for edge in self.taking_part(jobs):
+            job, place[edge.number] = jobs.get(edge.number), len(self.build.tasks)
             if job is not None:
                 self.add_own(job, edge)
-                task.works = [job.work]
-            self.of_node[edge.label] = len(self.build.tasks)
-            self.build.tasks.append(task)
-        self.put_in_order(kept, after, [(jobs[edge.number].life.died if edge.number in jobs else 0, edge.number) for edge in kept])
-
-    def put_in_order(self, edges: List[Edge], after: List[Set[int]], keys: List[Tuple[int, int]]) -> None:
-        """Orders statements, and the parts of commands that are divided before their ends. `after`, `keys`: by the place of a statement."""
-        tasks, owners = self.build.tasks, list(range(len(edges)))
-        for at in range(len(edges)):
-            parts = self.add_parts(at)
-            tasks += parts
-            owners += [at] * len(parts)
-            after += [set() for _ in parts]
-            self.order_parts(at, after)
-        order, dropped = order_tasks(tasks, after, [keys[at] for at in owners])
-        if dropped:
+            self.add(Node(edge.label, edge.label, edge.number, edge.number), "recipe" if job else "group", [job.work] if job else [])
+        after: List[Set[int]] = [set() for _ in self.build.tasks]
+        for number, at in place.items():
+            after[at] = {place[one.number] for one in manifest.makers_of(manifest.edges[number]) if one.number in place}  # guard: header-that-log-knows-is-no-input
+            after[at] |= {place[one] for one in first} if number in jobs.keys() - first else set()
+        numbers = [task.node.first for task in self.build.tasks]
+        if self.put_in_order(after, [(jobs[number].life.died if number in jobs else 0, number) for number in numbers]):
             self.holes.append("build statements of %s wait for each other in a cycle" % self.ninja.file)  # guard: cycle
-        self.arrange(order, after, [edges[at] for at in owners])
-
-    def arrange(self, order: List[int], after: List[Set[int]], edges: List[Edge]) -> None:
-        """Puts the tasks in an order. `after`, `edges`: by the old number of a task what it waits for, and its statement."""
-        self.build.tasks, number = renumber(self.build.tasks, order, after)
-        self.build.edges = [edges[old] for old in order]
-        self.of_node = {label: number[at] for label, at in self.of_node.items()}
-        self.build.bits = befores(self.build.tasks)
 
     def first(self) -> Set[int]:
         """The statements that ran before all others: ninja first makes its manifest. They are those at the head of the run which it needs, and which
@@ -127,15 +105,10 @@ class NinjaBuilder(Builder):
     def taking_part(self, jobs: Dict[int, Job]) -> List[Edge]:
         """Statements that ran, and those without a command that ran which lead from one of them to another."""
         manifest = self.stage.manifest
-        below = manifest.below([job.edge for job in jobs.values() if job.edge is not None])
-        above: Set[int] = set(jobs)
-        todo = [manifest.edges[number] for number in jobs]
-        while todo:
-            for user in manifest.users_of(todo.pop()):
-                if user.number in below and user.number not in above:
-                    above.add(user.number)
-                    todo.append(user)
-        return [edge for edge in manifest.edges if edge.number in above]  # guard: through-phony-ones
+        ran = [manifest.edges[number] for number in jobs]
+        below = manifest.below(ran)
+        above = reached(ran, lambda edge: (user for user in manifest.users_of(edge) if user.number in below))
+        return [edge for edge in manifest.edges if edge in above]  # guard: through-phony-ones
 
     def check_order(self) -> None:
         """The recorded run is one of those that the tasks allow."""
@@ -190,24 +163,11 @@ class NinjaBuilder(Builder):
             if kind == MADE and begin < place < end and path not in owned and self.names.is_inside(path):
                 self.holes.append("ninja made the folder %s, and no statement needs it" % path)  # guard: folder-of-no-statement
 
-    # ---------------------------------------------------------------- footprints
-    def fill(self) -> None:
-        """What each task reads and writes."""
-        for task in self.build.tasks:
-            self.add_events(task)
-        add_folders(self)
-        pass_locks(self)  # guard: ninja
-        drop_lonely(self.build.tasks, set())
-        self.note_late()
-
     def put_makers_first(self) -> None:
         """Lists who makes a declared output before who reads it, where nothing orders the two: a fix then lets the reader wait."""
-        tasks, edges = self.build.tasks, self.build.edges
-        makers = {self.full(path): at for at, edge in enumerate(edges) if tasks[at].works for path in edge.makes()}
-        after = [set(task.after) for task in tasks]
-        for at, task in enumerate(tasks):
-            found = {makers[path] for path in task.reads if path in makers}
-            after[at] |= {maker for maker in found if self.build.unordered(maker, at)}
+        tasks, build = self.build.tasks, self.build
+        makers = {self.full(path): at for at, task in enumerate(tasks) if task.works for path in build.edge(at).makes()}
+        after = [task.after | {makers[path] for path in task.reads if path in makers and build.unordered(makers[path], at)} for at, task in enumerate(tasks)]
         order, dropped = order_tasks(tasks, after, [(at, 0) for at in range(len(tasks))])
         if not dropped:
-            self.arrange(order, [task.after for task in tasks], edges)
+            self.arrange(order, [task.after for task in tasks])

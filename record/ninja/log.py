@@ -1,8 +1,7 @@
-"""What ninja leaves besides outputs: its log of statements that ran."""
+"""The files of ninja besides outputs: its manifests and its logs."""
 
 import os
-from collections import Counter
-from typing import Dict, List
+from typing import Dict
 
 from record import machine
 from record.trace.names import Names
@@ -18,13 +17,3 @@ def kept_texts(names: Names) -> Dict[str, str]:
 def text_of(path: str) -> str:
     """A file's text; bytes that are none are kept."""
     return machine.read(path).decode("utf-8", "surrogateescape")
-
-
-def new_outputs(before: str, after: str) -> List[str]:
-    """The outputs that were logged between two states of a log, in order; ninja may have packed the log meanwhile."""
-    old, found = Counter(before.split("\n")), []
-    for line in after.split("\n"):
-        old[line] -= 1
-        parts = line.split("\t")
-        found += parts[3:4] if old[line] < 0 and len(parts) == 5 else []
-    return found

@@ -1,7 +1,8 @@
-"""The reader of build.ninja: build statements with what they ask for, what they make, and their commands, as ninja has them. And of dyndep files, which say
+"""The reader of build.ninja: build statements with what they ask for, what they make, and their commands, as ninja has them; and of dyndep files, which say
 while ninja runs what a statement needs and makes besides.
 
-Values of rules are worked out when they are asked for, all others where they stand: so does ninja.
+Values of rules are worked out when they are asked for, all others where they stand: so does ninja. It has read these files before, so what it refuses does
+not come here.
 """
 
 import os
@@ -11,21 +12,13 @@ from dataclasses import dataclass, field
 from functools import cached_property
 from typing import Callable, Dict, Iterator, List, Optional, Set, Tuple
 
+from record.build.tasks import reached
+
 VARIABLE = re.compile(r"\$(?:\{([A-Za-z0-9_.-]+)\}|([A-Za-z0-9_-]+)|(.?))", re.S)
-TOKEN = re.compile(r" *(?:(\|\||\|@|\||:)|((?:\$(?:\{[A-Za-z0-9_.-]+\}|[A-Za-z0-9_-]+|[ $:|])|[^ :|$])+)|$)")
+TOKEN = re.compile(r"(\|\||\|@|\||:)|((?:\$.|[^ :|$])+)")
 LET = re.compile(r" *([A-Za-z0-9_.-]+) *= *(.*)", re.S)
 PLAIN = re.compile(r"[A-Za-z0-9_+./-]*\Z")
 SECTIONS = {"|": "implicit", "||": "order_only", "|@": "validations"}
-
-
-@dataclass
-class Found:
-    """What a dyndep file says of one build statement."""
-
-    output: str
-    outputs: List[str] = field(default_factory=list)
-    inputs: List[str] = field(default_factory=list)
-    restat: bool = False
 
 
 class Unreadable(Exception):
@@ -34,16 +27,7 @@ class Unreadable(Exception):
 
 def evaluate(text: str, value: Callable[[str], str]) -> str:
     """A text with its variables and escapes worked out."""
-
-    def one(match: "re.Match[str]") -> str:
-        name = match.group(1) or match.group(2)
-        if name:
-            return value(name)
-        if match.group(3) not in ("$", " ", ":", "|"):
-            raise Unreadable("a `$` with nothing that it escapes: " + text[:80])
-        return match.group(3)
-
-    return VARIABLE.sub(one, text) if "$" in text else text
+    return VARIABLE.sub(lambda found: value(found[1] or found[2]) if found[1] or found[2] else found[3], text)
 
 
 def canonical(path: str) -> str:
@@ -62,7 +46,7 @@ class Scope:
 
     def __init__(self, parent: "Optional[Scope]" = None) -> None:
         self.values: ChainMap[str, str] = parent.values.new_child() if parent is not None else ChainMap()
-        self.rules: ChainMap[str, Dict[str, str]] = parent.rules.new_child() if parent is not None else ChainMap({"phony": {}})
+        self.rules: ChainMap[str, Dict[str, str]] = parent.rules.new_child() if parent is not None else ChainMap({"phony": {}, "dyndep": {}})
 
     def value(self, name: str) -> str:
         """What a variable holds; nothing where nobody sets it."""
@@ -100,7 +84,7 @@ class Edge:
         """All that must be there before the command starts."""
         return self.inputs + self.implicit + self.order_only  # guard: validations-give-none
 
-    def value(self, name: str, escape: bool = True, busy: Tuple[str, ...] = ()) -> str:
+    def value(self, name: str, escape: bool = True) -> str:
         """A binding of this statement; `escape`: paths as a command needs them."""
         if name in ("in", "in_newline", "out"):
             paths = self.outputs if name == "out" else self.inputs
@@ -108,9 +92,7 @@ class Edge:
         if name in self.scope.values.maps[0]:
             return self.scope.values[name]
         if name in self.bindings:
-            if name in busy:
-                raise Unreadable("a variable of rule %s needs itself: %s" % (self.rule, name))
-            return evaluate(self.bindings[name], lambda other: self.value(other, escape, busy + (name,)))
+            return evaluate(self.bindings[name], lambda other: self.value(other, escape))
         return self.scope.value(name)
 
     def path(self, name: str) -> str:
@@ -141,31 +123,16 @@ class Edge:
 
 def logical_lines(text: str) -> Iterator[Tuple[int, str]]:
     """The lines of a file without comments, each with its number; a `$` at the end joins it with the next."""
-    held: Optional[Tuple[int, str]] = None
-    for number, raw in enumerate(text.split("\n"), 1):
-        line = raw[:-1] if raw.endswith("\r") else raw
-        if held is None and line.lstrip(" ").startswith("#"):
+    held, begun = "", 0
+    for number, line in enumerate(text.replace("\r\n", "\n").split("\n"), 1):
+        if not begun and line.lstrip(" ").startswith("#"):
             continue
-        begun, before = held if held is not None else (number, "")
-        line = before + (line.lstrip(" ") if held is not None else line)
-        dollars = len(line) - len(line.rstrip("$"))
-        held = (begun, line[:-1]) if dollars % 2 else None
-        if held is None:
+        line, begun = held + line.lstrip(" ") if begun else line, begun or number
+        if (len(line) - len(line.rstrip("$"))) % 2:
+            held = line[:-1]
+        else:
             yield begun, line
-    if held is not None:
-        yield held
-
-
-def tokens(text: str) -> Iterator[Tuple[str, str]]:
-    """The marks (`:`, `|`, `||`, `|@`) and words of a build line; words are not worked out."""
-    at = 0
-    while at < len(text):
-        match = TOKEN.match(text, at)
-        if match is None or match.end() == at:
-            raise Unreadable("cannot read: " + text[at:at + 80])
-        at = match.end()
-        if match.group(1) or match.group(2):
-            yield match.group(1) or "", match.group(2) or ""
+            held, begun = "", 0
 
 
 @dataclass(eq=False)
@@ -179,15 +146,18 @@ class Manifest:
     makers: Dict[str, Edge] = field(default_factory=dict)  # output: statement
     top: Scope = field(default_factory=Scope)
 
-    def add_output(self, edge: Edge, path: str) -> bool:
-        """Notes who makes a path; whether nobody did before."""
-        return self.makers.setdefault(path, edge) is edge
+    def add(self, edge: Edge, paths: List[str]) -> None:
+        """Notes who makes some paths."""
+        self.makers.update((path, edge) for path in paths if path not in self.makers)
 
-    def add_found(self, edge: Edge, found: Found) -> None:
+    def add_found(self, edge: Edge, found: "Manifest") -> None:
         """What a dyndep file says of a statement."""
-        edge.implicit += found.inputs
-        edge.implicit_outputs += [path for path in found.outputs if self.add_output(edge, path)]
-        edge.restat_by_file = edge.restat_by_file or found.restat
+        for one in found.edges:
+            if self.makers.get(one.label) is edge:  # guard: dyndep-file-adds-to-its-statement-alone
+                edge.implicit += one.implicit
+                edge.implicit_outputs += one.implicit_outputs
+                edge.restat_by_file = edge.restat_by_file or one.is_restat
+                self.add(edge, one.implicit_outputs)
 
     def makers_of(self, edge: Edge) -> List[Edge]:
         """The statements whose outputs a statement waits for."""
@@ -210,13 +180,7 @@ class Manifest:
     def goals(self, names: List[str]) -> Optional[List[Edge]]:
         """The statements that words of the command line name; without words the default; None where a word is not known."""
         asked = [canonical(n) for n in names] or self.defaults or self.roots()
-        found: List[Edge] = []
-        for name in asked:
-            edge = self.makers.get(name)
-            if edge is None:
-                return None
-            found.append(edge)
-        return found
+        return [self.makers[name] for name in asked] if self.makers.keys() >= {*asked} else None
 
     def roots(self) -> List[str]:
         """Outputs that no statement needs."""
@@ -225,15 +189,8 @@ class Manifest:
 
     def below(self, goals: List[Edge]) -> Set[int]:
         """The numbers of all statements that goals need, validations with them."""
-        seen: Set[int] = set()
-        todo = list(goals)
-        while todo:
-            edge = todo.pop()
-            if edge.number not in seen:
-                seen.add(edge.number)
-                todo += self.makers_of(edge)
-                todo += [self.makers[p] for p in edge.validations if p in self.makers]
-        return seen
+        found = reached(goals, lambda edge: [*self.makers_of(edge), *(self.makers[path] for path in edge.validations if path in self.makers)])
+        return {edge.number for edge in found}
 
 
 class Reader:
@@ -243,111 +200,67 @@ class Reader:
         self.manifest, self.text_of = manifest, text_of
 
     def read(self, name: str, scope: Scope) -> None:
-        """One file; its statements in order."""
-        if len(self.manifest.files) > 1000:
-            raise Unreadable("files that include each other: " + name)
+        """One file; its statements in order, each with the block below it."""
         self.manifest.files.append(name)
-        lines = [line for line in logical_lines(self.text_of(os.path.join(self.manifest.folder, name))) if line[1].strip(" ")]
-        at = 0
-        while at < len(lines):
-            number, text = lines[at]
-            at += 1
-            block = []
-            while at < len(lines) and lines[at][1].startswith(" "):
-                block.append(self.let(lines[at][1]))
-                at += 1
-            try:
-                self.statement(name, number, text, block, scope)
-            except Unreadable as fault:
-                raise Unreadable("%s:%d: %s" % (name, number, fault)) from None
+        statements: List[Tuple[int, str, Dict[str, str]]] = []
+        for number, text in logical_lines(self.text_of(os.path.join(self.manifest.folder, name))):
+            binding = LET.fullmatch(text)
+            if binding is not None and text.startswith(" "):
+                statements[-1][2][binding[1]] = binding[2]
+            elif text.strip(" "):
+                statements.append((number, text, {}))
+        for number, text, block in statements:
+            self.statement(name, number, text, block, scope)
 
-    @staticmethod
-    def let(text: str) -> Tuple[str, str]:
-        """`name = value`."""
-        match = LET.fullmatch(text)
-        if match is None:
-            raise Unreadable("no `=` in: " + text.strip()[:80])
-        return match.group(1), match.group(2)
-
-    def statement(self, file: str, number: int, text: str, block: List[Tuple[str, str]], scope: Scope) -> None:
+    def statement(self, file: str, number: int, text: str, block: Dict[str, str], scope: Scope) -> None:
+        """One statement, and what it is."""
         word, _, rest = text.partition(" ")
-        rest = rest.lstrip(" ")
-        if LET.fullmatch(text):
-            key, value = self.let(text)
-            scope.values[key] = evaluate(value, scope.value)
+        binding = LET.fullmatch(text)
+        if binding is not None:
+            scope.values[binding[1]] = evaluate(binding[2], scope.value)
         elif word == "rule":
-            scope.rules[rest.strip(" ")] = dict(block)
+            scope.rules[rest.strip(" ")] = block
         elif word == "default":
-            self.manifest.defaults += [canonical(evaluate(w, scope.value)) for _, w in tokens(rest) if w]
+            self.manifest.defaults += [canonical(evaluate(one, scope.value)) for _, one in TOKEN.findall(rest)]
         elif word in ("include", "subninja"):
-            for _, path in list(tokens(rest))[:1]:
-                self.read(evaluate(path, scope.value), scope if word == "include" else Scope(scope))
+            self.read(evaluate(rest.strip(" "), scope.value), scope if word == "include" else Scope(scope))
         elif word == "build":
             self.edge(file, number, rest, block, scope)
         elif word != "pool":
-            raise Unreadable("no statement of ninja: " + text[:80])
+            raise Unreadable("%s:%d: no statement of ninja: %s" % (file, number, text[:80]))
 
-    def edge(self, file: str, number: int, text: str, block: List[Tuple[str, str]], scope: Scope) -> None:
-        manifest = self.manifest
+    def edge(self, file: str, number: int, text: str, block: Dict[str, str], scope: Scope) -> None:
+        """A build statement."""
         own = Scope(scope) if block else scope
-        for key, value in block:
-            own.values[key] = evaluate(value, scope.value)
+        own.values.update({key: evaluate(value, scope.value) for key, value in block.items()})
         rule, parts = split_build(text)
-        bindings = scope.rules.get(rule)
-        if bindings is None:
-            raise Unreadable("unknown rule " + rule)
-        edge = Edge(len(manifest.edges), rule, own, bindings, file, number)
+        edge = Edge(len(self.manifest.edges), rule, own, scope.rules[rule], file, number)
         for section, word in parts:
             getattr(edge, section).append(canonical(evaluate(word, own.value)))
-        edge.outputs = [p for p in edge.outputs if manifest.add_output(edge, p)]
-        edge.implicit_outputs = [p for p in edge.implicit_outputs if manifest.add_output(edge, p)]
-        if edge.makes():
-            manifest.edges.append(edge)
+        self.manifest.edges.append(edge)
+        self.manifest.add(edge, edge.makes())
 
 
 def split_build(text: str) -> Tuple[str, List[Tuple[str, str]]]:
     """The rule of a build line, and its words, each with the list of `Edge` that it belongs to."""
     rule, section, parts = "", "outputs", []
-    for mark, word in tokens(text):
-        if mark == ":":
-            section = "rule"
-        elif mark and section in ("outputs", "implicit_outputs"):
-            section = "implicit_outputs"
-        elif mark:
-            section = SECTIONS[mark]
+    for mark, word in TOKEN.findall(text):
+        if mark:
+            section = "rule" if mark == ":" else SECTIONS[mark] if rule else "implicit_outputs"
         elif section == "rule":
             rule, section = word, "inputs"
         else:
             parts.append((section, word))
-    if not rule:
-        raise Unreadable("a build line without a rule: " + text[:80])
     return rule, parts
 
 
 def read_manifest(folder: str, name: str, text_of: Callable[[str], str]) -> Manifest:
-    """The manifest `name` in a folder; `text_of` gives the text of a file by its path."""
+    """The manifest `name`, or a dyndep file, in a folder; `text_of` gives the text of a file by its path."""
     manifest = Manifest(folder)
     try:
         Reader(manifest, text_of).read(name, manifest.top)
     except OSError as fault:
         raise Unreadable("%s: %s" % (fault.filename or name, fault.strerror)) from None
+    except (LookupError, RecursionError) as fault:
+        raise Unreadable("%s: no manifest of ninja: %s" % (name, fault)) from None
     return manifest
-
-
-def read_dyndep(text: str) -> List[Found]:
-    """The statements of a dyndep file."""
-    top = Scope()
-    found: List[Found] = []
-    for _, line in logical_lines(text):
-        if line.startswith("build "):
-            _, parts = split_build(line[len("build "):])
-            words = [(section, canonical(evaluate(word, top.value))) for section, word in parts]
-            first = [w for s, w in words if s == "outputs"]
-            found.append(Found(first[0], [w for s, w in words if s == "implicit_outputs"], [w for s, w in words if s == "implicit"]))
-        elif line.startswith(" ") and found:
-            key, value = Reader.let(line)
-            found[-1].restat = found[-1].restat or key == "restat" and bool(value)
-        elif LET.fullmatch(line):
-            key, value = Reader.let(line)
-            top.values[key] = evaluate(value, top.value)
-    return found

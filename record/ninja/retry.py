@@ -7,9 +7,8 @@ import os
 import re
 import shlex
 from contextlib import suppress
-from functools import lru_cache, partial
 from pathlib import Path
-from typing import TYPE_CHECKING, Dict, List, Set
+from typing import TYPE_CHECKING, Dict, List
 
 from record.command import with_jobs
 from record.ninja.log import OWN
@@ -17,7 +16,6 @@ from record.trace.names import Names
 
 if TYPE_CHECKING:
     from record.trace.lives import Life
-    from record.ninja.manifest import Manifest
     from record.ninja.runs import Ninja
 
 TRIES = 3
@@ -28,20 +26,15 @@ HINTS = 5
 def hints(ninjas: "List[Ninja]", names: Names) -> List[str]:
     """Who looks for what another statement makes, and does not wait for it: the files that were absent first."""
     found: Dict[str, int] = {}
-    for folder, stage in ((ninja.folder, stage) for ninja in ninjas for stage in ninja.stages):
-        below = lru_cache(maxsize=None)(partial(below_statement, stage.manifest))
-        made = {names.find(folder, path, True).path: edge for edge in stage.manifest.edges if not edge.is_phony for path in edge.makes()}
-        looks = [(kind, path, job.edge) for job in stage.jobs if job.edge is not None for kind, path in job.work.events if kind in "RSN"]
-        for kind, path, edge in (look for look in looks if look[1] in made):
-            if edge.number not in below(made[path].number) and made[path].number not in below(edge.number):  # guard: none-where-it-waits
+    for folder, stage, manifest in ((ninja.folder, stage, stage.manifest) for ninja in ninjas for stage in ninja.stages):
+        made = {names.find(folder, path, True).path: edge for edge in manifest.edges if not edge.is_phony for path in edge.makes()}
+        looks = [(kind, path, job.edge) for job in stage.jobs if job.edge is not None for kind, path in job.work.events if kind in "RSN" and path in made]
+        below = {edge: manifest.below([edge]) for edge in {edge for _, path, user in looks for edge in (user, made[path])}}
+        for kind, path, edge in looks:
+            if edge.number not in below[made[path]] and made[path].number not in below[edge]:  # guard: none-where-it-waits
                 text = "%s looks for %s, which %s makes, and does not wait for it" % (edge.label, os.path.relpath(path, folder), made[path].label)
                 found[text] = min(found.get(text, 2), 0 if kind == "N" else 1)  # guard: absent-files-first
     return sorted(found, key=lambda text: (found[text], text))[:HINTS]
-
-
-def below_statement(manifest: "Manifest", number: int) -> Set[int]:
-    """The numbers of a statement, and of all that it needs."""
-    return manifest.below([manifest.edges[number]])
 
 
 def by_hand(words: List[str]) -> str:

@@ -3,7 +3,6 @@
 import getopt
 import os
 import re
-from collections import Counter
 from dataclasses import dataclass, field
 from functools import partial
 from typing import Dict, List, Optional, Set, Tuple
@@ -12,14 +11,13 @@ from record import machine
 from record.build.work import Tool, Work
 from record.commands import shelltext
 from record.make.owners import Owners
-from record.ninja.log import new_outputs, text_of
-from record.ninja.manifest import Edge, Manifest, Unreadable, canonical, read_dyndep, read_manifest
+from record.ninja.log import text_of
+from record.ninja.manifest import Edge, Manifest, Unreadable, canonical, read_manifest
 from record.trace.lives import Life
 from record.trace.names import Names
 
 SHORT = "d:f:j:k:l:nt:vw:C:h"
 LONG = ["help", "version", "verbose", "quiet"]
-LOG_TOOLS = {"restat", "recompact", "cleandead", "clean"}
 TRIED = re.compile(r"/CMakeFiles/(?:CMakeScratch/TryCompile-\w+|CMakeTmp)(?:/|\Z)")
 CMAKES = ("cmake", "ccmake", "cmake-gui", "ctest")
 NEVER = 1 << 60
@@ -58,7 +56,6 @@ class Ninja(Tool):
     file: str
     goals: List[str]
     stages: List[Stage] = field(default_factory=list)
-    log: str = ""
     is_tried: bool = False  # by CMake, in a folder of its own that is gone
 
     @property
@@ -111,17 +108,16 @@ class Runs:
 
     def __init__(self, lives: List[Life], owners: Owners, names: Names, kept: Dict[str, str], has_ended: bool) -> None:
         self.lives, self.owners, self.names, self.kept = lives, owners, names, kept
-        self.has_ended = has_ended  # well: else the log says nothing of what failed
+        self.has_ended = has_ended  # well
         self.holes: List[str] = []
-        self.ties: List[str] = []
         self.ninjas: List[Ninja] = []
         for life in lives:
             if life.is_ninja:
                 self.add(life)
             elif is_unknown(life):  # guard: ninja-of-another-name
                 self.holes.append("a ninja of another name ran past the recorder: " + " ".join(life.argv)[:100])
-        for log in dict.fromkeys(ninja.log for ninja in self.ninjas):
-            self.attribute(log)
+        for ninja in self.ninjas:
+            self.attribute(ninja)
         self.note_inner()
 
     def note_inner(self) -> None:
@@ -149,8 +145,6 @@ class Runs:
             self.add_stage(ninja, start, end)
         if not opened:
             self.holes.append("a ninja read no manifest: " + " ".join(life.argv)[:100])  # guard: no-manifest
-        else:
-            ninja.log = self.names.find(folder, os.path.join(ninja.stages[-1].manifest.top.value("builddir"), ".ninja_log"), True).path
 
     def opened(self, life: Life, file: str) -> Tuple[str, List[int]]:
         """The folder that a ninja works in (`-C` moves it), and where in the trace it opened its manifest."""
@@ -211,85 +205,32 @@ class Runs:
             if not name or real not in reads and not machine.isfile(path):
                 continue
             try:
-                for one in read_dyndep(self.text_at(reads.get(real, NEVER - 1), path)):  # guard: dyndep-file-that-changed-since
-                    if manifest.makers.get(one.output) is edge:  # guard: dyndep-file-adds-to-its-statement-alone
-                        manifest.add_found(edge, one)
+                manifest.add_found(edge, read_manifest(manifest.folder, name, partial(self.text_at, reads.get(real, NEVER - 1))))  # guard: dyndep-file-that-changed-since
             except Unreadable as fault:
                 self.holes.append("%s: %s" % (path, fault))
 
     # ---------------------------------------------------------------- who ran for whom
-    def attribute(self, log: str) -> None:
-        """Gives the jobs of all ninjas with one log to statements."""
-        ninjas = [ninja for ninja in self.ninjas if ninja.log == log and any(stage.jobs for stage in ninja.stages) and not ninja.is_tried]
-        if not ninjas:
-            return
-        logged = self.logged(ninjas, log)
-        for ninja in ninjas:
-            for stage in ninja.stages:
-                if stage.is_read:
-                    self.attribute_stage(stage, logged)
-        if logged is not None and self.has_ended and all(stage.is_read for ninja in ninjas for stage in ninja.stages):
-            self.compare_log(ninjas, logged)
+    def attribute(self, ninja: Ninja) -> None:
+        """Gives the jobs of a ninja to statements. Where one failed and the build did not, other statements might have run besides."""
+        if ninja.life.has_failed and self.has_ended and not ninja.is_tried and any(stage.jobs for stage in ninja.stages):  # guard: ninja-that-failed
+            self.holes.append("a ninja failed, so it may run more commands another time: ninja " + ninja.args[:100])
+        for stage in ninja.stages if not ninja.is_tried else ():
+            if stage.is_read:
+                self.attribute_stage(stage)
 
-    def logged(self, ninjas: List[Ninja], log: str) -> Optional[List[str]]:
-        """The outputs that these ninjas logged; None where other tools have changed the log, or it is gone. Where nothing succeeds there is none."""
-        for life in self.lives:
-            if life.is_ninja and "-t" in life.argv and LOG_TOOLS & set(life.argv):
-                return None
-        try:
-            return new_outputs(self.kept.get(log, ""), text_of(log))
-        except OSError:
-            if self.has_ended:
-                self.holes.append("ninja left no log: " + log)  # guard: no-log
-                return None
-            return []
-
-    def attribute_stage(self, stage: Stage, logged: Optional[List[str]]) -> None:
+    def attribute_stage(self, stage: Stage) -> None:
+        """Each command is that of one statement, and ran once."""
         by_text: Dict[str, List[Edge]] = {}
         for edge in stage.manifest.edges:
             if not edge.is_phony:
                 by_text.setdefault(edge.command, []).append(edge)
-        groups: Dict[str, List[Job]] = {}
         for job in stage.jobs:
-            groups.setdefault(job.text, []).append(job)
-        for text, jobs in sorted(groups.items()):
-            edges = by_text.get(text, [])
-            if not edges or any(job.life.cut for job in jobs):  # guard: command-that-is-cut
-                self.holes.append("ninja ran a command that no build statement has: " + text[:200])  # guard: command-of-nobody
-            elif len(edges) == 1 and len(jobs) == 1:
-                jobs[0].edge = edges[0]
+            edges = by_text.get(job.text, [])
+            if not edges or job.life.cut:  # guard: command-that-is-cut
+                self.holes.append("ninja ran a command that no build statement has: " + job.text[:200])  # guard: command-of-nobody
+            elif len(edges) > 1:
+                self.holes.append("several build statements have one command: " + job.text[:200])  # guard: one-command-of-several
             else:
-                self.break_tie(text, jobs, edges, logged)
-        for job in stage.jobs:
+                job.edge = edges.pop()
             self.owners.take(job.work, job.life)  # guard: processes-of-command
             self.owners.divide(job.work)
-        for text, jobs in sorted(groups.items()):
-            self.check_tie(text, jobs)  # guard: two-of-one-command-at-once
-
-    def break_tie(self, text: str, jobs: List[Job], edges: List[Edge], logged: Optional[List[str]]) -> None:
-        """Statements with one command: the log names them in the order in which they ended."""
-        log = logged or []
-        found = sorted((edge for edge in edges if log.count(edge.label) == 1), key=lambda edge: log.index(edge.label))
-        if len(found) != len(jobs):  # guard: log-must-say
-            self.holes.append("several build statements have one command, and the log of ninja does not say which ran: " + text[:200])
-            return
-        for job, edge in zip(sorted(jobs, key=lambda j: j.life.died), found):  # guard: log-says-which-of-two
-            job.edge = edge
-        self.ties.append(text)  # guard: said-that-log-decided
-
-    def check_tie(self, text: str, jobs: List[Job]) -> None:
-        """Where two with one command, which nothing distinguishes, ran at once, it must not matter which was which."""
-        rows = sorted(jobs, key=lambda j: j.life.born)
-        for first, second in zip(rows, rows[1:]):
-            if second.life.born < first.life.died and set(first.work.events) != set(second.work.events):
-                self.holes.append("two build statements with one command ran at once: " + text[:200])
-                return
-
-    def compare_log(self, ninjas: List[Ninja], logged: List[str]) -> None:
-        """Each statement that ran has its lines in the log, and each line a statement that ran."""
-        ran = Counter(path for ninja in ninjas for stage in ninja.stages for edge in stage.ran() for path in edge.makes())
-        counted = Counter(logged)
-        for path in sorted((counted - ran).keys())[:3]:  # guard: line-of-log-too-many
-            self.holes.append("the log of ninja names %s, and no process of the trace made it" % path)
-        for path in sorted((ran - counted).keys())[:3]:  # guard: line-of-log-less
-            self.holes.append("a command ran for %s, and the log of ninja does not name it" % path)

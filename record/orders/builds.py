@@ -19,10 +19,12 @@ import socket
 import struct
 import subprocess
 import time
-from collections.abc import Callable, Iterator, Mapping, Sequence
-from contextlib import contextmanager
+from collections.abc import Callable, Mapping, Sequence
+from contextlib import closing, nullcontext
 from dataclasses import dataclass, field
+from functools import partial
 from pathlib import Path
+from threading import Thread
 from typing import ContextManager, Optional
 
 from record.command import with_jobs
@@ -30,7 +32,7 @@ from record.entry import forget_coerced, in_one_step
 from record.orders.gate import Gate, Key
 from record.orders.holding import Ends
 from record.orders.processes import children_of, end
-from record.orders.trees import copy, held_by, remove
+from record.orders.trees import CannotTry, copy, held_by, remove
 from record.trace.lives import Address
 from record.trace.names import mounts_below
 from record.watch.lay import BIND, LIBC, NAMES, Watch, leave, makes_of, mount
@@ -48,15 +50,11 @@ SHOWN_LINES = re.compile(r"(?i)\b(error|fatal|cannot|no such|not found|failed|no
 SHOWN = 3  # so many of them
 
 
-class CannotTry(Exception):
-    """Builds in other orders cannot be made here; the text says why."""
-
-
 @dataclass
 class Plan:
     """A build to be made: which recipe begins of those that wait, with how many jobs, and whether it is recorded. `is_flipped`: where `places` does not say,
-    the last that came to wait, and not the first; `at_once`: so many may run side by side, of those that wait for no other one; `is_slow`: to make a folder takes
-    a while; `ends`: of these processes, which are held there: no recipe waits to begin."""
+    the last that came to wait, and not the first; `at_once`: so many may run side by side, of those that wait for no other one, also by `apart`; `is_slow`: to
+    make a folder takes a while; `ends`: of these processes, which are held there: no recipe waits to begin."""
 
     name: str
     places: Mapping[Key, float]
@@ -65,17 +63,19 @@ class Plan:
     is_recorded: bool = False
     is_flipped: bool = False
     at_once: int = 1
+    apart: Mapping[Key, set[Key]] = field(default_factory=dict)
     is_slow: bool = False
     ends: frozenset[Address] = frozenset()
 
 
-SERIAL, FLIPPED = "serial", "flipped"
-BESIDE = (Plan(SERIAL, {}, OWN), Plan(FLIPPED, {}, is_recorded=True, is_flipped=True))
+SERIAL = Plan("serial", {}, OWN)
+FLIPPED = Plan("flipped", {}, is_recorded=True, is_flipped=True)
 
 
 @dataclass
 class Built:
-    """What a build came to. `status`: none where nothing began or ended in it any more; `held`: what stands in each tree."""
+    """What a build came to. `status`: none where nothing began or ended in it any more; `held`: what stands in each tree; `otherwise`: lines about what differs from
+    the serial one, `path`: of a file that does."""
 
     plan: Plan
     status: Optional[int]
@@ -83,6 +83,8 @@ class Built:
     began: list[Key]
     output: str
     held: list[dict[str, str]]
+    otherwise: list[str] = field(default_factory=list)
+    path: str = ""
 
     def message(self) -> list[str]:
         """How it ended, where it failed."""
@@ -190,52 +192,39 @@ class Room:
         place = self.place(plan)
         for number, tree in enumerate(self.trees(plan)):
             copy(self.fresh(number), tree)
-        gate = gate or (Ends(place, {}, ends=plan.ends) if plan.ends else Gate(place, plan.places, plan.after, plan.is_flipped, plan.at_once))
-        began = time.monotonic()
-        with gate.listen() as listener, output_to(place / "output") as output:
-            before = {*children_of(os.getpid())}
+        after = {late: {*plan.after.get(late, ()), *plan.apart.get(late, ())} for late in (*plan.after, *plan.apart)}
+        gate = gate or (Ends(place, {}, ends=plan.ends) if plan.ends else Gate(place, plan.places, after, plan.is_flipped, plan.at_once))
+        began, before = time.monotonic(), {*children_of(os.getpid())}
+        read, output = os.pipe()  # and no file, which a recipe could empty (`> /dev/stdout`)
+        said: list[bytes] = []
+        keeping = Thread(target=lambda: said.extend(iter(partial(os.read, read, 1 << 16), b"")), daemon=True)
+        with gate.listen() as listener:
             with in_one_step() as heard:
-                pid = os.fork()
-                if pid == 0:
-                    listener.close()  # guard: builds-that-are-left
-                    self.become(plan, gate, output, heard)
-            ended: list[int] = []
-
-            def has_ended() -> bool:
-                if not ended and os.waitpid(pid, os.WNOHANG)[0]:
-                    ended.append(1)
-                return bool(ended)
-
+                pid = in_child(partial(self.build_in_place, plan, gate, listener, output), heard)
+            os.close(output)
+            keeping.start()
             try:
-                found = gate.serve(pid, listener, has_ended, self.limit)
+                has_ended = gate.serve(pid, listener, self.limit)
             finally:
                 for one in {*children_of(os.getpid())} - before:  # and what outlived its parent
                     end(one)
-        try:
-            status = int((place / "status").read_text()) if found else None
-        except (OSError, ValueError):
-            status = 1
-        return Built(plan, status, time.monotonic() - began, gate.began, (place / "output").read_text(errors="replace"), [held_by(tree) for tree in self.trees(plan)])
+        keeping.join(ENDING)
+        status = os.WEXITSTATUS(os.waitpid(pid, 0)[1])
+        return Built(plan, status if has_ended else None, time.monotonic() - began, gate.began, b"".join(said).decode(errors="replace"), [*map(held_by, self.trees(plan))])
 
-    def become(self, plan: Plan, gate: Gate, output: int, heard: Callable[[], ContextManager[object]]) -> None:
-        """Builds in a process of its own, and ends it."""
-        try:
-            with heard():
-                self.build_in_place(plan, gate, output)
-        except BaseException as fault:
-            os.write(2, ("race-record: %s\n" % fault).encode(errors="replace"))
-        finally:
-            os._exit(0)
-
-    def build_in_place(self, plan: Plan, gate: Gate, output: int) -> None:
-        """Builds in this process, and writes the status."""
+    def build_in_place(self, plan: Plan, gate: Gate, listener: socket.socket, output: int) -> int:
+        """Builds in this process; the status."""
+        listener.close()  # guard: builds-that-are-left
         os.setsid()
         for stream, file in ((0, os.open(os.devnull, os.O_RDONLY)), (1, output), (2, output)):
             os.dup2(file, stream)
-        self.enter(plan)
-        gate.enter()
-        status = self.record(self.place(plan), plan) if plan.is_recorded else self.build(plan)
-        (self.place(plan) / "status").write_text(str(status))
+        try:
+            self.enter(plan)
+            gate.enter()
+            return self.record(self.place(plan), plan) if plan.is_recorded else self.build(plan)
+        except Exception as fault:
+            os.write(2, ("race-record: %s\n" % fault).encode(errors="replace"))
+            return 1
 
     def environment(self) -> dict[str, str]:
         """The environment of a build."""
@@ -252,22 +241,6 @@ class Room:
         return subprocess.run([*self.setup, *(SLOWLY if plan.is_slow else ()), *words], env=watch.environment(env), preexec_fn=watch.lay, check=False).returncode
 
 
-@contextmanager
-def output_to(file: Path) -> Iterator[int]:
-    """A pipe that leads into a file: a recipe cannot empty it, as it could a file (`> /dev/stdout`)."""
-    read, write = os.pipe()
-    with open(file, "wb") as kept, subprocess.Popen(["cat"], stdin=read, stdout=kept) as cat:
-        os.close(read)
-        try:
-            yield write
-        finally:
-            os.close(write)
-            try:
-                cat.wait(ENDING)
-            except subprocess.TimeoutExpired:  # a process that outlives the build has it
-                cat.kill()
-
-
 def with_many(words: Sequence[str], env: Mapping[str, str], jobs: int) -> tuple[list[str], dict[str, str]]:
     """A command and its environment, so that all makes and ninjas in it have so many jobs, whatever the load is, except makes that a ninja runs (watch/hold.c)."""
     words = with_jobs([*words], jobs or ONE)
@@ -281,25 +254,18 @@ def with_many(words: Sequence[str], env: Mapping[str, str], jobs: int) -> tuple[
 
 @dataclass
 class Running:
-    """Builds that run at once, each in a process of its own. At the end of the `with` those are ended for which nobody has waited."""
+    """Builds that run at once, each in a process of its own."""
 
     room: Room
     children: dict[str, int] = field(default_factory=dict)  # by plan: its process
-
-    def __enter__(self) -> Running:
-        return self
-
-    def __exit__(self, *_: object) -> None:
-        self.end()
 
     def begin(self, *plans: Plan) -> None:
         """Begins builds."""
         for plan in plans:
             self.room.place(plan).mkdir()
+            (self.room.place(plan) / "built").write_bytes(pickle.dumps("no end of a build"))
             with in_one_step() as heard:
-                pid = self.children[plan.name] = os.fork()
-                if pid == 0:
-                    work(self.room, plan, heard)
+                self.children[plan.name] = in_child(partial(work, self.room, plan), heard)
 
     def result(self, name: str) -> Built:
         """Waits for a build."""
@@ -310,7 +276,7 @@ class Running:
             return found
         raise CannotTry(found)
 
-    def end(self, *names: str) -> None:
+    def close(self, *names: str) -> None:
         """Ends builds, or all for which nobody has waited, and takes away what they left."""
         with in_one_step():
             left = {name: self.children.pop(name) for name in names or [*self.children]}
@@ -323,27 +289,24 @@ class Running:
 
 def side_by_side(room: Room, plans: Sequence[Plan]) -> list[Built]:
     """Some builds at once."""
-    with Running(room) as running:
+    with closing(Running(room)) as running:
         running.begin(*plans)
         return [running.result(plan.name) for plan in plans]
 
 
-def work(room: Room, plan: Plan, heard: Callable[[], ContextManager[object]]) -> None:
-    """Makes a build, writes what it came to, and ends this process. An interrupt is for the recorded build, which may go on all the same."""
-    found: object = "no end of a build"
+def work(room: Room, plan: Plan) -> int:
+    """Makes a build in this process, and writes what it came to. An interrupt is for the recorded build, which may go on all the same."""
+    if signal.getsignal(signal.SIGINT) is not signal.SIG_IGN:
+        signal.signal(signal.SIGINT, lambda *_: None)
+    os.dup2(os.open(os.devnull, os.O_WRONLY), 2)  # where a signal ends it, Python may have something to say
+    LIBC.prctl(WITH_PARENT, signal.SIGTERM)
+    LIBC.prctl(TAKES_LEFT, 1)
     try:
-        if signal.getsignal(signal.SIGINT) is not signal.SIG_IGN:
-            signal.signal(signal.SIGINT, lambda *_: None)
-        os.dup2(os.open(os.devnull, os.O_WRONLY), 2)  # where a signal ends it, Python may have something to say
-        LIBC.prctl(WITH_PARENT, signal.SIGTERM)
-        LIBC.prctl(TAKES_LEFT, 1)
-        with heard():
-            found = room.run(plan)
-    except BaseException as fault:
+        found: object = room.run(plan)
+    except Exception as fault:
         found = "%s: %s" % (type(fault).__name__, fault)
-    finally:
-        (room.place(plan) / "built").write_bytes(pickle.dumps(found))
-        os._exit(0)
+    (room.place(plan) / "built").write_bytes(pickle.dumps(found))
+    return 0
 
 
 def have_own_ports() -> bool:
@@ -355,12 +318,19 @@ def have_own_ports() -> bool:
     return True
 
 
-def is_child_able(try_out: Callable[[], bool]) -> bool:
-    """Whether a child of this process can do something."""
+def in_child(work: Callable[[], int], heard: Callable[[], ContextManager[object]] = nullcontext) -> int:
+    """Does something in a child of this process, which ends with what that gives; its number. `heard`: where it hears signals."""
     child = os.fork()
     if child == 0:
+        status = 1
         try:
-            os._exit(0 if try_out() else 1)
-        except OSError:
-            os._exit(1)
-    return os.waitpid(child, 0)[1] == 0
+            with heard():
+                status = work()
+        finally:
+            os._exit(status if status >= 0 else 128 - status)
+    return child
+
+
+def is_child_able(try_out: Callable[[], bool]) -> bool:
+    """Whether a child of this process can do something."""
+    return os.waitpid(in_child(lambda: 0 if try_out() else 1), 0)[1] == 0

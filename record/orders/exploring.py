@@ -7,17 +7,17 @@ import os
 import sys
 import tempfile
 from collections.abc import Callable, Iterator, Sequence
-from contextlib import contextmanager
+from contextlib import closing, contextmanager
 from pathlib import Path
 from typing import Any
 
 from record.folder import Record, runs_programs
 from record.judge import judge, unshown
-from record.orders.builds import BESIDE, CannotTry, Plan, Room, Running, is_child_able
+from record.orders.builds import FLIPPED, SERIAL, Plan, Room, Running, is_child_able
 from record.orders.gate import Key
 from record.orders.graph import Graph
 from record.orders.joined import contested, join, judged, keep, pass_questions
-from record.orders.trees import held_by, remove
+from record.orders.trees import CannotTry, held_by, remove
 from record.orders.trial import Trial
 from record.watch.lay import leave
 
@@ -62,11 +62,11 @@ def new_room(tops: Sequence[str], setup: Sequence[str], words: Sequence[str], ou
 @contextmanager
 def beside(room: Room, expected: float, made: int) -> Iterator[Running]:
     """Builds that begin before the recorded one, where they cannot disturb it. `expected`, `made`: seconds and builds of the former record, if there is one."""
-    with Running(room) as running:
+    with closing(Running(room)) as running:
         if room.is_apart():
             last = "the last time it took %s, and %d builds in copies" % (clock(expected), made) if made else "others may follow"
             print("race-record: two builds in copies run meanwhile; " + last, file=sys.stderr, flush=True)
-            running.begin(*BESIDE)
+            running.begin(SERIAL, FLIPPED)
         yield running
 
 
@@ -78,20 +78,18 @@ def clock(seconds: float) -> str:
 def say(count: int, record: Record, more: str) -> None:
     """Says how many builds will follow, and of what kind."""
     many, each = ("s", " each") if count > 1 else ("", "")
-    print("race-record: %d build%s in copies, of %s%s%s" % (count, many, clock(record.seconds), each, more), file=sys.stderr, flush=True)
+    if count:
+        print("race-record: %d build%s in copies, of %s%s%s" % (count, many, clock(record.seconds), each, more), file=sys.stderr, flush=True)
 
 
 def explore(room: Room, record: Record, out: Path, race: str, most: int, running: Running) -> dict[str, Any]:
     """Builds in other orders; what the record keeps of them."""
     if not SHARED.isdisjoint(one["kind"] for one in record.assumptions):  # guard: what-builds-beside-could-see
-        running.end()
+        running.close()
     graph = Graph(out)
     after = fixes(graph, race, room.top / "tasks")
     trial = Trial(room, graph, [held_by(Path(top), str(out)) for top in room.tops], after, most, {*record.markers}, record.is_parallel)
-    count = trial.expected() - (0 if not running.children else 1 if after else 2)
-    if count:
-        say(count, record, "; one more for each step where something differs")
-    trial.run(running)
+    trial.run(running, lambda count: say(count, record, "; one more for each step where something differs"))
     if graph.pairs() and not (any(trial.turned) or trial.shown or after):  # guard: builds-that-turn-nothing-round
         raise CannotTry("no two recipes change places there, as where a script calls make with -j1")
     if (room.top / "record").exists():  # else that build was stopped, as all of it waited

@@ -13,12 +13,13 @@ import selectors
 import socket
 import struct
 import time
-from collections.abc import Callable, Mapping, Sequence
+from collections.abc import Callable, Container, Mapping, Sequence
 from dataclasses import dataclass, field
 from pathlib import Path
+from typing import NamedTuple
 
 from record.build.text import shown
-from record.orders.processes import Stalled, born, folder_of, is_quiet, parent_of, words_of
+from record.orders.processes import Stalled, born, folder_of, parent_of
 from record.orders.reported import Call, is_reported, receive
 
 Key = tuple[tuple[str, str, int], ...]  # a recipe: from the outermost make or ninja on its folder, the target, and which of those of that name it is
@@ -42,13 +43,24 @@ def held_words(pid: int) -> list[bytes]:
     """The words of a process that waits (watch/hold.c)."""
     try:
         return Path(f"/proc/{pid}/cmdline").read_bytes().split(b"\0")
-    except OSError:
+    except OSError:  # it has ended
         return []
 
 
 def held_command(pid: int) -> str:
     """The sum of the command that a process which waits is to run for a ninja: the last of its words."""
     return sum_of(next(iter(held_words(pid)[-2:-1]), b""))
+
+
+class Came(NamedTuple):
+    """Whence a process comes that waits: its make or ninja, the target or the sum of its command, the recipe around that make, where that works, and when the
+    process began."""
+
+    make: int
+    name: str
+    above: Key
+    folder: str
+    born: tuple[int, int]
 
 
 @dataclass
@@ -65,17 +77,14 @@ class Gate:
     unknown: float = LAST  # the place of recipes that have none
     waiting: dict[int, socket.socket] = field(default_factory=dict)
     began: list[Key] = field(default_factory=list)
-    running: dict[Key, tuple[tuple[int, str], int]] = field(default_factory=dict)  # the make and the target, and the first process
+    running: set[Key] = field(default_factory=set)
     over: set[Key] = field(default_factory=set)
     owners: dict[int, Key] = field(default_factory=dict)  # by first process of a recipe
     open: dict[tuple[int, str], Key] = field(default_factory=dict)  # by make and target
     counts: dict[Key, int] = field(default_factory=dict)
     targets: dict[int, str] = field(default_factory=dict)  # by process that a make has started: the target
-    ended: set[tuple[int, str]] = field(default_factory=set)  # makes and targets whose recipes have ended
     read: dict[Path, int] = field(default_factory=dict)  # how much was read of the file of each make
-    come_from: dict[int, tuple[int, str, Key, str]] = field(default_factory=dict)  # by process that waits: its make or ninja, the target or the sum, the recipe around that, and where it works
-    born: dict[int, tuple[int, int]] = field(default_factory=dict)  # by process that waits: when it began
-    since: float = 0.0  # when something happened last
+    come_from: dict[int, Came] = field(default_factory=dict)  # by process that waits
     stalled: Stalled = field(default_factory=Stalled)
     choose: selectors.BaseSelector = field(init=False, repr=False)  # by descriptor: what is done when it is ready
 
@@ -106,7 +115,7 @@ class Gate:
             self.read[path] = self.read.get(path, 0) + len(lines)
             for found in filter(None, map(OF_CHILD.match, lines.split(b"\n"))):
                 if found[3]:
-                    self.ended.add((int(path.name.partition(".")[0]), self.targets.get(int(found[3]), "")))
+                    self.note_end(int(path.name.partition(".")[0]), self.targets.get(int(found[3]), ""))
                 else:
                     self.targets[int(found[2])] = shown(os.fsdecode(found[1]))  # guard: names-as-a-record-has-them
 
@@ -129,36 +138,37 @@ class Gate:
         """Of a process that waits: its make or ninja, the target or the sum, and its recipe, as the next of that name."""
         if pid not in self.come_from:
             make = parent_of(pid)
-            self.come_from[pid] = make, self.targets.get(pid) or held_command(pid), self.outer(make), shown(self.folder_of(make))
-            self.born[pid] = born(pid)
-        make, name, above, folder = self.come_from[pid]
+            self.come_from[pid] = Came(make, self.targets.get(pid) or held_command(pid), self.outer(make), shown(self.folder_of(make)), born(pid))
+        make, name, above, folder, _ = self.come_from[pid]
         return make, name, (*above, (folder, name, self.counts.get((*above, (folder, name, 0)), 0) + 1))
 
-    def is_over(self, key: Key) -> bool:
-        """Whether a recipe has begun, and ended."""
-        found, pid = self.running.get(key, (None, 0))
-        if found in self.ended or found is not None and pid not in self.targets and words_of(pid)[0] in "ZX":
-            del self.running[key]
-            self.over.add(key)
-        return key in self.over
+    def note_end(self, make: int, name: str) -> None:
+        """A recipe has ended."""
+        if (make, name) in self.open:
+            self.over.add(self.open[make, name])
+            self.running.discard(self.open[make, name])
 
     def is_idle(self, root: int) -> bool:
-        """Whether nothing else can happen in the build."""
-        return is_quiet(root, self.waiting) or self.stalled.is_so(root, self.waiting)
+        """Whether nothing else can happen in the build: the first of two looks may show what has happened since the last one."""
+        return any(self.stalled.is_so(root, self.still()) for _ in range(2))
+
+    def still(self) -> Container[int]:
+        """The processes that do nothing until this gate lets them."""
+        return self.waiting
 
     def may_begin(self, key: Key) -> bool:
         """Whether a recipe waits for no other one besides."""
         return self.over.issuperset(self.after.get(key, ()))
 
     def is_named(self, pid: int) -> bool:
-        """Whether it is known for what a process is that waits: a make says that when it has started it."""
+        """Whether it is known for what a process waits: a make says that when it has started it."""
         return pid in self.targets or held_words(pid)[:1] == [BY_NINJA]
 
-    def beside(self, rows: Mapping[int, tuple[int, str, Key]], free: Sequence[int]) -> list[int]:
+    def beside(self, rows: Mapping[int, tuple[int, str, Key]], free: Sequence[int]) -> Sequence[int]:
         """Those of some processes that may begin beside what runs: none beside one that began before those for which it waits, since nothing else could. A recipe
         with a make in it runs what that starts."""
         outer = {key[:length] for key in (*self.running, *(key for _, _, key in rows.values())) for length in range(1, len(key))}
-        return list(free) if len(self.running.keys() - outer) < self.at_once and all(map(self.may_begin, self.running)) else []
+        return free if len(self.running - outer) < self.at_once and all(map(self.may_begin, self.running)) else []
 
     def turn(self, root: int) -> bool:
         """Lets a recipe begin, if nothing else can happen, or if it may run beside others; whether one does."""
@@ -166,14 +176,12 @@ class Gate:
         if not self.waiting or not is_idle and self.at_once == 1:
             return False
         self.hear_makes()
-        for key in [*self.running]:
-            self.is_over(key)
         rows = {pid: self.bare(pid) for pid in self.waiting if is_idle or self.is_named(pid)}
         further = [pid for pid, (make, name, _) in rows.items() if (make, name) in self.open]
         free = [pid for pid, (_, _, key) in rows.items() if self.may_begin(key)]  # guard: fixes-hold
         some = further or free or [*rows] if is_idle else self.beside(rows, free)
         if some:
-            self.begin(max(some, key=lambda one: (self.places.get(rows[one][2], self.unknown), *(at if self.is_flipped else -at for at in self.born[one]))), rows)  # guard: last-that-came
+            self.begin(max(some, key=lambda one: (self.places.get(rows[one][2], self.unknown), *(at if self.is_flipped else -at for at in self.come_from[one].born))), rows)  # guard: last-that-came
         return bool(some)
 
     def begin(self, pid: int, rows: Mapping[int, tuple[int, str, Key]]) -> None:
@@ -182,12 +190,11 @@ class Gate:
         if (make, name) not in self.open:
             self.began.append(key)
             self.open[make, name] = key
-            self.running[key] = (make, name), pid
+            self.running.add(key)
             self.counts[(*key[:-1], (*key[-1][:2], 0))] = key[-1][2]
         self.owners[pid] = self.open[make, name]
         wait_for_tick()
-        end = os.pidfd_open(pid)
-        self.choose.register(end, selectors.EVENT_READ, lambda: self.leave(end))
+        self.hear_end(pid, lambda: None if pid in self.targets else self.note_end(make, name))  # of a ninja the recipe has ended then
         self.let_go(pid, self.waiting.pop(pid))
 
     def let_go(self, pid: int, channel: socket.socket) -> None:
@@ -208,24 +215,36 @@ class Gate:
 
         self.choose.register(reports, selectors.EVENT_READ, hear)
 
+    def hear_end(self, pid: int, act: Callable[[], object]) -> None:
+        """Does something when a process has ended."""
+        end = os.pidfd_open(pid)
+
+        def hear() -> None:
+            self.leave(end)
+            act()
+
+        self.choose.register(end, selectors.EVENT_READ, hear)
+
     def leave(self, descriptor: int) -> None:
         """Hears no more by a descriptor, such as that of a process that has ended."""
         self.choose.unregister(descriptor)
         os.close(descriptor)
 
-    def serve(self, root: int, listener: socket.socket, has_ended: Callable[[], bool], limit: Callable[[], float]) -> bool:
-        """Answers until the build has ended; false where nothing began or ended in it for so many seconds."""
-        self.since, pause = time.monotonic(), LEAST
+    def serve(self, root: int, listener: socket.socket, limit: Callable[[], float]) -> bool:
+        """Answers until the first process of the build has ended; false where nothing began or ended in it for so many seconds."""
+        since, pause = time.monotonic(), LEAST
         with selectors.DefaultSelector() as self.choose:
             self.choose.register(listener, selectors.EVENT_READ, lambda: self.come(listener))
-            while not has_ended():
+            ended: list[int] = []
+            self.hear_end(root, lambda: ended.append(root))
+            while not ended:
                 found = self.choose.select(pause)
                 for key, _ in found:
                     key.data()
                 began = not found and self.turn(root)
                 if found or began:
-                    self.since, pause = time.monotonic(), MOST if began and self.at_once == 1 else LEAST  # the end of what begins is heard
-                elif pause == MOST and time.monotonic() - self.since > limit():
+                    since, pause = time.monotonic(), MOST if began and self.at_once == 1 else LEAST  # the end of what begins is heard
+                elif pause == MOST and time.monotonic() - since > limit():
                     return False
                 else:
                     pause = min(2 * pause, MOST)

@@ -6,7 +6,6 @@ import json
 import os
 from collections.abc import Iterator, Mapping, Sequence
 from dataclasses import dataclass, field
-from functools import cached_property
 from pathlib import Path
 from typing import Any, Optional
 
@@ -41,34 +40,31 @@ class Graph:
     known: dict[tuple[Key, str, str, int], str] = field(default_factory=dict)  # by the recipe around it, folder, round and which of these: a build
 
     def __post_init__(self) -> None:
-        inner: dict[tuple[str, str], list[str]] = {}
+        self.inner: dict[tuple[str, str], list[str]] = {}  # by build and label: the builds that ran inside
         for number in read_json(self.record / "record.json")["builds"]:
             folder = self.record / "builds" / number
             build = self.builds[number] = read_json(folder / "build.json")
             with open(folder / "tasks", encoding="utf-8") as lines:
                 self.rows[number] = [json.loads(line) for line in lines]
             within = build["within"]
-            inner.setdefault((within["build"], within["task"]) if within else ("", ""), []).append(number)
-        self.add_all(inner, ("", ""), 0, 0, ())
-        self.recipes = self.bits(at for at, one in enumerate(self.tasks) if one.key is not None)
+            self.inner.setdefault((within["build"], within["task"]) if within else ("", ""), []).append(number)
+        self.add_all(("", ""), 0, 0, ())
+        self.recipes = sum(1 << at for at, one in enumerate(self.tasks) if one.key is not None)
         self.free = [self.recipes & ~one.before & ~one.around & ((1 << at) - 1) if one.key else 0 for at, one in enumerate(self.tasks)]
 
-    @staticmethod
-    def bits(numbers: Iterator[int]) -> int:
-        """A set of tasks."""
-        found = 0
-        for one in numbers:
-            found |= 1 << one
+    def about(self, number: str, label: str) -> dict[str, Any]:
+        """What a label of a build stands for."""
+        found: dict[str, Any] = self.builds[number]["labels"].get(label, {})
         return found
 
-    def add_all(self, inner: Mapping[tuple[str, str], list[str]], where: tuple[str, str], before: int, around: int, outer: Key) -> None:
+    def add_all(self, where: tuple[str, str], before: int, around: int, outer: Key) -> None:
         """Adds the builds that ran inside a task, one after the other."""
-        for number in inner.get(where, ()):
+        for number in self.inner.get(where, ()):
             first = len(self.tasks)
-            self.add(inner, number, before, around, outer)
+            self.add(number, before, around, outer)
             before |= (1 << len(self.tasks)) - (1 << first)
 
-    def add(self, inner: Mapping[tuple[str, str], list[str]], number: str, before: int, around: int, outer: Key) -> None:
+    def add(self, number: str, before: int, around: int, outer: Key) -> None:
         """Adds the tasks of a build. `before`, `around`: what is so for all of them; `outer`: the recipe inside which it runs."""
         about, count = self.builds[number], 0
         while (outer, about["folder"], about["round"], count) in self.known:
@@ -80,54 +76,57 @@ class Graph:
             earlier = before
             for one in row["after"]:
                 earlier |= ended[one]
-            key, is_recipe = self.key_of(number, label, outer), about["labels"].get(label, {}).get("kind") == "recipe"
+            key, is_recipe = self.key_of(number, label, outer), self.about(number, label).get("kind") == "recipe"
             self.tasks.append(Task(number, label, key if is_recipe else None, earlier, around))
             self.at[number, label] = at
             if key is not None and is_recipe:
                 self.keys[key] = at
-            self.add_all(inner, (number, label), earlier, around | 1 << at, key or outer)
+            self.add_all((number, label), earlier, around | 1 << at, key or outer)
             ended[label] = earlier | (1 << len(self.tasks)) - (1 << at)
 
     def key_of(self, number: str, label: str, outer: Key) -> Optional[Key]:
         """The recipe of a label, or of a part of one, as the gate knows it; all rules with two colons of one target are one recipe there."""
-        build = self.builds[number]
-        found = build["labels"].get(label, {})
+        found = self.about(number, label)
         if found.get("kind") not in ("recipe", "part") or found.get("colons", 0) > 1:
             return None
-        folder, name, count = build["folder"], found.get("sum") or found["target"], 1
+        folder, name, count = self.builds[number]["folder"], found.get("sum") or found["target"], 1
         while (*outer, (folder, name, count)) in self.keys:
             count += 1
         return (*outer, (folder, name, count - 1 if found.get("left") and count > 1 else count))
 
     def recipe_of(self, number: str, label: str) -> int:
         """The task that stands for the whole recipe of a task: it begins when the first part does."""
-        labels = self.builds[number]["labels"]
-        found = labels.get(label, {})
+        labels, found = self.builds[number]["labels"], self.about(number, label)
         if found.get("kind") != "part":
             return self.at[number, label]
         return next((self.at[number, other] for other, one in labels.items() if one["kind"] == "recipe" and one["target"] == found["target"]), self.at[number, label])
 
-    def left_by(self, number: str, label: str) -> set[str]:
-        """What a task of a build writes."""
-        own: Sequence[str] = self.row_of.get((number, label), {"writes": ()})["writes"]
-        return {self.whole(number, path) for path in (*own, *self.builds[number]["labels"].get(label, {}).get("leaves", ()))}
+    def leaves(self) -> set[str]:
+        """All that recipes leave."""
+        return {self.whole(number, path) for number, build in self.builds.items()
+                for some in (*(row["writes"] for row in self.rows[number]), *(about.get("leaves", ()) for about in build["labels"].values())) for path in some}
 
     def whole(self, number: str, path: str) -> str:
         """A path of a build, from the root on."""
         return path if path.startswith("/") else "%s/%s" % (self.builds[number]["folder"].rstrip("/"), path)
 
-    @cached_property
-    def row_of(self) -> dict[tuple[str, str], dict[str, Any]]:
-        """The line of each task, by its build and label."""
-        return {(number, row["task"]): row for number, rows in self.rows.items() for row in rows}
+    def held(self, after: Mapping[Key, set[Key]]) -> list[int]:
+        """For each task those that have begun before it in every build. `after`: which recipe waits for which besides, each with what runs inside of it."""
+        whole = {key: sum(1 << at for at in self.inside(self.keys[key])) for some in after.values() for key in some if key in self.keys}
+        found: list[int] = []
+        for at, task in enumerate(self.tasks):
+            need = task.before | task.around
+            for recipe in (*numbers(task.around), at) if after else ():
+                for key in after.get(self.tasks[recipe].key or (), ()):
+                    need |= whole.get(key, 0)
+            for other in numbers(need) if after else ():
+                need |= found[other]
+            found.append(need)
+        return found
 
     def apart(self, after: Mapping[Key, set[Key]]) -> list[int]:
-        """For each recipe the earlier ones that nothing orders with it. `after`: which waits for which besides."""
-        found = [*self.free]
-        for late, early in after.items():
-            if late in self.keys:
-                found[self.keys[late]] &= ~self.bits(self.keys[key] for key in early if key in self.keys)
-        return found
+        """For each recipe the earlier ones that nothing orders with it."""
+        return without(self.free, self.held(after))
 
     def is_free(self, one: int, other: int) -> bool:
         """Whether two tasks are recipes that nothing orders."""
@@ -151,52 +150,34 @@ class Graph:
                 found[at] = left & self.free[at]
         return found
 
-    def behind(self, left: Sequence[int], began: Sequence[Key]) -> list[int]:
-        """Those of some pairs that a build ran in the order of the serial one, too."""
-        return [some & ~earlier for some, earlier in zip(left, self.turned(began))]
-
-    def flipped(self) -> dict[Key, float]:
-        """Always the last ready recipe of the serial order."""
-        return {key: float(at) for key, at in self.keys.items()}
-
-    def covering(self, left: Sequence[int]) -> dict[Key, float]:
-        """An order that turns round as many of some pairs as it can, and at least the first of them."""
+    def covering(self, left: Sequence[int], after: Mapping[Key, set[Key]]) -> tuple[dict[Key, float], dict[Key, set[Key]]]:
+        """An order that turns round many of some pairs; and which recipe waits for which so that these keep it where others run side by side."""
         score = [0] * len(self.tasks)
         for first, second in pairs_of(left):
             score[second] += 1
             score[first] -= 1
-        found = self.ordered(score)
-        if self.behind(left, sorted(found, key=lambda key: -found[key])) == left:
-            _, first = next(pairs_of(left))
-            found = self.ordered([int((self.tasks[first].before | 1 << first) >> task & 1) for task in range(len(self.tasks))])
-        return found
-
-    def kept_apart(self, left: Sequence[int], places: Mapping[Key, float]) -> dict[Key, set[Key]]:
-        """Which recipe waits for which so that some pairs keep an order, where others run side by side."""
-        after: dict[Key, set[Key]] = {}
+        order: list[int] = []
+        held, done = self.held(after), 0
+        for wanted in self.wanted(score):
+            order += numbers((held[wanted] | 1 << wanted) & ~done)
+            done |= held[wanted] | 1 << wanted
+        place, apart = {at: place for place, at in enumerate(order)}, dict[Key, set[Key]]()
         for pair in pairs_of(left):
-            late, early = sorted((key for at in pair for key in [self.tasks[at].key] if key is not None), key=lambda key: places[key])
-            after.setdefault(late, set()).add(early)
-        return after
+            early, late = (self.tasks[at].key or () for at in sorted(pair, key=place.__getitem__))
+            apart.setdefault(late, set()).add(early)
+        return self.places(order), apart
 
-    def ordered(self, score: Sequence[int]) -> dict[Key, float]:
-        """The places of all recipes in such an order."""
-        return placed([self.tasks[task].key for task in self.schedule(score)])
-
-    def schedule(self, score: Sequence[int]) -> list[int]:
-        """An order of all tasks that the record allows: of those that are ready the one that is wanted most, or that one waits for which is."""
+    def wanted(self, score: Sequence[int]) -> list[int]:
+        """The tasks: always that one first which is wanted most, or for which such a one waits."""
         best = list(score)
         for at in reversed(range(len(self.tasks))):
             for other in numbers(self.tasks[at].before) if best[at] > 0 else ():
                 best[other] = max(best[other], best[at])
-        left, done, order = set(range(len(self.tasks))), 0, []
-        while left:
-            ready = [at for at in left if not (self.tasks[at].before | self.tasks[at].around) & ~done]
-            pick = max(ready, key=lambda at: (self.tasks[at].key is None, best[at], score[at], at))
-            left.remove(pick)
-            done |= 1 << pick
-            order.append(pick)
-        return order
+        return sorted(range(len(best)), key=lambda at: (best[at], score[at], at), reverse=True)
+
+    def places(self, order: Sequence[int]) -> dict[Key, float]:
+        """The places of recipes that are to begin in this order."""
+        return placed([self.tasks[at].key for at in order])
 
     def users_first(self) -> Optional[dict[Key, float]]:
         """An order in which who uses a name, or lists a folder, begins before the several that make it; nothing where there is none."""
@@ -205,11 +186,11 @@ class Graph:
             makers: dict[str, set[int]] = {}
             users: dict[str, set[int]] = {}
             for row in rows:
-                label, at = row["task"], self.at[number, row["task"]]
-                for path in self.left_by(number, label):
+                at, about = self.at[number, row["task"]], self.about(number, row["task"])
+                for path in (self.whole(number, path) for path in (*row["writes"], *about.get("leaves", ()))):
                     makers.setdefault(file_of(path), set()).add(at)
                     makers.setdefault(os.path.dirname(path), set()).add(at)
-                for path in (*row["reads"], *self.builds[number]["labels"].get(label, {}).get("lists", ())):  # guard: who-lists-folder
+                for path in (*row["reads"], *about.get("lists", ())):  # guard: who-lists-folder
                     users.setdefault(file_of(self.whole(number, path)), set()).add(at)
             for path, who in makers.items():
                 others = {at for at in users.get(path, set()) - who if any(not self.is_ordered(at, one) for one in who)}
@@ -217,11 +198,7 @@ class Graph:
                     score[at] += len(who)
                 for at in who if len(who) > 1 else ():
                     score[at] -= len(others)
-        return self.ordered(score) if any(score) else None
-
-    def alone(self, pair: Pair) -> dict[Key, float]:
-        """The serial order, with the second of two tasks before the first, and what it needs before both."""
-        return placed([self.tasks[at].key for at in self.moved([*range(len(self.tasks))], *reversed(pair))])
+        return self.places(self.wanted(score)) if any(score) else None
 
     def beside(self, pairs: Sequence[Pair]) -> tuple[dict[Key, float], list[Pair]]:
         """An order in which the tasks of pairs run one right behind the other, what they need before both, and the pairs of which that is so: at least the last."""
@@ -229,7 +206,7 @@ class Graph:
         for pair in pairs:
             order = self.moved(order, *pair)
         at = {task: place for place, task in enumerate(order)}
-        return placed([self.tasks[task].key for task in order]), [(one, other) for one, other in pairs if at[other] - at[one] == len(self.inside(one))]
+        return self.places(order), [(one, other) for one, other in pairs if at[other] - at[one] == len(self.inside(one))]
 
     def inside(self, one: int) -> list[int]:
         """A task, and those that run inside of it."""
@@ -269,6 +246,11 @@ def numbers(bits: int) -> Iterator[int]:
         low = bits & -bits
         yield low.bit_length() - 1
         bits ^= low
+
+
+def without(sets: Sequence[int], others: Sequence[int]) -> list[int]:
+    """Each of some sets without another one."""
+    return [one & ~other for one, other in zip(sets, others)]
 
 
 def size(sets: Sequence[int]) -> int:

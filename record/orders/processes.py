@@ -6,6 +6,7 @@ import os
 import signal
 import time
 from collections.abc import Container, Iterator
+from contextlib import suppress
 from dataclasses import dataclass
 from pathlib import Path
 
@@ -14,12 +15,17 @@ STILL = 0.3  # seconds without a sign of life, behind which a process waits for 
 SLEEPS = ("nanosleep", "hrtimer_nanosleep", "do_nanosleep")  # a process that waits for a time to pass, and not for another one
 
 
+def shown(pid: int, name: str) -> str:
+    """What the kernel shows of a process; nothing where it has ended."""
+    try:
+        return Path("/proc", str(pid), name).read_text(errors="replace")
+    except OSError:
+        return ""
+
+
 def words_of(pid: int) -> list[str]:
     """The state of a process, its parent, and so on (proc(5), `stat` from its third word on); `X` where it has ended."""
-    try:
-        return Path("/proc", str(pid), "stat").read_text(errors="replace").rpartition(")")[2].split()
-    except OSError:
-        return ["X", "0"]
+    return shown(pid, "stat").rpartition(")")[2].split() or ["X", "0"]
 
 
 def parent_of(pid: int) -> int:
@@ -48,13 +54,10 @@ def folder_of(pid: int) -> str:
 
 def children_of(pid: int) -> list[int]:
     """The processes that a process, or a thread of it, started, and that it has not waited for."""
-    found: list[int] = []
     try:
-        for thread in os.listdir(f"/proc/{pid}/task"):
-            found += map(int, Path(f"/proc/{pid}/task/{thread}/children").read_text().split())
+        return [int(child) for thread in os.listdir(f"/proc/{pid}/task") for child in shown(pid, f"task/{thread}/children").split()]
     except OSError:
-        pass
-    return found
+        return []
 
 
 def below(root: int, but: Container[int] = ()) -> Iterator[int]:
@@ -67,58 +70,36 @@ def below(root: int, but: Container[int] = ()) -> Iterator[int]:
             rest += children_of(pid)
 
 
-def is_settled(pid: int, waiting: Container[int], seen: set[int]) -> bool:
-    """Whether a process waits at the gate, or for processes that all do; `seen` takes those that were looked at. One that sleeps and has no
-    process to wait for does something of its own."""
-    seen.add(pid)
-    if pid in waiting:
-        return True
-    if words_of(pid)[0] != "S":
-        return False
-    live = [one for one in children_of(pid) if one in waiting or words_of(one)[0] not in "ZX"]
-    return bool(live) and all([is_settled(one, waiting, seen) for one in live])  # guard: who-does-something-of-its-own
-
-
-def is_quiet(root: int, waiting: Container[int]) -> bool:
-    """Whether nothing happens in a build until the gate lets a recipe begin. It takes two looks: between them nothing was started."""
-    one: set[int] = set()
-    two: set[int] = set()
-    return is_settled(root, waiting, one) and is_settled(root, waiting, two) and one == two
-
-
-def shown(pid: int, name: str) -> str:
-    """What the kernel shows of a process; nothing where it has ended."""
-    try:
-        return Path("/proc", str(pid), name).read_text()
-    except OSError:
-        return ""
-
-
-def pulse(root: int, waiting: Container[int], held: Container[int]) -> list[tuple[int, str]] | None:
-    """How long each process of a build has run so far; nothing where one runs, or lets a time pass. Those that wait at the gate do neither, and have started
-    none; nor does one that is held by who traces it, and of those in `held` it is known."""
-    found = []
+def pulse(root: int, waiting: Container[int], held: Container[int]) -> tuple[bool, list[tuple[int, str]]] | None:
+    """Whether a process of a build does something of its own, as it sleeps and has none to wait for, and how long each has run so far; nothing where one runs, or
+    lets a time pass. Those that wait at the gate do neither, and have started none; nor does one that is held by who traces it, and of those in `held` it is known."""
+    found, has_own = [], False
     for pid in below(root, waiting):
-        if pid in held:
+        state = words_of(pid)[0]
+        if state in "ZX" or pid in held:
             continue
-        if words_of(pid)[0] not in "SZXt" or any(one in shown(pid, "wchan") for one in SLEEPS):  # guard: who-is-held-by-a-tracer
+        if state not in "St" or any(one in shown(pid, "wchan") for one in SLEEPS):  # guard: who-is-held-by-a-tracer
             return None
+        has_own |= state == "t" or not any(one in waiting or one not in held and words_of(one)[0] not in "ZX" for one in children_of(pid))  # guard: who-does-something-of-its-own
         found.append((pid, shown(pid, "schedstat")))
-    return sorted(found)
+    return has_own, found
 
 
 @dataclass
 class Stalled:
-    """Whether no process of a build has shown a sign of life for so long."""
+    """Whether nothing happens in a build until the gate lets a recipe begin: two looks at its processes are the same, and so for a while where one does something
+    of its own."""
 
-    last: tuple[object, float] = (None, 0.0)  # the last pulse, and since when it is the same
+    last: tuple[bool, list[tuple[int, str]]] | None = None  # the last pulse,
+    since: float = 0.0  # and since when it is the same
 
     def is_so(self, root: int, waiting: Container[int], held: Container[int] = ()) -> bool:
         """Looks again."""
         found, now = pulse(root, waiting, held), time.monotonic()
-        if found is None or found != self.last[0]:
-            self.last = (found, now)
-        return found is not None and now - self.last[1] > STILL
+        if found is None or found != self.last:
+            self.last, self.since = found, now
+            return False
+        return not found[0] or now - self.since > STILL
 
 
 def end(root: int) -> None:
@@ -127,11 +108,9 @@ def end(root: int) -> None:
     while time.monotonic() < until:
         session = [int(name) for name in os.listdir("/proc") if name.isdigit() and words_of(int(name))[3:4] == [str(root)]]
         left = [pid for pid in {*below(root), *session} if words_of(pid)[0] not in "ZX"]
-        for pid in left:
-            try:
-                os.kill(pid, signal.SIGKILL)
-            except OSError:
-                pass
         if not left:
             return
+        for pid in left:
+            with suppress(OSError):  # it has ended
+                os.kill(pid, signal.SIGKILL)
         time.sleep(0.002)

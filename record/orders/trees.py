@@ -17,8 +17,8 @@ UNCOMPARED = {".git", ".hg", ".svn"}  # folders of version control: builds may r
 CHUNK = 1 << 20
 
 
-class CannotCopy(Exception):
-    """A tree cannot be copied; the text says why."""
+class CannotTry(Exception):
+    """A project cannot be built in copies here; the text says why."""
 
 
 def copy(source: Path, to: Path) -> None:
@@ -27,7 +27,7 @@ def copy(source: Path, to: Path) -> None:
     done = subprocess.run(["cp", "-a", f"{source}/.", str(to)], capture_output=True, text=True, errors="replace", check=False)
     if done.returncode:
         said = " ".join(done.stderr.split("\n")[:2]).strip()
-        raise CannotCopy(f"the project cannot be copied: {said}. Where room is missing, set TMPDIR to a folder that has it")
+        raise CannotTry(f"the project cannot be copied: {said}. Where room is missing, set TMPDIR to a folder that has it")
 
 
 def remove(path: Path) -> None:

@@ -7,8 +7,9 @@ that folder or file, all stays as it is.
 import os
 import re
 from dataclasses import dataclass
-from typing import Dict, Iterator, List, Pattern, Sequence, Set
+from typing import Dict, Iterator, Pattern, Sequence, Set
 
+from record.commands.system import is_below
 from record.trace.events import ABSENT, MADE_BEFORE, MAKES, READ, SEEN
 from record.trace.lives import Life, Program
 
@@ -41,25 +42,20 @@ LOOKS = READ + SEEN + ABSENT + MAKES  # acts on a folder that mean no more than 
 def settle_caches(lives: Sequence[Life], tops: Sequence[str]) -> Iterator[str]:
     """Leaves out what such programs did in folders of their own; the words of each process that ran one."""
     for keeper in KEEPERS:
-        callers = {life: place for life in lives for place in starts_of(life, keeper, tops)}
+        callers = {life: one.place for life in lives for one in reversed(life.programs) if runs(one, keeper, tops)}  # where it began to run it first
         known = {one: place for life, start in callers.items() for one, place in below(life, start).items()}
         folders = own_folders(keeper, lives, known)
-        made = {path for life in known for kind, path in life.events if kind in MAKES and any(is_in(folder, path) for folder in folders)}
+        made = {path for life in known for kind, path in life.events if kind in MAKES and any(is_below(folder, path) for folder in folders)}
         for life in known if folders else ():
             leave_out(life, folders, made)
         yield from (" ".join(life.argv)[:60] for life in callers if folders or keeper is KEEPERS[0])
-
-
-def starts_of(life: Life, keeper: Keeper, tops: Sequence[str]) -> List[int]:
-    """Where a process first began to run such a program, if it did."""
-    return [one.place for one in life.programs if runs(one, keeper, tops)][:1]
 
 
 def runs(program: Program, keeper: Keeper, tops: Sequence[str]) -> bool:
     """Whether a program is the one of that name, or was called by it. One of the project is not known to be it."""
     is_named = any(keeper.programs.fullmatch(os.path.basename(name)) for name in (program.file, program.name))
     words = " ".join([os.path.basename(program.name), *program.argv[1:]])
-    return is_named and keeper.words.match(words) is not None and not any(is_in(program.file, top) for top in tops)  # guard: ccache-of-project
+    return is_named and keeper.words.match(words) is not None and not any(is_below(program.file, top) for top in tops)  # guard: ccache-of-project
 
 
 def below(life: Life, place: int) -> Dict[Life, int]:
@@ -79,18 +75,13 @@ def own_folders(keeper: Keeper, lives: Sequence[Life], known: Dict[Life, int]) -
     folders = {next(filter(None, match.groups())) for match in matches}
     for life in lives if folders else ():
         others = [path for (_, path), place in life.events.items() if life not in known or place < known[life]]  # guard: who-else
-        folders = {folder for folder in folders if not any(is_in(path, folder) for path in others)}
+        folders = {folder for folder in folders if not any(is_below(path, folder) for path in others)}
     return folders
-
-
-def is_in(path: str, folder: str) -> bool:
-    """Whether a path is a folder or below it."""
-    return path.startswith(folder) and path[len(folder):len(folder) + 1] in ("", "/")
 
 
 def leave_out(life: Life, folders: Set[str], made: Set[str]) -> None:
     """Takes out what a process did in these folders. Each that is there makes them, and those above, if they are not there."""
-    within = [(kind, path) for kind, path in life.events if any(is_in(path, folder) for folder in folders)]  # guard: files
+    within = [(kind, path) for kind, path in life.events if any(is_below(path, folder) for folder in folders)]  # guard: files
     first = min((life.events[event] for event in within), default=0)
     for kind, path in within:
         if path.rstrip("/") not in made or kind in LOOKS:  # guard: name-of-folder

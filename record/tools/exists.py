@@ -6,8 +6,7 @@ or whether all do, where nothing compares the age of the file.
 
 import os
 import re
-from dataclasses import dataclass
-from typing import Dict, Iterable, List, Optional, Set, Tuple
+from typing import Dict, Iterable, List, Set, Tuple
 
 from record.build.work import Work
 from record.make.database import Base
@@ -21,47 +20,36 @@ TOUCHES = ["-MExtUtils::Command", "-e", "touch", "--"]
 LINE = re.compile(r"\s*\$\(NOECHO\) \$\((?:MKPATH|CHMOD|TOUCH)\) (?:\$\(PERM_DIR\) )?\$\(\w+\)(?:\$\(DFSEP\)\.exists)?\s*")
 
 
-@dataclass
-class Markers:
-    """The files that are left out, and when each make looked at one."""
-
-    paths: Set[str]
-    looks: Dict[Tuple[int, str], int]  # by id of the make's life, and path
+Looks = Dict[Tuple[int, str], int]  # when a make looked at such a file, by id of its life, and path
 
 
-def settle_exists(lives: List[Life], logs: Iterable[Words]) -> Markers:
-    """Leaves out such files, and says which they are."""
+def settle_exists(lives: List[Life], logs: Iterable[Words]) -> Tuple[Set[str], Looks]:
+    """Leaves out such files, and says which they are, and when each make looked at one."""
     users: Dict[str, List[Life]] = {}
-    for life in lives:
-        for _, path in life.events:
-            if path.endswith(NAME) and os.path.basename(path) == NAME:
-                users.setdefault(path, []).append(life)
+    for life, path in ((life, path) for life in lives for _, path in life.events if path.endswith("/" + NAME)):
+        users.setdefault(path, []).append(life)
     bases = [one.base for words in logs for one in words.rounds if one.base is not None] if users else []
     listed = {os.path.dirname(path) for path in users} & {path for life in lives if users for kind, path in life.events if kind == LISTED}
     plain = {path for path in users if os.path.dirname(path) not in listed and all(is_plain(base, path) for base in bases)}  # guard: folders-that-are-listed
     found = {path for path in plain if all(is_marker(life, path) for life in users[path])}
-    looks: Dict[Tuple[int, str], int] = {}
+    looks: Looks = {}
     for life in lives if found else ():
         for key in [key for key in life.events if key[1] in found]:
             looks[id(life), key[1]] = min(life.events.pop(key), looks.get((id(life), key[1]), 1 << 60))
-    return Markers(found, looks)
+    return found, looks
 
 
-def credit_makes(owners: Owners, markers: Markers) -> None:
+def credit_makes(owners: Owners, paths: Set[str], looks: Looks) -> None:
     """A make that found such a file would have made its folder: it counts as one that does, if its recipes there wait for that rule."""
-    for make in owners.makes if markers.paths else ():
+    for make in owners.makes if paths else ():
         for one in make.words.rounds:
             for name in [name for name in one.nodes if name.endswith(NAME) and name not in one.must]:
-                path = next((path for path in markers.paths if is_name(name, path)), "")
-                place, folder = markers.looks.get((id(make.life), path), -1), os.path.dirname(path)
-                if place >= 0 and all(name in one.below(job.target) for job in one.jobs if is_used(make.work.get(id(job)), folder)):  # guard: who-waits-for-rule
+                path = next((path for path in paths if is_name(name, path)), "")
+                place, folder = looks.get((id(make.life), path), -1), os.path.dirname(path)
+                users = [job for job in one.jobs if any(used.startswith(folder + "/") for _, used in make.work.get(id(job), Work()).events)]
+                if place >= 0 and all(name in one.below(job.target) for job in users):  # guard: who-waits-for-rule
                     for work in (work for above in owners.makes for work in above.work.values() if make in work.makes):
                         work.add(MADE_BEFORE, folder, place)
-
-
-def is_used(work: Optional[Work], folder: str) -> bool:
-    """Whether a recipe does something in a folder."""
-    return work is not None and any(path.startswith(folder + "/") for _, path in work.events)
 
 
 def is_marker(life: Life, path: str) -> bool:

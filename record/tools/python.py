@@ -4,6 +4,7 @@ import os
 import re
 from typing import Iterator, List, Sequence, Set, Tuple
 
+from record.commands.system import is_below
 from record.trace.events import ABSENT, BY_LIST, MADE, MADE_BEFORE, READ, SEEN
 from record.trace.lives import Life
 
@@ -23,15 +24,12 @@ def settle(lives: List[Life], tops: Sequence[str] = ()) -> Iterator[Tuple[str, s
     known = [life for life in lives if is_python(life)]
     others = {cache_of(path) for life in lives if not is_python(life) for _, path in life.events if CACHE in path}
     for life in known:
-        names = [path for _, path in life.events if CACHE in path and cache_of(path) not in others and not is_of_system(path, tops)]  # guard: byte-code-of-system
+        names = (path for _, path in life.events if CACHE in path and cache_of(path) not in others)
+        names = (path for path in names if not path.startswith(("/usr/", "/lib")) or any(is_below(path, top) for top in tops))  # no recipe writes that of the system  # guard: byte-code-of-system
+        first = next(names, "")
         settle_code(life, others)
-        if names:
-            yield "bytecode", "%s: %s" % (" ".join(life.argv)[:60], names[0])
-
-
-def is_of_system(path: str, tops: Sequence[str]) -> bool:
-    """Whether byte code came with the system: no recipe writes it."""
-    return path.startswith(("/usr/", "/lib")) and not any(path.startswith(top.rstrip("/") + "/") for top in tops)
+        if first:
+            yield "bytecode", "%s: %s" % (" ".join(life.argv)[:60], first)
 
 
 def cache_of(path: str) -> str:

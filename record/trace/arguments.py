@@ -8,7 +8,6 @@ from record.trace.strace import MAKES_PROCESS, Call, first_text, folders, read_t
 
 WRITING = re.compile(r"O_WRONLY|O_RDWR|O_TRUNC|O_CREAT")
 STARTS = {"execve", *MAKES_PROCESS}  # of these nobody asks for a path here
-NO_PATH = re.compile(r"(?:AT_FDCWD|\d+)<(?:[^<>\\]|\\.)*>(?:\(deleted\))?, NULL, ")  # `setxattrat(3</w/x>, NULL, AT_EMPTY_PATH, "user.a", ..`: another text comes behind
 TEXT_END = re.compile(r'^.*"(?:[^"\\]|\\.)*"', re.S)
 
 
@@ -37,7 +36,7 @@ class Opening(NamedTuple):
 @remembered
 def spelled(args: str) -> Spelled:
     """What the arguments of an *at-call say of their first path."""
-    word = first_text(args) if NO_PATH.match(args) is None else None  # guard: open-files-without-name
+    word = first_text(args)
     where = folders(args.split('"', 1)[0])
     base = where[0] if where else ""
     folder = base if args.startswith("AT_FDCWD") else ""

@@ -24,13 +24,12 @@ from record.trace.strace import BARE, MAKES_PROCESS, Call, first_text, folders, 
 # Calls by what they do to the name that is their first path.
 LOOKS = {"stat", "lstat", "access", "getxattr", "lgetxattr", "listxattr", "llistxattr", "statfs", "newfstatat",
          "faccessat", "faccessat2", "name_to_handle_at", "statx", "fstatat64", "readlink", "readlinkat", "statfs64", "stat64", "lstat64",
-         "oldstat", "oldlstat", "getxattrat", "listxattrat", "file_getattr"}  # guard: old-names
+         "oldstat", "oldlstat"}  # guard: old-names
 NOFOLLOW = {"lstat", "lstat64", "oldlstat", "lgetxattr", "llistxattr", "readlink", "readlinkat", "unlink", "rmdir", "lchown", "lchown32", "lsetxattr",
             "lremovexattr"}
 CHANGES = {"chmod", "chown", "lchown", "utime", "utimes", "truncate", "setxattr", "lsetxattr", "removexattr", "lremovexattr", "fchmodat",  # guard: attributes-of-their-own
-           "fchmodat2", "fchownat", "utimensat", "futimesat", "fchmod", "fchown", "ftruncate", "fsetxattr", "fremovexattr",
-           "truncate64", "ftruncate64", "chown32", "lchown32", "fchown32", "utimensat_time64",  # guard: calls-of-32-bits
-           "setxattrat", "removexattrat", "file_setattr"}  # guard: new-names
+           "fchownat", "utimensat", "futimesat", "fchmod", "fchown", "ftruncate", "fsetxattr", "fremovexattr",
+           "truncate64", "ftruncate64", "chown32", "lchown32", "fchown32", "utimensat_time64"}  # guard: calls-of-32-bits
 TIMES = {"utime", "utimes", "utimensat", "futimesat", "utimensat_time64"}
 BY_NUMBER = {"fchmod", "fchown", "fchown32", "ftruncate", "ftruncate64", "fsetxattr", "fremovexattr"}  # by a descriptor alone
 NUMBERED = {*SIGNALS, *LIMITS, *WAITS, *WRITES, *NO_FILES, *TIMERS}  # calls whose first number is no descriptor  # guard: no-descriptors
@@ -72,17 +71,9 @@ class Calls(Started):
             self.put_look(life, found, call.error not in ("ENOENT", "ENOTDIR"), READ)
 
     def on_flock(self, life: Life, call: Call, ok: bool) -> None:
-        """Who waits for a lock does the same whoever has it; who does not wait, or not for ever, sees whether another has it."""
-        if ok and "LOCK_UN" not in call.args:
-            self.keep(life, HELD, "".join(folders(call.args)[:1]))
-        waits = "LOCK_NB" not in call.args and not life.has_timer  # guard: for-while
-        if not (ok and (waits or "LOCK_UN" in call.args)):
-            path = "".join(folders(call.args)[:1])
-            self.locks.append("%s locks %s" % (" ".join(life.argv)[:60], path))  # guard: said
-            if (LOCKED, path) in life.events:
-                self.put(life, WRITTEN, path)  # guard: files-of-locks-that-others-may-have
-        elif "LOCK_UN" not in call.args:
-            self.wait_for_lock(life, call)
+        """A file is locked as a whole."""
+        if "LOCK_UN" not in call.args:
+            self.lock(life, call, ok, "LOCK_NB" not in call.args)
 
     def base_and_path(self, life: Life, call: Call) -> Tuple[str, str]:
         """The folder that the first path of an *at-call starts from, and the path."""
@@ -161,15 +152,13 @@ class Calls(Started):
             self.put_look(life, found, True, SEEN if is_folder else READ)
 
     def fail_to_open(self, life: Life, call: Call, asked: Opening) -> None:
-        """Nothing was opened: the process sees that something has the name, or that nothing has it. Who wants to create a file sees also which folder is absent."""
+        """Nothing was opened: the process sees that something has the name, or that nothing has it, and which folder is absent."""
         if call.error == "ENOTDIR" and "O_DIRECTORY" in asked.flags:  # guard: folders-in-pattern-files
             return  # it looks for folders, and finds a file, as a shell does for `*/x`
         found = self.found(life, asked.path, asked.follow, asked.base)
         self.put_look(life, found, call.error in THERE, SEEN)
         if call.error == "EEXIST":
             self.put(life, REFUSED, found.path)  # guard: files-that-could-not-be-made
-        if (asked.changes or call.name == "creat") and call.error == "ENOENT" and found.missing != found.path:
-            self.put(life, ABSENT, found.missing)
 
     def open_to_write(self, life: Life, found: Found, flags: str, is_creat: bool) -> None:
         """A file was opened to change it: what it held may be read too, unless it is emptied, or written alone."""
@@ -189,7 +178,7 @@ class Calls(Started):
     def note_watcher(self, life: Life, path: str) -> None:
         """What the kernel shows of another process, or of all of them."""
         match = OF_PROCESS.match(path)
-        if match is not None and not life.is_make and match.group(1) not in {str(one.pid) for one in life.threads or (life,)}:
+        if match is not None and not life.is_make and match.group(1) not in {str(one.pid) for one in life.course.lives}:
             self.watchers.append(" ".join(life.argv)[:100])
 
     def on_watch(self, life: Life, call: Call, ok: bool) -> None:
@@ -224,9 +213,7 @@ class Calls(Started):
             if found.inode is None or found.inode.kind != "d":  # guard: whose-name-file
                 self.put_look(life, found, True, SEEN)  # a file, or a link, has the name
         else:
-            self.look(life, path, False, False, base=base)
-            if found.missing:
-                self.put(life, ABSENT, found.missing)
+            self.put_look(life, found, False, SEEN)
 
     def on_mknod(self, life: Life, call: Call, ok: bool) -> None:
         """A file, a pipe with a name or a device is made: it counts as a file that is written. Who opens such a pipe waits for the other end."""

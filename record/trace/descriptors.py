@@ -3,8 +3,8 @@
 import re
 from typing import Set
 
-from record.trace.classes import HIDING, LEFT_OUT, NO_FILES, SHARING, UNFOLLOWED, WRITES, named
-from record.trace.events import HELD, OUTPUT
+from record.trace.classes import HIDING, LEFT_OUT, NO_FILES, SHARING, UNFOLLOWED, WRITES
+from record.trace.events import HELD, LOCKED, OUTPUT, WRITTEN
 from record.trace.lives import Life
 from record.trace.processes import Processes
 from record.trace.replay import DEVICES
@@ -19,9 +19,7 @@ READING = set("""FIOCLEX FIONCLEX FIONBIO FIOASYNC FIONREAD FIOQSIZE FIGETBSZ FI
 # Requests that change a file, as `chmod` does, or what may be done with it (`chattr`).
 CHANGING = set("""FS_IOC_SETFLAGS FS_IOC32_SETFLAGS FS_IOC_SETVERSION FS_IOC32_SETVERSION FS_IOC_FSSETXATTR FS_IOC_ENABLE_VERITY FS_IOC_SET_ENCRYPTION_POLICY
     FAT_IOCTL_SET_ATTRIBUTES""".split())
-NO_WAIT = re.compile(r", F_(?:OFD_)?(?:GETLK|SETLK)(?:64)?, (?!\{l_type=F_UNLCK)")  # a lock that is asked for and not waited for  # guard: not-where-they-are-given-back
-TAKES_LOCK = re.compile(r", F_(?:OFD_)?SETLKW?(?:64)?, (?!\{l_type=F_UNLCK)")
-WAITS = re.compile(r", F_(?:OFD_)?SETLKW(?:64)?, (?!\{l_type=F_UNLCK)")  # one that is waited for
+LOCK = re.compile(r", F_(?:OFD_)?(GETLK|SETLKW?)(?:64)?, (?!\{l_type=F_UNLCK)")  # a lock that is asked for, taken, or waited for  # guard: not-where-they-are-given-back
 NUMBER_FIRST = re.compile(r"\d+")
 NUMBERS = re.compile(r"[\[ ](\d+)<")  # of `pipe2([3<pipe:[7]>, 4<pipe:[7]>], 0)`
 FROM_TO = re.compile(r"(?:^|, )(\d+)<(?:[^<>\\]|\\.)*>")  # the descriptors of a copy
@@ -41,13 +39,10 @@ class Opened(Processes):
     """Calls about open files and sockets, and those that become a hole."""
 
     def on_fcntl(self, life: Life, call: Call, ok: bool) -> None:
-        """Locks that are not waited for, and leases, by which a process sees that another one opens a file."""
-        if ok and TAKES_LOCK.search(call.args):
-            self.keep(life, HELD, "".join(folders(call.args)[:1]))
-        if NO_WAIT.search(call.args):  # guard: said
-            self.locks.append("%s locks %s" % (" ".join(life.argv)[:60], "".join(folders(call.args)[:1])))
-        elif ok and WAITS.search(call.args):
-            self.wait_for_lock(life, call)
+        """Locks, and leases, by which a process sees that another one opens a file."""
+        lock = LOCK.search(call.args)
+        if lock is not None:
+            self.lock(life, call, ok and lock[1] != "GETLK", lock[1] == "SETLKW")
         elif ok and LEASE.search(call.args):  # guard: leases-said
             self.watchers.append(" ".join(life.argv)[:100])
         elif ok and ", F_DUPFD" in call.args:
@@ -83,13 +78,21 @@ class Opened(Processes):
         for number in [call.result] if call.name in NO_FILES else map(int, NUMBERS.findall(call.args)) if life.course.files else ():
             life.course.files.pop(number, None)  # guard: numbers-of-pipes
 
-    def wait_for_lock(self, life: Life, call: Call) -> None:
-        """Whose recipe has taken another lock may wait for ever, where a second recipe takes the two in another order."""
-        path = "".join(folders(call.args)[:1])
+    def lock(self, life: Life, call: Call, is_taken: bool, waits: bool) -> None:
+        """Who waits for a lock does the same whoever has it; who does not wait, or not for ever, sees whether another has it. Whose recipe has taken another
+        lock may wait for ever, where a second recipe takes the two in another order."""
+        path, text = "".join(folders(call.args)[:1]), " ".join(life.argv)[:60]
         recipe = next(one for one in life.up() if one.parent is None or one.parent.is_make or one.parent.is_ninja)
         taken = self.taken.setdefault(id(recipe), [])
+        if is_taken:
+            self.keep(life, HELD, path)
+        if not is_taken or not waits or life.has_timer:  # guard: for-while
+            self.locks.append("%s locks %s" % (text, path))  # guard: said
+            if (LOCKED, path) in life.events:
+                self.put(life, WRITTEN, path)  # guard: files-of-locks-that-others-may-have
+            return
         if any(other != path for other in taken):  # guard: two-locks-of-one-recipe
-            self.locks.append("%s locks %s, and its recipe has locked %s" % (" ".join(life.argv)[:60], path, taken[0]))
+            self.locks.append("%s locks %s, and its recipe has locked %s" % (text, path, taken[0]))
         taken.append(path)
 
     def note_stand_in(self, life: Life, path: str) -> None:
@@ -105,13 +108,12 @@ class Opened(Processes):
 
     def note_unfollowed(self, life: Life, call: Call) -> None:
         """A call without a handler. One that the kernel does not have did nothing, nor did one that is known and failed."""
-        name = named(call.name)
-        if name in LEFT_OUT or call.error == "ENOSYS" or call.error and name in HIDING | SHARING | UNFOLLOWED:  # guard: not-where-kernel-has-none
+        if call.name in LEFT_OUT or call.error == "ENOSYS" or call.error and call.name in HIDING | SHARING | UNFOLLOWED:  # guard: not-where-kernel-has-none
             return
-        if name in HIDING:
-            self.holes.append("files that are opened after %s are not seen: %s" % (name, " ".join(life.argv)[:100]))
+        if call.name in HIDING:
+            self.holes.append("files that are opened after %s are not seen: %s" % (call.name, " ".join(life.argv)[:100]))
         else:
-            self.put_unfollowed(life, name)  # guard: hole
+            self.put_unfollowed(life, call.name)  # guard: hole
 
     def put_unfollowed(self, life: Life, what: str) -> None:
         """Nobody knows what a call did to files."""

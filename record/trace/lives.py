@@ -67,7 +67,7 @@ class Life:
     has_timer: bool = False
     is_heir: bool = False  # it was seen before the call that started it was finished, and has its folder from who began that call
     children: List["Life"] = field(default_factory=list)
-    threads: List["Life"] = field(default_factory=list)  # those that change their folder together, with this one
+    is_apart: bool = False  # a thread that has a folder of its own
     handle: Tuple[int, str] = (-1, "")  # the descriptor that it got last, and what stands behind it, where that only stands for a name
     begun: int = 0  # where the program began that runs now
     programs: List[Program] = field(default_factory=list)  # all that it ran itself
@@ -77,21 +77,11 @@ class Life:
         """How it went: of a thread how its process did."""
         return Course(self)
 
-    def join_threads(self, other: "Life") -> None:
-        """Another life is a thread of this one."""
-        self.threads = other.threads = self.threads or [self]
-        self.threads.append(other)
-
-    def leave_threads(self) -> None:
-        """Has a folder of its own from now on."""
-        for life in self.threads:
-            life.threads = [other for other in self.threads if other is not self]
-        self.threads = []
-
     def enter(self, folder: str) -> None:
         """Changes the folder, that of all threads with it."""
-        for life in self.threads or (self,):
-            life.folder = folder
+        for life in self.course.lives:
+            if life is self or not (life.is_apart or self.is_apart):  # guard: threads-change-their-folder-together
+                life.folder = folder
 
     def up(self) -> Iterable["Life"]:
         """This life, its parent, and so on."""

@@ -53,7 +53,6 @@ class Moves(Replay):
                 self.put(life, REMOVED, old.path + name)
                 self.put(life, CREATED, new.path + name)
                 self.put(life, WRITTEN, new.path + name)
-                self.names.links.update([new.path + name] if child.kind == "l" else ())  # guard: links-that-move
                 if child.kind == "d":
                     self.move_folder(life, old.path + name, new.path + name)  # guard: those-below
         self.names.put(new.folder, new.name, inode)  # guard: new-name-holds-file
@@ -74,12 +73,7 @@ class Moves(Replay):
         if not ok:
             self.put_absent(life, new, SEEN if call.error == "EEXIST" else ABSENT)  # guard: links
             return
-        inode = old.inode or Inode("f")
-        self.fresh.add(new.path)
-        self.put(life, CREATED, new.path)
-        self.put(life, WRITTEN, new.path)
-        if new.folder is not None:
-            self.names.put(new.folder, new.name, inode)
+        self.give(life, new, old.inode or Inode("f"))
         self.hard_links.append(new.path)
 
     def on_symlink(self, life: Life, call: Call, ok: bool) -> None:
@@ -93,8 +87,12 @@ class Moves(Replay):
             return
         if not where and BARE.search(TEXT.sub('""', call.args)):  # guard: folder-of-link
             self.put_bare(life, call)
+        self.give(life, found, Inode("l", words[0]))
+
+    def give(self, life: Life, found: Found, inode: Inode) -> None:
+        """A file, or a link, gets a name that was absent."""
         self.fresh.add(found.path)
         self.put(life, CREATED, found.path)
         self.put(life, WRITTEN, found.path)
         if found.folder is not None:
-            self.names.put(found.folder, found.name, Inode("l", words[0]))
+            self.names.put(found.folder, found.name, inode)

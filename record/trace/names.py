@@ -8,7 +8,6 @@ import errno
 import os
 import re
 import stat
-from dataclasses import dataclass, field
 from pathlib import Path
 from typing import Dict, Iterable, Iterator, List, Optional, Sequence, Set, Tuple
 
@@ -57,14 +56,6 @@ def mounts_below(*tops: str) -> List[str]:
     return sorted(path for path in found if (path + "/").startswith(tuple(top.rstrip("/") + "/" for top in tops)))
 
 
-def number_of(path: str) -> Tuple[str, Optional[os.stat_result]]:
-    """A file with its device and number; none where it is gone."""
-    try:
-        return path, machine.lstat(path)
-    except OSError:
-        return path, None
-
-
 def join(folder: str, name: str) -> str:
     """The path of a name in a folder."""
     return folder + name if folder.endswith("/") else folder + "/" + name
@@ -79,28 +70,15 @@ class Found:
         self.path, self.inode, self.folder, self.name, self.links, self.missing = path, inode, folder, name, links, missing
 
 
-@dataclass
-class Where:
-    """Where the spelling of a folder leads: the folder, its real path, the links on the way, the first name that is not there, and
-    which names the disk does not have in it."""
-
-    node: Optional[Inode]
-    path: str
-    links: Sequence[str]
-    missing: str
-    absent: Set[str] = field(default_factory=set)
-
-
 class Names:
     """The name space; see the module."""
 
     def __init__(self) -> None:
         self.root = Inode("d")
-        self.wheres: Dict[str, Where] = {}  # by spelling; they hold until a folder or a link comes or goes
+        self.wheres: Dict[str, Found] = {}  # where folders are, by spelling; they hold until a folder or a link comes or goes
         self.before: Dict[str, str] = {}
         self.tops: List[str] = []
         self.above = {"/tmp", "/var/tmp"}  # folders that are there before the build: those of the system, and those above the tops  # guard: those-of-system
-        self.links: Set[str] = set()  # names that were links at some time
         self.absent: Set[str] = set()  # names outside of the walked folders that were not there
         self.numbers: Dict[Tuple[int, int], str] = {}  # folders that were walked, by device and number
         self.twice: List[Tuple[str, str]] = []  # folders with two names, as far as numbers say so
@@ -165,13 +143,9 @@ class Names:
         return ["a path of the project is longer than 4,095 bytes, and cannot be looked at: below " + (path if len(path) < SHOWN else path[:SHOWN] + "..") for path in self.long]
 
     def mounted(self, mounts: Set[str]) -> List[str]:
-        """What is wrong with names of which a mount has made two."""
-        twice = [pair for pair in self.twice if not mounts.isdisjoint(pair)]  # guard: folders-with-two-names-by-mount
-        mounted = [path for path in sorted(mounts) if self.before.get(path) == "f"]
-        numbers = {(found.st_dev, found.st_ino): path for path, found in map(number_of, mounted) if found is not None}
-        others = (number_of(path) for path, kind in self.before.items() if numbers and kind == "f" and path not in mounts)
-        files = [(numbers[found.st_dev, found.st_ino], path) for path, found in others if found is not None and (found.st_dev, found.st_ino) in numbers]  # guard: files-with-two-names
-        return ["%s is mounted a second time, so its files have two names: %s and %s" % (what, *pair) for what, pairs in (("a folder", twice), ("a file", files)) for pair in pairs]
+        """What is wrong with names of which a mount has made two: the other name of a file may be anywhere."""
+        twice = ["a folder is mounted a second time, so its files have two names: %s and %s" % pair for pair in self.twice if not mounts.isdisjoint(pair)]  # guard: folders-with-two-names-by-mount
+        return twice + ["a file is mounted, so it has two names: " + path for path in sorted(mounts) if self.before.get(path) == "f"]  # guard: files-with-two-names
 
     def made_of(self, found: os.stat_result, path: str) -> Inode:
         """What the disk has, as a node of the model: one for all names of a file."""
@@ -215,8 +189,6 @@ class Names:
             child.parent, child.name = folder, name
         else:
             child.names.append((folder, name))
-        if child.kind == "l":
-            self.links.add(join(folder.path(), name))  # guard: links-for-while
 
     def take(self, folder: Inode, name: str) -> Optional[Inode]:
         """Takes a name away."""
@@ -249,33 +221,23 @@ class Names:
         if name in ("", ".", ".."):
             return self.walk_along(whole, follow or path.endswith("/"))
         where = self.wheres.get(spelled) or self.where(spelled)
-        node, here = where.node, join(where.path, name)
-        if node is None:
-            return Found(here, None, None, "", where.links, where.missing)
+        node, here = where.inode, join(where.path, name)
+        if node is None or node.kind != "d":
+            return Found(here, None, None, "", where.links, where.missing or where.path)
         child = node.entries.get(name)
         if child is None and not node.walked:
-            child = self.ask_once(where, node, name, here)
+            child = self.ask(node, name, here)
         if child is not None and follow and child.kind == "l":
             return self.walk_along(whole, True)
         return Found(here, child, node, name, where.links, "" if child else here)
 
-    def where(self, spelled: str) -> Where:
+    def where(self, spelled: str) -> Found:
         """Where the spelling of a folder leads. It is kept, but not where a file or a ring of links stands in the way."""
         found = self.walk_along(spelled, True)
-        node = found.inode if found.inode is not None and found.inode.kind == "d" else None
-        where = Where(node, found.path, found.links, found.missing or found.path)
-        if node is not None or self.walk_along(where.missing, False).inode is None:
-            self.wheres[spelled] = where
-        return where
-
-    def ask_once(self, where: Where, folder: Inode, name: str, path: str) -> Optional[Inode]:
-        """What the disk has under a name of a folder that was not walked; it is asked once for a name that is absent."""
-        if name in where.absent:
-            return None
-        child = self.ask(folder, name, path)
-        if child is None:
-            where.absent.add(name)
-        return child
+        is_folder = found.inode is not None and found.inode.kind == "d"
+        if is_folder or self.walk_along(found.missing or found.path, False).inode is None:
+            self.wheres[spelled] = found
+        return found
 
     def walk_along(self, path: str, follow: bool) -> Found:
         """Follows a path from the root, name by name."""

@@ -6,7 +6,7 @@ import stat
 from functools import lru_cache
 
 from record import machine
-from record.trace.lives import Life, Program
+from record.trace.lives import Life
 from record.trace.moves import Moves
 from record.trace.strace import Call
 
@@ -46,8 +46,10 @@ class Processes(Moves):
             self.sharing.discard(life.pid)
         if ok and "CLONE_UNTRACED" in call.args:  # guard: processes-that-run-unseen
             self.holes.append("a process runs unseen (CLONE_UNTRACED, as that of LeakSanitizer does): " + " ".join(life.argv)[:100])
+        elif ok and "CLONE_FS" in call.args and "CLONE_THREAD" not in call.args:  # guard: processes-in-one-folder
+            self.holes.append("two processes are in one folder at all times (CLONE_FS): " + " ".join(life.argv)[:100])
         elif ok and call.result > 0:
-            self.child(life, call.result, "CLONE_FS" in call.args, call.name + call.args)
+            self.child(life, call.result, call.name + call.args)
 
     def on_wait(self, life: Life, call: Call, ok: bool) -> None:
         """A process waits for the end of others: for one that it names, or for any child."""
@@ -104,9 +106,4 @@ class Processes(Moves):
     def on_unshare(self, life: Life, call: Call, ok: bool) -> None:
         """A thread that asks for a folder of its own, or for what includes that."""
         if ok and re.search(r"CLONE_(?:FS|NEWNS|NEWUSER)\b", call.args):
-            life.leave_threads()  # guard: folder-of-their-own
-
-    def begin_program(self, life: Life, name: str) -> None:
-        """What a process runs from now on. `name`: as who started it named it."""
-        life.course.run(self.place)
-        life.programs.append(Program(life.argv, self.place, name, life.program))
+            life.is_apart = True  # guard: folder-of-their-own

@@ -119,7 +119,7 @@ class Replay:
             life.died, life.has_failed = self.place, event.has_failed
             life.course.end_row(False)  # guard: waits-until-end
 
-    def child(self, parent: Life, pid: int, is_thread: bool, flags: str = "") -> None:
+    def child(self, parent: Life, pid: int, flags: str) -> None:
         """A process has started another, or a thread, which is in one folder with it at all times. `flags`: those of the call."""
         child = self.lives.get(pid)
         if child is None or child.adopted:
@@ -131,8 +131,6 @@ class Replay:
         child.parent, child.adopted = parent, True
         parent.children.append(child)
         self.place_course(parent.course, child, flags)
-        if is_thread:  # guard: threads-change-their-folder-together
-            parent.join_threads(child)
         for event in self.waiting.pop(pid, []):
             self.take(event)
 

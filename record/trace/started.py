@@ -12,7 +12,7 @@ from record import machine
 from record.commands import shelltext
 from record.trace.descriptors import Opened
 from record.trace.events import READ
-from record.trace.lives import Life
+from record.trace.lives import Life, Program
 from record.trace.names import Found, Names
 from record.trace.strace import Call, first_text, folders, is_cut, texts
 from record.watch.elf import NotElf
@@ -57,8 +57,9 @@ class Started(Opened):
         program = first_text(call.args) or "".join(folders(call.args)[:1])  # guard: programs-by-their-numbers
         if not program:
             return
-        if not ok:
-            self.fail_to_run(life, program, call.error)
+        if not ok:  # where the kernel does not know what kind of file it is, bash reads it itself, as a script
+            self.look(life, program, False, True)
+            self.look_at_interpreters(life, program)  # guard: interpreters
             return
         if call.name == "execveat" and CHECKS.search(call.args):  # guard: programs-that-are-not-run
             self.look(life, program, True, True, READ)
@@ -66,7 +67,8 @@ class Started(Opened):
         words = [program, *texts(call.args)[1:]]
         found = self.names.find(life.folder, words[0], True)
         self.take_words(life, call, words, found)
-        self.begin_program(life, (words[1:] or words)[0])
+        life.course.run(self.place)
+        life.programs.append(Program(life.argv, self.place, (words[1:] or words)[0], life.program))
         self.note_rights(life, found.path)
         is_real = self.is_real_make(found.path)
         life.is_make = is_real or life.is_make and life.number >= 0
@@ -103,11 +105,6 @@ class Started(Opened):
     def past(self) -> List[str]:
         """The makes that have not opened a file for what they say: they have no library."""
         return list(self.unheard.values())  # guard: makes-without-library
-
-    def fail_to_run(self, life: Life, program: str, error: str) -> None:
-        """A program did not start. Where the kernel does not know what kind of file it is, bash reads it itself, as a script."""
-        self.look(life, program, False, True)
-        self.look_at_interpreters(life, program)  # guard: interpreters
 
     def look_at_interpreters(self, life: Life, program: str) -> None:
         """The kernel reads the interpreter of a script by itself, and that of an interpreter which is a script; so it does with the loader of a program."""

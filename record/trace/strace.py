@@ -31,16 +31,6 @@ class Call(NamedTuple):
     opened: str = ""
 
 
-class Said(NamedTuple):
-    """What the text of a call says; no result where it never returned."""
-
-    name: str
-    args: str
-    result: Optional[int]
-    error: str
-    opened: str
-
-
 @dataclass(frozen=True)
 class Begun:
     """A call that creates a process has begun: the child may be seen before the call is finished."""
@@ -90,13 +80,13 @@ def remembered(function: Callable[[str], Answer]) -> Callable[[str], Answer]:
 
 
 @remembered
-def said(text: str) -> Optional[Said]:
-    """A call that stands in a text; None where it is none."""
+def said(text: str) -> Tuple[str, str, Optional[int], str, str]:
+    """What a text says of a call, in the order of `Call`; no name where it is none, and no result where it never returned."""
     call = CALL.match(text)
     if call is None:
-        return None
+        return "", "", None, "", ""
     name, args, result, opened, error = call.groups()
-    return Said(name, args, None if result == "?" else int(result, 16 if result.startswith("0x") else 10), error or "", unescape(opened or ""))
+    return name, args, None if result == "?" else int(result, 16 if result.startswith("0x") else 10), error or "", unescape(opened or "")
 
 
 def first_text(args: str) -> Optional[str]:
@@ -142,16 +132,16 @@ def read_trace(lines: Iterable[str]) -> Iterator[Event]:
             yield from events
             if not text or pid is None:
                 continue
-        call = said(text)
-        if call is None:
+        name, args, result, error, opened = said(text)
+        if not name:
             if not text.endswith("= ?"):  # guard: unreadable-call
                 yield Unread(line.strip())
-        elif call.result is not None:
-            yield Call(pid, *call)  # type: ignore[arg-type]
-        elif call.name in SLEEPS:  # guard: sleeps-that-signal-ends
-            yield Call(pid, call.name, call.args, -1, call.error)
-        elif call.name.startswith("open"):  # it waited for another process, as at a named pipe, until a signal came  # guard: opens-that-signal-ends
-            yield Call(pid, call.name, call.args, -1, "ENXIO")
+        elif result is not None:
+            yield Call(pid, name, args, result, error, opened)
+        elif name in SLEEPS:  # guard: sleeps-that-signal-ends
+            yield Call(pid, name, args, -1, error)
+        elif name.startswith("open"):  # it waited for another process, as at a named pipe, until a signal came  # guard: opens-that-signal-ends
+            yield Call(pid, name, args, -1, "ENXIO")
 
 
 def odd(line: str, pid: Optional[int], text: str, begun: Dict[int, str]) -> Tuple[List[Event], str]:

@@ -1,21 +1,16 @@
 """Calls that nobody can follow: a recorded build runs as on a kernel that does not have them.
 
-These are calls that are newer than strace, or than this recorder, and `io_uring_setup`. By its filter strace 6.1 passes over some numbers of which it
-knows no names, and what a program asks of io_uring is in its memory alone. So a filter in front of strace answers these as an older kernel
-does (ENOSYS), and programs go the older way, which is traced: such as CMake, whose loop of events asks for io_uring.
+These are calls that are newer than Linux 5.10, and `io_uring_setup`. By its filter strace passes over some numbers of which it knows no names, and what
+a program asks of io_uring is in its memory alone. So a filter in front of strace answers these as an older kernel does (ENOSYS), and programs go the
+older way, which is traced: such as CMake, whose loop of events asks for io_uring.
 """
 
 import ctypes
 import errno
 import platform
-import shutil
 import signal
 import struct
-import subprocess
-from functools import lru_cache
 from typing import Any
-
-from record.trace.classes import FIRST, NEWER
 
 # The kernel's numbers for machines whose new calls have the numbers of all others: the machine's own, and that of its 32 bits.
 MACHINES = {"x86_64": (0xC000003E, 0x40000003), "i686": (0x40000003,), "aarch64": (0xC00000B7, 0x40000028), "armv7l": (0x40000028,), "riscv64": (0xC00000F3,),
@@ -23,36 +18,15 @@ MACHINES = {"x86_64": (0xC000003E, 0x40000003), "i686": (0x40000003,), "aarch64"
 LOAD, IS, FROM, ANSWER = 0x20, 0x15, 0x35, 0x06  # of a filter: load a word, compare it, answer
 ALLOW, REFUSE = 0x7FFF0000, 0x00050000 | errno.ENOSYS
 OTHER = 0x40000000  # from here on numbers are those of another kind (x32)
-URING = 425  # io_uring_setup, on all of them
+URING, FIRST = 425, 441  # io_uring_setup, and the first call that is newer: these numbers are the same on most machines
 NO_NEW_RIGHTS, SECCOMP, FILTER = 38, 22, 2  # for prctl
 
 
-@lru_cache(maxsize=None)
-def knows(strace: str, name: str) -> bool:
-    """Whether this strace knows a name of a call."""
-    words = [strace, "-e", "trace=" + name, "-V"]
-    return subprocess.run(words, stdin=subprocess.DEVNULL, stdout=subprocess.DEVNULL, stderr=subprocess.DEVNULL, check=False).returncode == 0
-
-
-def is_known(number: int) -> bool:
-    """Whether strace knows a name of a call."""
-    return knows(shutil.which("strace") or "strace", NEWER[number])
-
-
-def first_unknown() -> int:
-    """The first number of a call of which strace, or this recorder, knows no name: it knows all before one that it knows."""
-    low, high = FIRST, FIRST + len(NEWER)
-    while low < high:
-        middle = (low + high) // 2
-        low, high = (middle + 1, high) if is_known(middle) else (low, middle)  # guard: this-strace
-    return low
-
-
-def filter_of(machine: str, first: int) -> bytes:
-    """The filter that refuses io_uring and the calls from a number on; empty for a machine that numbers calls in its own way."""
+def filter_of(machine: str) -> bytes:
+    """The filter that refuses these calls; empty for a machine that numbers calls in its own way."""
     kinds = MACHINES.get(machine, ())
     steps = [(LOAD, 0, 0, 4), *((IS, len(kinds) - at, 0, kind) for at, kind in enumerate(kinds)), (ANSWER, 0, 0, ALLOW)]
-    steps += [(LOAD, 0, 0, 0), (IS, 2, 0, URING), (FROM, 0, 2, first), (FROM, 1, 0, OTHER), (ANSWER, 0, 0, REFUSE), (ANSWER, 0, 0, ALLOW)]  # guard: io-uring
+    steps += [(LOAD, 0, 0, 0), (IS, 2, 0, URING), (FROM, 0, 2, FIRST), (FROM, 1, 0, OTHER), (ANSWER, 0, 0, REFUSE), (ANSWER, 0, 0, ALLOW)]  # guard: io-uring
     return b"".join(struct.pack("=HBBI", *step) for step in steps) if kinds else b""
 
 
@@ -60,7 +34,7 @@ class Older:
     """Makes the process that calls `enter`, and all that it starts, run as on a kernel without these calls."""
 
     def __init__(self) -> None:
-        self.text = filter_of(platform.machine(), first_unknown())
+        self.text = filter_of(platform.machine())
         self.prctl = ctypes.CDLL(None).prctl
 
     def enter(self, heard: Any) -> None:

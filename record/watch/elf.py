@@ -3,6 +3,7 @@
 import os
 import struct
 from dataclasses import dataclass
+from itertools import takewhile
 from typing import Dict, List, Sequence, Tuple
 
 LOAD, DYNAMIC, LOADER, NOTE, PROPERTY = 1, 2, 3, 4, 0x6474E553  # kinds of segments
@@ -38,38 +39,27 @@ class Program:
         self.data, self.is_long, order = data, data[4] == 2, "<" if data[5] == 1 else ">"
         self.word = order + ("qQ" if self.is_long else "iI")
         self.header = order + ("IIQQQQQQ" if self.is_long else "IIIIIIII")
+        self.fields = "kind flags offset address physical size memory align" if self.is_long else "kind offset address physical size memory flags align"
         self.table, = struct.unpack_from(order + ("Q" if self.is_long else "I"), data, 32 if self.is_long else 28)
         self.step, self.count = struct.unpack_from(order + "HH", data, 54 if self.is_long else 42)
         self.segments = [self.segment(at) for at in range(self.count)]
         self.dynamic = self.read_dynamic()
 
     def segment(self, at: int) -> Segment:
-        """One program header; flags stand in another place where words are short."""
-        found = struct.unpack_from(self.header, self.data, self.table + at * self.step)
-        if self.is_long:
-            return Segment(*found)
-        kind, offset, address, physical, size, memory, flags, align = found
-        return Segment(kind, flags, offset, address, physical, size, memory, align)
+        """One program header."""
+        return Segment(**dict(zip(self.fields.split(), struct.unpack_from(self.header, self.data, self.table + at * self.step))))
 
     def packed(self, one: Segment) -> bytes:
         """The same as bytes."""
-        if self.is_long:
-            return struct.pack(self.header, one.kind, one.flags, one.offset, one.address, one.physical, one.size, one.memory, one.align)
-        return struct.pack(self.header, one.kind, one.offset, one.address, one.physical, one.size, one.memory, one.flags, one.align)
+        return struct.pack(self.header, *(getattr(one, name) for name in self.fields.split()))
 
     def read_dynamic(self) -> List[Tuple[int, int]]:
         """The dynamic section: tags and values, without its end."""
-        found = [one for one in self.segments if one.kind == DYNAMIC]
-        if not found:
+        found = next((one for one in self.segments if one.kind == DYNAMIC), None)
+        if found is None:
             raise NotElf("it loads no libraries: it is linked statically")
-        size = struct.calcsize(self.word)
-        pairs: List[Tuple[int, int]] = []
-        for at in range(found[0].offset, found[0].offset + found[0].size, size):
-            tag, value = struct.unpack_from(self.word, self.data, at)
-            if tag == END:
-                break
-            pairs.append((tag, value))
-        return pairs
+        pairs = struct.iter_unpack(self.word, self.data[found.offset:found.offset + found.size])
+        return [(tag, value) for tag, value in takewhile(lambda pair: pair[0] != END, pairs)]
 
     def strings(self) -> bytes:
         """The names that it shows, or asks of libraries, each behind a zero byte."""
@@ -94,8 +84,7 @@ class Program:
         """A copy that loads a library, by its whole path, in front of all others. It has one more segment behind the others, with another
         dynamic section and another table of names; the place for it in the list of segments was that of a note, which nothing runs by."""
         strings = self.strings()
-        spare = next((at for at, one in enumerate(self.segments) if one.kind == NOTE), None)
-        spare = next((at for at, one in enumerate(self.segments) if one.kind == PROPERTY), None) if spare is None else spare
+        spare = next((at for kind in (NOTE, PROPERTY) for at, one in enumerate(self.segments) if one.kind == kind), None)
         if spare is None:
             raise NotElf("it has no room for one more segment")
         loads = [one for one in self.segments if one.kind == LOAD]

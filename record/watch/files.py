@@ -1,39 +1,26 @@
-"""The files in which each make says what it does (watch.c): how it was called, where its output leads, and its own lines behind that."""
+"""The files in which each make says what it does (watch.c): how it was called, and its own lines behind that."""
 
 import os
 import re
-import stat
 from dataclasses import dataclass, field
 from pathlib import Path
-from typing import Dict, Iterable, Iterator, List, NamedTuple, Set, TextIO, Tuple
+from typing import Dict, Iterable, Iterator, List, TextIO, Tuple
 
 ESCAPED = re.compile(r"\\([n\\])")
 HEAD = ("MAKE", "ARG", "ENV", "CWD", "OUT", "ASKS", "SAYS")
 PRINTS = ("db_level", "print_data_base_flag")  # flags of a make that prints its own words, and runs recipes all the same
 OWN_WORDS = "a make that prints its own words (-d, -p, --debug, --trace) cannot be seen: make %s"
 PUBLIC = {"PATH", "HOME", "PWD", "OLDPWD", "SHELL", "MAKEFLAGS", "MFLAGS", "GNUMAKEFLAGS", "MAKELEVEL", "MAKEFILES"}  # variables that hold no secrets
-OWN_OUTPUTS = "recorder.out"  # where the output of the recorder itself leads
 NAME = re.compile(r"(\d+)\.(\d+)\.make$")
-
-
-class Output(NamedTuple):
-    """Where a stream leads: `f` a file, `p` a pipe or a socket, `-` a device or nowhere; the file itself, and its path."""
-
-    kind: str = "-"
-    device: int = 0
-    number: int = 0
-    path: str = ""
 
 
 @dataclass
 class Start:
     """How a make was called."""
 
-    name: str = ""
     args: List[str] = field(default_factory=list)
     environment: Dict[str, str] = field(default_factory=dict)
     folder: str = ""
-    outputs: Dict[int, Output] = field(default_factory=dict)
     version: str = ""
     says: bool = False  # it says what it does; else it only answers, or has ended before it read its options
     asks: str = ""  # the flag of make by which it only answers
@@ -44,9 +31,7 @@ class Start:
         if key not in HEAD:
             return False
         value = ESCAPED.sub(lambda found: "\n" if found[1] == "n" else "\\", text)
-        if key == "MAKE":
-            self.name = value
-        elif key == "ARG":
+        if key == "ARG":
             self.args.append(value)
         elif key == "ENV":
             name, _, found = value.partition("=")
@@ -57,25 +42,7 @@ class Start:
             self.asks = value
         elif key == "SAYS":
             self.says, self.version = True, value
-        else:
-            stream, kind, device, number, path = value.split(" ", 4)
-            self.outputs[int(stream)] = Output(kind, int(device), int(number), path)
         return True
-
-
-def output_line(stream: int) -> str:
-    """Where a stream of this process leads, in the way of the library."""
-    try:
-        found = os.fstat(stream)
-    except OSError:
-        return ""
-    return "OUT %d %s %d %d \n" % (stream, "f" if stat.S_ISREG(found.st_mode) else "p", found.st_dev, found.st_ino)
-
-
-def own_outputs(said: Path) -> Set[Tuple[int, int]]:
-    """The files to which the output of the recorder itself goes."""
-    with open_file(said / OWN_OUTPUTS) as lines:
-        return {(one.device, one.number) for one in read_start(lines).outputs.values()}
 
 
 def read_start(lines: Iterable[str]) -> Start:
@@ -122,7 +89,7 @@ def keep_files(said: Path, to: Path) -> None:
     """Copies all files without values of the environment. Copies of makefiles are among the answers of the machine."""
     to.mkdir()
     for path in said.iterdir():
-        if path.suffix in (".make", ".out"):
+        if path.suffix == ".make":
             with open_file(path) as lines, open(to / path.name, "w", encoding="utf-8", errors="surrogateescape", newline="\n") as file:
                 file.writelines(without_values(lines))
 

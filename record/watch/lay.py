@@ -13,7 +13,6 @@ from pathlib import Path
 from typing import IO, Dict, Iterator, List, Optional, Sequence
 
 from record.watch.elf import NotElf, Program
-from record.watch.files import OWN_OUTPUTS, output_line
 from record.watch.library import put_library
 
 OWN_MOUNTS, OWN_USERS = 0x20000, 0x10000000  # for unshare
@@ -79,7 +78,6 @@ class Watch:
     def prepare(self, makes: Sequence[str]) -> None:
         """Puts the library in its place, and makes copies that need it; then looks whether the system lets them lie over the makes."""
         put_library(self.library)
-        (self.said / OWN_OUTPUTS).write_text("".join(map(output_line, (1, 2))), errors="surrogateescape")
         self.covered = self.copies(makes, SHOWN)
         if self.gate:
             self.ninjas = self.copies(makes_of(os.environ.get("PATH", os.defpath), NINJAS), ())

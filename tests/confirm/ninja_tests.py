@@ -85,11 +85,6 @@ class NinjaTests:
         # (with four jobs nothing says which of the two is first in the build that is recorded)
         self.check(1, "\nCONFIRMED  all of ")
 
-    def test_one_command_of_two(self) -> None:
-        self.manifest("build a: sh\n  c = echo x >> log\nbuild b: sh\n  c = echo x >> log\n")
-        self.record("ninja")
-        self.check(2, "another build statement has the command of a, so it cannot be held alone")
-
     def test_pool_of_one(self) -> None:
         self.manifest("pool one\n  depth = 1\n" + "".join(f"build {it}: sh\n  c = echo {it} > t; mv t {it}\n  pool = one\n" for it in "ab"))
         self.record("ninja")

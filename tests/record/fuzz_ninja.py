@@ -69,7 +69,7 @@ class NinjaDraw(Draw):
         shapes: Dict[str, Callable[[str], Block]] = {
             "file": self.file, "header": self.header, "user": self.user, "folder": self.folder, "outputs": self.outputs, "row": self.row,
             "restat": self.restat, "dyndep": self.dyndep, "pool": self.pool, "depfile": self.depfile, "response": self.response,
-            "other": self.other, "twice": self.twice, "inner": self.inner,
+            "other": self.other, "inner": self.inner,
         }
         self.shapes = [shapes[name] for name in shapes if not only or name in only]
 
@@ -180,12 +180,6 @@ class NinjaDraw(Draw):
         block = self.known(name, "%s %s.ninja\n" % (self.random.choice(("include", "subninja")), name))
         block.files[name + ".ninja"] = text
         return block
-
-    def twice(self, name: str) -> Block:
-        """Two statements with one command."""
-        step = "n=$$(cat %s.log 2> /dev/null | wc -l); %s; echo $$n >> %s.log" % (name, NAP % name, name)
-        text = "".join("build %s%s: sh %s\n  c = %s\n" % (name, part, " ".join(self.prerequisites()), step) for part in "ab")
-        return Block([name + "a", name + "b"], text)
 
     def inner(self, name: str) -> Block:
         """A ninja inside of a command, in a folder of its own, with a small project; it may reach out of its folder."""

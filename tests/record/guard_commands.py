@@ -6,9 +6,8 @@ from guard import Guard, guards
 
 GUARDS: List[Guard] = [
     *guards("commands/shelltext.py",
-        ("what-is-removed", 'words = argv if name == "rm" else []', "later.Later.removed_a_pattern"),
         ("what-find-does-beside", 'return "-delete" in argv', "shelltext.Words.removals"),
-        ("status", "return bool(words) and not any(SAYS.fullmatch(word) for word in options)", "shelltext.Words.removals"),
-        ("status", "return any(FORCES.fullmatch(word) for word in options)", "shelltext.Words.removals"),
+        ("status", "return name == 'rm' and not any(SAYS.fullmatch(word) for word in options)", "shelltext.Words.removals"),
+        ("status", "return name == 'rm' and any(FORCES.fullmatch(word) for word in options)", "shelltext.Words.removals"),
     ),
 ]

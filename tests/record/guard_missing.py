@@ -10,6 +10,7 @@ GUARDS: List[Guard] = [
         ("what-later-recipes-make", "found = set()", "missing.Table.alone_a_file_that_a_later_recipe_makes"),
         ("looks-at-what-others-read", "self.looks |= self.own_looks[at] - self.written.union(*self.reads)", "later.Later.premise_a_size"),
         ("links-that-are-made", "pass", "later.Later.premise_a_link"),
+        ("what-is-removed", "listing = removing", "later.Later.removed_a_pattern"),
         ("trees-that-it-removes-later", "return {path for path in others if any(path == name for name in plain) or os.path.dirname(path) in listed}", "later.Later.removed_a_tree"),
         ("temporaries", "gone.clear()", "missing.Table.alone_a_temporary"),
         ("temporaries-of-others", "pass", "later.Later.temporary_of_a_caller"),

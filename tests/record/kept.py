@@ -17,7 +17,7 @@ from typing import Any, Callable, Dict, Iterable, List, Optional, Sequence, Tupl
 
 # Modules that act before the build has ended. A guard of theirs builds anew; test_kept.py wants each one that does to stand here, or among those that
 # also read the kept trace.
-BUILDING = {"main.py", "entry.py", "folder.py", "progress.py", "standstill.py", "trace/pipe.py", "trace/unfollowed.py", "trace/classes.py", "trace/sifting.py", "ninja/retry.py", "ninja/clean.py", "fresh.py", "command.py",
+BUILDING = {"main.py", "entry.py", "folder.py", "progress.py", "trace/pipe.py", "trace/unfollowed.py", "trace/classes.py", "trace/sifting.py", "ninja/retry.py", "ninja/clean.py", "fresh.py", "command.py",
             "watch/lay.py", "watch/library.py", "watch/elf.py"}
 READING = {"trace/arguments.py", "trace/strace.py"}  # what reads a trace ahead, too
 PREFIXES = ("race-record-", "race-watch-")  # of the folders that the recorder makes for itself

@@ -62,8 +62,7 @@ CASES = [
     Case("response-file-own", SAFE, named("f", "build a: s x\n  f = r1\nbuild b: s y\n  f = r2\n"), files={"x": "", "y": ""}),
     Case("dep-file", RACE, named("d", "build a: r x\n  d = m\nbuild b: r y\n  d = m\n"), files={"x": "", "y": ""}),
     Case("dep-file-own", SAFE, named("d", "build a: r x\n  d = m1\nbuild b: r y\n  d = m2\n"), files={"x": "", "y": ""}),
-    Case("one-command", RACE, sh("a", "", "echo x >> log") + sh("b", "", "echo x >> log"), ["build statements with one command"]),
-    Case("one-command-ordered", SAFE, sh("b", "a", "echo x >> log") + sh("a", "", "echo x >> log")),
+    Case("one-command", NONE, sh("b", "a", "echo x >> log") + sh("a", "", "echo x >> log"), ["several build statements have one command: echo x >> log"]),
     Case("folder-of-outputs", SAFE, sh("d/e/a", "", "echo > $out") + sh("d/e/b", "", "echo > $out") + sh("d/f/c", "", "echo > $out")),
     Case("folder-of-another", RACE, sh("d/e/a", "", "echo > $out") + sh("b", "", "echo > d/e/b; touch b"), ["that the folder"]),
     Case("folder-of-another-ordered", SAFE, sh("d/e/a", "", "echo > $out") + sh("b", "|| d/e/a", "echo > d/e/b; touch b")),
@@ -121,9 +120,6 @@ CASES = [
     Case("failing", NONE, sh("a", "", "false"), ["the build ended with status 1", "the serial build failed; this is build 3 with -j4"]),
     Case("serial-build-fails", RACE, sh("a", "", "for i in 1 2 3 4 5 6 7 8 9; do test -s g || sleep 0.1; done; " + USE) + GEN, ["HINT  a looks for g, which g makes", "the serial build failed"]),
     Case("dry-run", NONE, GEN, ["no make and no ninja ran"], words="ninja -n"),
-    Case("log-with-a-line-too-many", NONE, GEN, ["the log of ninja names z"], words="sh ./all", files={"all": "ninja; printf '0\\t1\\t2\\tz\\t5\\n' >> .ninja_log\n"}),
-    Case("log-with-a-line-less", NONE, GEN, ["the log of ninja does not name it"], words="sh ./all", files={"all": "ninja; sed -i '/\\tg\\t/d' .ninja_log\n"}),
-    Case("log-is-gone", NONE, GEN, ["ninja left no log"], words="sh ./all", files={"all": "ninja; rm .ninja_log\n"}),
     Case("several-at-once", RACE, GEN + sh("a", "", "sleep 1; " + USE), words="sh ./all", files={"all": "ninja -j4\n"}),
     Case("several-at-once-ordered", SAFE, GEN + sh("a", "g", USE) + sh("b", "", "sleep 0.3; touch b"), words="sh ./all", files={"all": "ninja -j4\n"}),
     Case("link-through", RACE, sh("s", "", "mkdir -p real; ln -s real s; touch $out") + sh("a", "s", "echo > s/f; touch a") + sh("b", "s", "cat real/f > b; true")),
@@ -133,7 +129,7 @@ CASES += [
          files={"sub/build.ninja": RULES + sh("out", "../x ../y", "cat ../x ../y > out")}),
     Case("beside-each-other", SAFE, sh("g", "", "timeout 60 sh -c 'until test -e sub/began; do sleep 0.02; done'; echo 1 > g"), ["two makes or ninjas that ran at once"], words="sh ./all",
          files={"all": "ninja & ninja -C sub; wait\n", "sub/build.ninja": RULES + sh("h", "", "touch began h")}),
-    Case("inner-ninja-that-fails", NONE, sh("x", "", "ninja -C sub || touch x"), ["ninja left no log"], files={"sub/build.ninja": RULES + sh("h", "", "false")}),
+    Case("inner-ninja-that-fails", NONE, sh("x", "", "ninja -C sub || touch x"), ["a ninja failed, so it may run more commands another time: ninja -C sub"], files={"sub/build.ninja": RULES + sh("h", "", "false")}),
 ]
 CASES += [
     Case("process-that-its-command-leaves", RACE, sh("a", "", "(sleep 0.5; echo > late) > /dev/null 2>&1 & touch a") + sh("b", "a", "sleep 1; cat late > b"), ["late"]),

@@ -31,15 +31,9 @@ import record.importing  # noqa: E402,F401  (once, for all recordings of this pr
 import record.main  # noqa: E402,F401
 from record.make.words import numbers_of  # noqa: E402
 from record.trace.sifting import skipping  # noqa: E402
-from record.trace.unfollowed import first_unknown  # noqa: E402
 
 # What is found here is kept for all children.
 skipping([])
-record.main.parser_of_words()
-if shutil.which("strace"):
-    first_unknown()
-    with contextlib.suppress(record.main.Missing):
-        record.main.versions()
 gc.freeze()  # a child need not go over what was loaded
 
 

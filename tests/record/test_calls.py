@@ -92,7 +92,7 @@ class Traces(unittest.TestCase):
         self.assertEqual([TOP + "/y", TOP + "/y"], played(opened, '1 link("x", "y") = 0', '1 unlink("x") = 0').hard_links)
 
     def test_owner_of_a_folder(self) -> None:
-        life = lives_of(played('1 mkdir("d", 0777) = 0', '1 chown("d", 0, 0) = 0', '1 fchmodat2(AT_FDCWD<%s>, "d", 0750, 0) = 0' % TOP), 1)[0]
+        life = lives_of(played('1 mkdir("d", 0777) = 0', '1 chown("d", 0, 0) = 0', '1 fchmodat(AT_FDCWD<%s>, "d", 0750, 0) = 0' % TOP), 1)[0]
         self.assertIn(("m", "d"), events_of(life))
 
     def test_settings_of_the_kernel(self) -> None:

@@ -8,7 +8,6 @@ import sys
 import unittest
 from pathlib import Path
 from typing import List, Set, Tuple
-from unittest import mock
 
 import support
 from record.trace import classes, unfollowed
@@ -18,33 +17,29 @@ from test_sifting import Skips
 
 HEADERS = ("/usr/include/asm-generic/unistd.h", "/usr/include/%s-linux-gnu/asm/unistd_64.h" % platform.machine(), "/usr/include/%s-linux-gnu/asm/unistd_32.h" % platform.machine())
 OTHERS = (classes.HIDING, classes.SHARING, classes.UNFOLLOWED, set(HANDLERS))
+SEVERAL = {"ipc", "socketcall", "signal"}  # calls of 32 bits that are several in one: strace shows each by its own name
 BEGUN = '1 execve("/opt/tool", ["tool", "x"], 0x1 /* 1 var */) = 0'
-# A program that changes a mode by a call of which an old strace knows no name; or, where the kernel does not have it, in the usual way.
+# A program that changes a mode by a new call; or, where the kernel does not have it, in the usual way.
 CHMOD = "import ctypes, os\nif ctypes.CDLL(None).syscall(452, -100, b'f', 0o755, 0):\n    os.chmod('f', 0o755)\n"
 FLAGS = "import fcntl, struct, sys\ntry:\n    fcntl.ioctl(open('f'), 0x40086602, struct.pack('q', 0x40))\nexcept OSError:\n    print('no flags here')\n"
 
 
 def names_of_kernel() -> Set[str]:
-    """The calls that the kernel's headers name, for 64 and for 32 bits."""
+    """The calls that the kernel's headers name, for 64 and for 32 bits, without those that do not run."""
     texts = [Path(path).read_text() for path in HEADERS if Path(path).exists()]
-    return {name for text in texts for name in re.findall(r"#define __NR_(\w+)", text)}
+    return {name for text in texts for name, number in re.findall(r"#define __NR_(\w+)(?:[ \t]+(\d+))?", text) if int(number or 0) < unfollowed.FIRST}
 
 
 class Classes(unittest.TestCase):
     """The table by itself."""
 
     def test_each_call_of_the_kernel_has_a_class(self) -> None:
-        known = classes.LEFT_OUT.union(classes.SEVERAL, *OTHERS)
+        known = classes.LEFT_OUT.union(SEVERAL, *OTHERS)
         self.assertEqual(set(), names_of_kernel() - known)
-        self.assertEqual(set(), set(classes.NEWER.values()) - known)
 
     def test_no_call_has_two_classes(self) -> None:
         names: List[str] = [name for names in (classes.LEFT_OUT, *OTHERS) for name in names]
         self.assertEqual(len(names), len(set(names)))
-
-    def test_numbers_of_new_calls(self) -> None:
-        self.assertEqual(["fchmodat2", "setxattrat", "file_setattr"], [classes.named("syscall_0x%x" % number) for number in (452, 463, 469)])
-        self.assertEqual("syscall_0x3e7", classes.named("syscall_0x3e7"))
 
 
 class Traces(unittest.TestCase):
@@ -59,9 +54,9 @@ class Traces(unittest.TestCase):
         return events_of(lives_of(replay, 1)[0])
 
     def test_a_call_that_nobody_knows_is_a_hole(self) -> None:
-        for line in ("syscall_0x3e7(0x1, 0x2) = 0", "syscall_0x3e7(0x1, 0x2) = -1 ENOENT (No such file or directory)", "no_such_call(1) = 0", "syscall_0x1c4(0xff, 0x7f, 0x180) = 0"):
+        for line in ("syscall_0x3e7(0x1, 0x2) = 0", "syscall_0x3e7(0x1, 0x2) = -1 ENOENT (No such file or directory)", "no_such_call(1) = 0"):
             self.assertIn("a call that the recorder does not follow: ", "".join(self.holes(line)), line)
-        for line in ("syscall_0x3e7(0x1, 0x2) = -1 ENOSYS (Function not implemented)", "syscall_0x1c3(0x3) = 0", "futex(0x1) = 0"):
+        for line in ("syscall_0x3e7(0x1, 0x2) = -1 ENOSYS (Function not implemented)", "futex(0x1) = 0"):
             self.assertEqual([], self.holes(line), line)
 
     def test_a_hole_is_said_once(self) -> None:
@@ -74,22 +69,13 @@ class Traces(unittest.TestCase):
             self.assertEqual([], self.holes(name + "(1) = -1 EPERM (Operation not permitted)"))
 
     def test_new_ways_to_mount(self) -> None:
-        for name in ("open_tree", "open_tree_attr", "fsmount", "fspick", "mount_setattr", "move_mount"):
+        for name in ("open_tree", "fsmount", "fspick", "move_mount"):
             self.assertEqual(["files that are opened after %s are not seen: tool x" % name], self.holes(name + "(1) = 5"))
             self.assertEqual([], self.holes(name + "(1) = -1 EPERM (Operation not permitted)"))
 
-    def test_new_names_of_old_calls(self) -> None:
-        for line in ('setxattrat(AT_FDCWD<%s>, "f", 0, "user.x", {}, 16) = 0', 'removexattrat(AT_FDCWD<%s>, "f", 0, "user.x") = 0', 'file_setattr(AT_FDCWD<%s>, "f", {}, 24, 0) = 0',
-                     'fchmodat2(AT_FDCWD<%s>, "f", 0755, 0) = 0'):
-            self.assertIn(("W", "f"), self.events(line % TOP), line)
-        for line in ('getxattrat(AT_FDCWD<%s>, "f", 0, "user.x", {}, 16) = 0', 'listxattrat(AT_FDCWD<%s>, "f", 0, 0x1, 16) = 0', 'file_getattr(AT_FDCWD<%s>, "f", {}, 24, 0) = 0'):
-            self.assertIn(("S", "f"), self.events(line % TOP), line)
+    def test_old_names(self) -> None:
         self.assertIn(("N", "f"), self.events('oldstat("f", 0x1) = -1 ENOENT (No such file or directory)'))
         self.assertIn(("L", "d"), self.events("readdir(3<%s/d>, {}) = 1" % TOP))
-
-    def test_names_of_open_files(self) -> None:
-        for path in ("NULL", '""'):
-            self.assertEqual({("W", "f")}, {event for event in self.events('setxattrat(3<%s/f>, %s, AT_EMPTY_PATH, "user.x", {}, 16) = 0' % (TOP, path)) if event[0] in "WN"}, path)
 
     def test_programs_that_are_not_run(self) -> None:
         for flags in ("AT_EXECVE_CHECK", "0x10000 /* AT_??? */", "AT_SYMLINK_NOFOLLOW|AT_EXECVE_CHECK"):
@@ -154,24 +140,18 @@ class Sifted(Skips):
 
 
 class Newer(unittest.TestCase):
-    """Calls without names in strace."""
-
-    def test_first_that_strace_does_not_know(self) -> None:
-        for first in (classes.FIRST, 451, 463, classes.FIRST + len(classes.NEWER)):
-            with mock.patch.object(unfollowed, "is_known", lambda number: number < first):
-                self.assertEqual(first, unfollowed.first_unknown())
+    """Calls that are newer than what is traced."""
 
     def test_they_do_not_run(self) -> None:
         text = "import ctypes, errno, sys\nlibc = ctypes.CDLL(None, use_errno=True)\n" \
                "print([(number, ctypes.get_errno()) for number in (425, 441, 449, 452, 463, 469) if libc.syscall(number, -1, 0, 0, 0, 0) < 0 and ctypes.get_errno() != errno.ENOSYS])\n"
         older = unfollowed.Older()
-        older.text = unfollowed.filter_of(platform.machine(), classes.FIRST)
         ran = subprocess.run([sys.executable, "-c", text], preexec_fn=lambda: older.enter(signal.SIG_DFL), capture_output=True, text=True, timeout=60, check=False)
         self.assertEqual("[]\n", ran.stdout if older.text else "[]\n", ran.stderr)
 
     def test_other_machines(self) -> None:
-        self.assertEqual(b"", unfollowed.filter_of("mips", 451))
-        self.assertEqual([10 * 8, 9 * 8], [len(unfollowed.filter_of(machine, 451)) for machine in ("aarch64", "riscv64")])
+        self.assertEqual(b"", unfollowed.filter_of("mips"))
+        self.assertEqual([10 * 8, 9 * 8], [len(unfollowed.filter_of(machine)) for machine in ("aarch64", "riscv64")])
 
 
 class Recorded(unittest.TestCase):

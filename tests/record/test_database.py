@@ -115,14 +115,13 @@ class Texts(unittest.TestCase):
 
     def test_quote_behind_a_descriptor(self) -> None:
         found = said(r'openat(AT_FDCWD</q\"r\">, "a>\"b", O_RDONLY) = 3</q\"r\"/a\76\"b>')
-        self.assertIsNotNone(found)
-        args = found.args if found is not None else ""
+        args = found[1]
         self.assertEqual((['a>"b'], ['/q"r"']), (texts(args), folders(args)))
-        self.assertEqual('/q"r"/a>"b', found.opened if found is not None else "")
+        self.assertEqual('/q"r"/a>"b', found[4])
 
     def test_backslash_and_quote_behind_a_descriptor(self) -> None:
         found = said(r'renameat(3</q\\\"4>, "1<\"", 5</r>, "2>") = 0')
-        args = found.args if found is not None else ""
+        args = found[1]
         self.assertEqual((['1<"', "2>"], ['/q\\"4', "/r"]), (texts(args), folders(args)))
 
     def test_macros_that_count(self) -> None:

@@ -36,8 +36,9 @@ class Gates(unittest.TestCase):
                 if not watch.covered:
                     self.skipTest("the system gives no mounts")
                 process = subprocess.Popen(words, cwd=folder, preexec_fn=watch.lay, start_new_session=True, stdout=subprocess.PIPE)
-                self.assertTrue(gate.serve(process.pid, listener, lambda: process.poll() is not None, lambda: 60))
+                self.assertTrue(gate.serve(process.pid, listener, lambda: 60))
                 end(process.pid)
+                process.wait()
                 assert process.stdout is not None
                 self.output = process.stdout.read().decode()
                 process.stdout.close()
@@ -91,9 +92,10 @@ class Gates(unittest.TestCase):
         self.assertEqual([["b"], ["c"], ["a"]], self.began({"Makefile": "all: a b c\na b c: ; @echo $@\n"}, ["make", "-j2"], lambda name: "abc".index(name)))
 
     def test_order_while_one_sleeps(self) -> None:
-        """The next begins when the one before has ended, however long that sleeps."""
-        self.began({"Makefile": "all: a b\na: ; @echo $@\nb: ; @sleep 1; echo $@\n"}, ["make", "-j9"], lambda name: "ab".index(name))
-        self.assertEqual("b\na\n", self.output)
+        """The next begins when the one before has ended, however long that sleeps, or where it waits for a moment."""
+        for waits in ("sleep 1", "python3 -Sc 'import select; select.select([], [], [], 0.1)'"):
+            self.began({"Makefile": "all: a b\na: ; @echo $@\nb: ; @%s; echo $@\n" % waits}, ["make", "-j9"], lambda name: "ab".index(name))
+            self.assertEqual("b\na\n", self.output)
 
     def test_functions_and_further_lines(self) -> None:
         """What a function of make runs begins at once, and so do the lines behind the first."""
@@ -126,7 +128,7 @@ class Gates(unittest.TestCase):
         gate = Gate(top, {})
         with gate.listen() as listener:
             process = subprocess.Popen(["sleep", "60"], start_new_session=True)
-            self.assertFalse(gate.serve(process.pid, listener, lambda: process.poll() is not None, lambda: 0.5))
+            self.assertFalse(gate.serve(process.pid, listener, lambda: 0.5))
             end(process.pid)
             self.assertEqual(-9, process.wait())
 

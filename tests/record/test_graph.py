@@ -41,11 +41,11 @@ class Nodes(unittest.TestCase):
     def test_depth_says_who_asks(self) -> None:
         graph = graph_of("all\n a\n  x\n b\n  *x", "all: a b\n", ["a", "b"])
         self.assertEqual({"all": ["a", "b"], "a": ["x"], "x": [], "b": ["x"]}, prerequisites(graph))
-        self.assertEqual((["all"], 1, 0), (graph.goals, len(graph.nodes["a"].jobs), len(graph.nodes["x"].jobs)))
+        self.assertEqual((["all"], 1, 0), (graph.round.goals, len(graph.nodes["a"].jobs), len(graph.nodes["x"].jobs)))
 
     def test_job_of_a_target_that_was_not_considered(self) -> None:
         graph = graph_of("all", "all:\n", ["other"])
-        self.assertEqual(["all", "other"], graph.goals)
+        self.assertEqual(["all", "other"], graph.round.goals)
 
     def test_rules_of_a_double_colon_target(self) -> None:
         graph = graph_of("u\n d\n  p\n d\n  q\nv\n *d", "u: d\n\nv: d\n\nd:: p\n%s\nd:: q\n%s" % (RECIPE, RECIPE), ["d", "d"])

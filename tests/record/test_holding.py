@@ -37,15 +37,8 @@ class Holding(unittest.TestCase):
                     os.execvp(TRACED[0], [*TRACED, "-o", str(room / "trace"), *(words or ("sh", "-c", script))])
                 finally:
                     os._exit(9)
-            found: List[int] = []
-
-            def has_ended() -> bool:
-                pid, status = os.waitpid(root, os.WNOHANG) if not found else (0, 0)
-                found.extend([status] * bool(pid))
-                return bool(found)
-
-            self.assertTrue(held.serve(root, listener, has_ended, lambda: 20.0))
-        self.assertEqual([0], found)
+            self.assertTrue(held.serve(root, listener, lambda: 20.0))
+        self.assertEqual(0, os.waitpid(root, 0)[1])
         return self.order((room / "trace").read_text().split("\n"))
 
     def order(self, lines: List[str]) -> List[str]:
@@ -112,7 +105,7 @@ class Looking(unittest.TestCase):
                     os.execvp("sleep", ["sleep", "60"])
                 finally:
                     os._exit(9)
-            self.assertFalse(held.serve(root, listener, lambda: False, lambda: 0.2))
+            self.assertFalse(held.serve(root, listener, lambda: 0.2))
         os.kill(root, signal.SIGKILL)
         os.waitpid(root, 0)
 

@@ -21,7 +21,7 @@ ASKS = {"os.path.%s" % name for name in ("isfile", "isdir", "islink", "exists", 
     "open", "tokenize.open", "glob.glob", "subprocess.run", "time.time"}
 OF_PATHS = {"read_text", "read_bytes", "is_file", "is_dir", "is_symlink", "exists", "iterdir", "rglob", "resolve", "samefile"}  # methods of paths that ask too
 # Modules that run builds, read what was kept of one, or write a record or judge it.
-OTHERS = ("machine.py", "first_tree.py", "fresh.py", "facts.py", "folder.py", "entry.py", "pages.py", "judge.py", "importing.py", "import_again.py", "footprints.py", "missing", "make/words.py",
+OTHERS = ("machine.py", "first_tree.py", "fresh.py", "facts.py", "folder.py", "entry.py", "messages.py", "judge.py", "importing.py", "import_again.py", "footprints.py", "orders/processes.py", "missing", "make/words.py",
           "trace/sifting.py", "watch/files.py")
 
 

@@ -285,14 +285,6 @@ class Verdicts(unittest.TestCase):
             outcome = project.record(options=["--missing", "--fresh", "--setup", "make -f setup.mk"])
         self.assertEqual((1, {("a", "h.h")}), (outcome.status, violations(outcome.text()).get(project.folder.name, set())), outcome.text())
 
-    def test_program_that_does_not_know_it(self) -> None:
-        with support.Project({"Makefile": "all: ; touch all\n", "old": "#!/bin/sh\necho usage >&2\nexit 3\n"}) as project:
-            project.sh("chmod +x old")
-            outcome = project.record(options=["--missing", "--race", str(project.folder / "old")])
-            self.assertFalse((project.folder / "all").exists())
-        wanted = "old does not answer `race missing --tasks`: it is an older version of race, or another program. Name race by --race, or leave --missing out\n"
-        self.assertEqual((3, True), (outcome.status, outcome.stderr.decode().endswith(wanted)), outcome.stderr)
-
     def test_example(self) -> None:
         with support.Project() as project:
             project.copy(support.TOP / "examples" / "gnu-make")

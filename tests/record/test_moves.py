@@ -59,10 +59,6 @@ class Traces(unittest.TestCase):
                      'rename("a", "b") = 0', 'openat(AT_FDCWD, "f", O_RDONLY) = 3'):
             self.assertEqual([], played("1 " + line).holes, line)
 
-    def test_links_that_move(self) -> None:
-        replay = played('1 mkdir("l", 0777) = 0', '1 symlink("d", "l/k") = 0', '1 rename("l", "n") = 0', '1 rename("n/k", "n/j") = 0')
-        self.assertEqual({"l/k", "n/k", "n/j"}, {path[len(TOP) + 1:] for path in replay.names.links})
-
 
 class Recorded(unittest.TestCase):
     """Real builds."""

@@ -13,15 +13,14 @@ from record.trace.lives import Act, Life
 from record.trace.names import Names
 from record.trace.strace import read_trace
 
-MANIFEST = "rule r\n  command = $c\nbuild a: r\n  c = one\nbuild b: r\n  c = two\nbuild c: r\n  c = two\n"
+MANIFEST = "rule r\n  command = $c\nbuild a: r\n  c = one\nbuild b: r\n  c = two\n"
 
 
 class Holes(unittest.TestCase):
-    """A ninja with processes and a log that are made up."""
+    """A ninja with processes that are made up."""
 
-    def runs(self, texts: List[str], log: str, at_once: bool = False, cut: bool = False, manifest: str = MANIFEST, words: Sequence[str] = (), has_read: bool = True) -> Runs:
-        lines = "".join("0\t5\t0\t%s\tabc\n" % path for path in log)
-        with support.Project({"build.ninja": manifest, ".ninja_log": "# ninja log v5\n" + lines}) as project:
+    def runs(self, texts: List[str], cut: bool = False, manifest: str = MANIFEST, words: Sequence[str] = (), has_read: bool = True) -> Runs:
+        with support.Project({"build.ninja": manifest}) as project:
             folder = str(project.folder.resolve())
             names = Names()
             names.walk(folder)
@@ -30,7 +29,7 @@ class Holes(unittest.TestCase):
             for number, text in enumerate(texts):
                 born = 10 + 10 * number
                 argv = ["/bin/sh", "-c", text] if text else ["/bin/true"]
-                life = Life(10 + number, ninja, born, born + (15 if at_once else 5), folder, argv, [argv], cut)
+                life = Life(10 + number, ninja, born, born + 5, folder, argv, [argv], cut)
                 life.events[("W", "%s/f%d" % (folder, number))] = born + 1
                 ninja.children.append(life)
             self.lives, self.names = [ninja, *ninja.children], names
@@ -45,51 +44,44 @@ class Holes(unittest.TestCase):
         return builder.holes
 
     def test_all_fits(self) -> None:
-        runs = self.runs(["one", "two", "two"], "abc")
-        self.assertEqual(([], ["two"]), (runs.holes, runs.ties))
-        self.assertEqual(["a", "b", "c"], [edge.label for edge in runs.ninjas[0].stages[0].ran()])
+        runs = self.runs(["two", "one"])
+        self.assertEqual(([], ["b", "a"]), (runs.holes, [edge.label for edge in runs.ninjas[0].stages[0].ran()]))
 
-    def test_log_says_which_of_two(self) -> None:
-        runs = self.runs(["one", "two", "two"], "acb")
-        self.assertEqual(["a", "c", "b"], [edge.label for edge in runs.ninjas[0].stages[0].ran()])
+    def test_command_of_two_statements(self) -> None:
+        runs = self.runs(["one", "two"], manifest=MANIFEST + "build c: r\n  c = two\n")
+        self.assertEqual(["several build statements have one command: two"], runs.holes)
 
     def test_command_that_no_statement_has(self) -> None:
-        self.assertIn("ninja ran a command that no build statement has: three", self.runs(["three"], "").holes)
+        self.assertIn("ninja ran a command that no build statement has: three", self.runs(["three"]).holes)
 
     def test_command_that_is_cut(self) -> None:
-        self.assertIn("no build statement has", " ".join(self.runs(["one"], "a", cut=True).holes))
+        self.assertIn("no build statement has", " ".join(self.runs(["one"], cut=True).holes))
 
     def test_child_that_is_no_command(self) -> None:
-        self.assertIn("no command", " ".join(self.runs([""], "").holes))
-
-    def test_log_does_not_say_which(self) -> None:
-        self.assertIn("does not say which ran", " ".join(self.runs(["two", "two"], "b").holes))
-
-    def test_two_with_one_command_at_once(self) -> None:
-        self.assertIn("ran at once", " ".join(self.runs(["two", "two"], "bc", at_once=True).holes))
+        self.assertIn("no command", " ".join(self.runs([""]).holes))
 
     def test_manifest_that_cannot_be_read(self) -> None:
-        self.assertIn("cannot be read again", " ".join(self.runs(["one"], "", manifest="build a: nothing\n").holes))
+        self.assertIn("cannot be read again", " ".join(self.runs(["one"], manifest="build a: nothing\n").holes))
 
     def test_words_that_cannot_be_read(self) -> None:
-        self.assertIn("its words cannot be read: ninja -Z", " ".join(self.runs(["one"], "a", words=["-Z"]).holes))
+        self.assertIn("its words cannot be read: ninja -Z", " ".join(self.runs(["one"], words=["-Z"]).holes))
 
     def test_ninja_that_read_no_manifest(self) -> None:
-        self.assertIn("a ninja read no manifest: ninja", self.runs(["one"], "a", has_read=False).holes)
+        self.assertIn("a ninja read no manifest: ninja", self.runs(["one"], has_read=False).holes)
 
     def test_order_of_the_trace(self) -> None:
         text = "rule r\n  command = $c\nbuild a: r b\n  c = one\nbuild b: r\n  c = two\n"
-        self.assertEqual([], self.holes(self.runs(["two", "one"], "ba", manifest=text)))
-        self.assertEqual(["the order of the trace is not that of the manifest: a"], self.holes(self.runs(["one", "two"], "ab", manifest=text)))
+        self.assertEqual([], self.holes(self.runs(["two", "one"], manifest=text)))
+        self.assertEqual(["the order of the trace is not that of the manifest: a"], self.holes(self.runs(["one", "two"], manifest=text)))
 
     def test_folder_that_no_statement_needs(self) -> None:
-        runs = self.runs(["one", "two", "two"], "abc")
+        runs = self.runs(["one", "two"])
         self.assertEqual([], self.holes(runs))
         self.assertIn("and no statement needs it", " ".join(self.holes(runs, "odd")))
 
     def test_statements_in_a_ring(self) -> None:
         text = "rule r\n  command = $c\nbuild a: r b\n  c = one\nbuild b: r a\n  c = two\n"
-        self.assertIn("wait for each other in a cycle", " ".join(self.holes(self.runs(["one", "two"], "ab", manifest=text))))
+        self.assertIn("wait for each other in a cycle", " ".join(self.holes(self.runs(["one", "two"], manifest=text))))
 
 
 class Changed(unittest.TestCase):
@@ -97,7 +89,7 @@ class Changed(unittest.TestCase):
 
     def holes(self, *lines: str) -> List[str]:
         """The holes of a build of which the trace has these lines; `build.ninja` stands for an open that changes it."""
-        with support.Project({"build.ninja": MANIFEST, ".ninja_log": "# ninja log v5\n"}) as project:
+        with support.Project({"build.ninja": MANIFEST}) as project:
             folder = str(project.folder.resolve())
             names = Names()
             names.walk(folder)

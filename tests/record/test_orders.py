@@ -5,6 +5,7 @@ import socket
 import tempfile
 import time
 import unittest
+from dataclasses import replace
 from pathlib import Path
 from typing import Dict, Tuple
 from unittest import mock
@@ -156,7 +157,7 @@ class Orders(unittest.TestCase):
     def test_what_differs_once(self) -> None:
         """It is compared no more, and a build that failed gives no yes."""
         made_again = Trial.made_again
-        with mock.patch.object(Trial, "made_again", lambda trial, plan: (made_again(trial, plan)[0], None)), mock.patch("record.orders.builds.have_own_ports", return_value=False):
+        with mock.patch.object(Trial, "made_again", lambda trial, plan: replace(made_again(trial, plan), otherwise=[])), mock.patch("record.orders.builds.have_own_ports", return_value=False):
             for makefile, files, status, says in ((LISTS, {"d/k": ""}, 0, "note: two builds in one order differ in list"), (CASES["build that fails"][0], {"src": ""}, 2, "did not when it was made again: the build")):
                 with support.Project({"Makefile": makefile, **files}) as project:
                     found = project.record(once=False)

@@ -37,7 +37,6 @@ class Graphs(unittest.TestCase):
     def test_pairs(self) -> None:
         graph = self.graph((None, [("a", [], [], []), ("b", [], [], []), ("c", ["a"], [], [])]))
         self.assertEqual(2, graph.pairs())
-        self.assertEqual(["c", "b", "a"], self.began(graph.flipped()))
 
     def test_makes_inside(self) -> None:
         """A recipe is ordered with those that run inside it, and those of two makes by the recipes around them."""
@@ -46,19 +45,21 @@ class Graphs(unittest.TestCase):
         self.assertEqual([(("/p", "a", 1),), (("/p", "a", 1), ("/p", "x", 1)), (("/p", "a", 1), ("/p", "y", 1)), (("/p", "b", 1),), (("/p", "b", 1), ("/p", "z", 1))], [*graph.keys])
         self.assertEqual(7, graph.pairs())
         self.assertEqual(("001", "a", "b"), graph.together((("/p", "a", 1), ("/p", "x", 1)), (("/p", "b", 1), ("/p", "z", 1))))
+        self.assertEqual([0, 0, 0b10, 0, 0], graph.apart({(("/p", "b", 1),): {(("/p", "a", 1),)}}))  # x and y alone
 
     def test_order_of_what_runs_inside(self) -> None:
         """A recipe has the place of the first that runs inside it: that waits for it."""
         rows: List[Row] = [("a", [], [], []), ("b#1", [], [], []), ("b", ["b#1"], [], [])]
         graph = self.graph((None, rows), ({"build": "001", "task": "b#1"}, [("x", [], [], [])]), kinds={"b#1": {"kind": "part", "target": "b"}})
-        places = graph.covering([0, 0, 1, 0])
+        places, _ = graph.covering([0, 0, 1, 0], {})
         self.assertEqual(places[("/p", "b", 1),], places[("/p", "b", 1), ("/p", "x", 1)])
 
     def test_covers(self) -> None:
-        """The order turns round what is wanted, with what that needs first."""
+        """The order turns round what is wanted, with what that needs first, and so it stays where the rest runs side by side."""
         graph = self.graph((None, [("a", [], [], []), ("n", [], [], []), ("b", ["n"], [], []), ("c", [], [], [])]))
-        self.assertEqual(["n", "b", "c", "a"], self.began(graph.covering([0, 0, 1, 0])))
-        self.assertEqual(["n", "b", "a", "c"], self.began(graph.alone((0, 2))))
+        places, apart = graph.covering([0, 0, 1, 0], {})
+        self.assertEqual((["n", "b", "c", "a"], {(("/p", "a", 1),): {(("/p", "b", 1),)}}), (self.began(places), apart))
+        self.assertEqual(["n", "b", "a", "c"], self.began(graph.beside([(2, 0)])[0]))
 
     def test_parts(self) -> None:
         """A part of a recipe begins when that does, and what it runs is inside the recipe."""

@@ -29,7 +29,7 @@ BASE = ["# Make data base, printed on Monday", "# Files", "", *RECIPES, "# files
 
 def words_of(*lines: str, status: Optional[str] = "EXIT 0") -> Words:
     """What make 7 said."""
-    return read_words(7, 0, ["Reading makefiles...", "Updating goal targets....", *lines, *BASE] + ([status] if status else []), "", Start("make", ["all"]))
+    return read_words(7, 0, ["Reading makefiles...", "Updating goal targets....", *lines, *BASE] + ([status] if status else []), "", Start(["all"]))
 
 
 def make_of(*children: Tuple[int, int]) -> List[Life]:
@@ -79,15 +79,9 @@ class Holes(unittest.TestCase):
         self.assertIn("a process number came again", self.holes(make_of((8, 5), (8, 8)), [words_of(self.JOB)]))
 
     def test_number_of_a_process_that_is_no_job(self) -> None:
-        for numbers, first, second in (((9, 8, 9), 1, 2), ((8, 9, 8), 0, 1), ((9, 8, 6, 9, 8), 1, 3), ((8, 9), 0, 1)):
+        for numbers in ((9, 8, 9), (8, 9, 8), (8, 9, 9, 8)):
             lives = make_of(*((number, 2 + 3 * at) for at, number in enumerate(numbers)))
-            owners = Owners(lives, [words_of(self.JOB, self.AGAIN)])
-            self.assertEqual([], owners.holes)
-            self.assertEqual({first: "a", second: "b"}, {at: owners.jobs[id(life)].target for at, life in enumerate(lives[1:]) if id(life) in owners.jobs})
-
-    def test_number_that_comes_again_between_two_jobs(self) -> None:
-        lives = make_of((8, 5), (9, 7), (9, 9), (8, 11))
-        self.assertIn("a process number came again", self.holes(lives, [words_of(self.JOB, self.AGAIN)]))
+            self.assertIn("a process number came again", self.holes(lives, [words_of(self.JOB, self.AGAIN)]))
 
     def test_number_that_comes_again_in_one_job(self) -> None:
         lives = make_of((8, 5), (9, 7), (8, 9))
@@ -106,7 +100,7 @@ class Holes(unittest.TestCase):
 
 
 Makefiles = makefiles(__name__, {
-    "output_that_a_recipe_reads": Small("no verdict", "all: ; $(MAKE) -f in.mk > log\n", {"in.mk": "all: ; cat log > b\n"}, says="looks into the file that keeps what its make prints"),
+    "output_that_a_recipe_reads": Small("race", "all: ; $(MAKE) -f in.mk > log\n", {"in.mk": "all: a b\na: ; echo 1; touch a\nb: ; cat log > b\n"}, is_tried=True),
     # when make has read its makefiles
     # what a make inside a recipe asks of a list that it keeps of a folder
     "pattern_of_a_default_that_changes_nothing": Small("safe", INNER % "echo n > d/n.h", {"d/k.c": "k", "d/k.h": "k", "in.mk": "C = d/k.c\ninclude more.mk\n", "more.mk": "C ?= $(shell ls d/*)\nout: $(C) ; cat $^ > out\n"}),

@@ -62,6 +62,9 @@ class Lives(unittest.TestCase):
         self.assertIn(("M", "sub/a"), events_of(lives_of(replay, 2)[0]))
         self.assertIn(("M", "b"), events_of(lives_of(replay, 1)[0]))
 
+    def test_processes_in_one_folder(self) -> None:
+        self.assertIn("in one folder", "".join(played("1 clone(child_stack=NULL, flags=CLONE_FS|SIGCHLD) = 2").holes))
+
     def test_a_process_changes_its_folder_alone(self) -> None:
         replay = played("1 clone(child_stack=NULL, flags=CLONE_CHILD_CLEARTID|SIGCHLD) = 2", '1 chdir("sub") = 0', '2 mkdir("a", 0777) = 0')
         self.assertIn(("M", "a"), events_of(lives_of(replay, 2)[0]))

@@ -10,12 +10,7 @@ from test_output import Output
 
 
 class Words(unittest.TestCase):
-    """Shells and scripts."""
-
-    def test_texts(self) -> None:
-        for words, text in (("sh script", ""), ("sh -c x", "x"), ("cc -c x", ""), ("bash -e script -c x", ""), ("sh -c -e x name", "x"), ("sh -ce x", "x"), ("bash -euo pipefail -c x", "x"),
-                            ("bash +O extglob script", ""), ("bash --norc --rcfile y -- script", ""), ("sh -s x", ""), ("sh -", ""), ("sh -c", "")):
-            self.assertEqual(text, shelltext.shell_text(words.split()), words)
+    """Removals and scripts."""
 
     def test_removals(self) -> None:
         for words, is_one in (("rm -f x", True), ("rm -rf x y", True), ("rm --force x", True), ("rm x", False), ("rm -fv x", False), ("rm -f --verbose x", False), ("rm -if x", False),

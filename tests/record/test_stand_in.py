@@ -11,7 +11,6 @@ from typing import Any, Dict, List
 
 from support import STAND_IN, race_program
 
-from record.missing.inputs import knows_missing
 
 LABELS = ["a", "b", "cc -c x.c", "d/e", "ä", "x\\", "lex.o", "t", "~"]
 PATHS = ["t", "u", "d/x", "d/y", "d/", "e/f/g", "e/", "../out", "w w"]
@@ -71,7 +70,6 @@ class StandIn(unittest.TestCase):
                     said = [(it.returncode, it.stdout if command == "list" else it.stdout.split(b"\n")[0]) for it in (ours, model)]
                     self.assertEqual(*said, msg=tasks.read_text(encoding="utf-8"))
 
-    @unittest.skipUnless(knows_missing(race_program()), "the program does not answer `missing` over tasks")
     def test_random_missing(self) -> None:
         with tempfile.TemporaryDirectory() as room:
             tasks, listing = Path(room, "tasks"), Path(room, "listing")

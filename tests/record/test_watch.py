@@ -13,7 +13,7 @@ import support
 
 from record.watch import library
 from record.watch.elf import NotElf, Program
-from record.watch.files import Output, files_in, open_file, read_start, without_values
+from record.watch.files import files_in, open_file, read_start, without_values
 from record.watch.lay import Watch, makes_of, why_silent
 
 MAKE = str(shutil.which("make"))
@@ -39,10 +39,10 @@ class Said(unittest.TestCase):
         return found, ran
 
     def test_start(self) -> None:
-        """Its words, its environment and where its output leads; a newline in one of them ends no line."""
+        """Its words and its environment; a newline in one of them ends no line."""
         (lines,), _ = self.run_make("all: ;\n", ["-s", "X=a\nb\\n"], NAME="c\nEXIT 7")
         start = read_start(line + "\n" for line in lines)
-        self.assertEqual((["-s", "X=a\nb\\n"], "c\nEXIT 7", "p", True), (start.args, start.environment["NAME"], start.outputs[1].kind, start.says))
+        self.assertEqual((["-s", "X=a\nb\\n"], "c\nEXIT 7", True), (start.args, start.environment["NAME"], start.says))
         self.assertEqual("EXIT 0", lines[-2])
 
     def test_what_it_considers_and_runs(self) -> None:
@@ -106,9 +106,6 @@ class Said(unittest.TestCase):
 
 class Lines(unittest.TestCase):
     """The lines of a file."""
-
-    def test_outputs(self) -> None:
-        self.assertEqual(Output("f", 1, 2, "/a b"), read_start(["OUT 1 f 1 2 /a b\n"]).outputs[1])
 
     def test_without_values(self) -> None:
         text = "ENV A=x\nENV C=x\\nendef\nSAYS 4.3\n# environment\nA = x\n# makefile\nB = x\n# environment under -e\ndefine C\nx\nendef\nendef\nD = x\n"
