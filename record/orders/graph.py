@@ -112,21 +112,25 @@ class Graph:
 
     def held(self, after: Mapping[Key, set[Key]]) -> list[int]:
         """For each task those that have begun before it in every build. `after`: which recipe waits for which besides, each with what runs inside of it."""
-        whole = {key: sum(1 << at for at in self.inside(self.keys[key])) for some in after.values() for key in some if key in self.keys}
-        found: list[int] = []
-        for at, task in enumerate(self.tasks):
-            need = task.before | task.around
-            for recipe in (*numbers(task.around), at) if after else ():
-                for key in after.get(self.tasks[recipe].key or (), ()):
-                    need |= whole.get(key, 0)
-            for other in numbers(need) if after else ():
-                need |= found[other]
-            found.append(need)
+        waits = {self.keys[late]: sum({1 << at for early in some if early in self.keys for at in self.inside(self.keys[early])}) for late, some in after.items() if late in self.keys}
+        special = sum(1 << at for at in waits)
+        found, last = [task.before | task.around for task in self.tasks], list[int]()
+        while found != last:
+            last = [*found]
+            for at, need in enumerate(last):
+                for late in numbers((need | 1 << at) & special):
+                    for early in numbers(waits[late]):
+                        found[at] |= 1 << early | found[early]  # guard: fixes-that-turn-round
         return found
 
     def apart(self, after: Mapping[Key, set[Key]]) -> list[int]:
         """For each recipe the earlier ones that nothing orders with it."""
-        return without(self.free, self.held(after))
+        held = self.held(after)
+        left = without(self.free, held)
+        for at, some in enumerate(held):
+            for later in numbers(some >> at):
+                left[at + later] &= ~(1 << at)
+        return left
 
     def is_free(self, one: int, other: int) -> bool:
         """Whether two tasks are recipes that nothing orders."""
@@ -159,7 +163,7 @@ class Graph:
         order: list[int] = []
         held, done = self.held(after), 0
         for wanted in self.wanted(score):
-            order += numbers((held[wanted] | 1 << wanted) & ~done)
+            order += sorted(numbers((held[wanted] | 1 << wanted) & ~done), key=lambda at: size([held[at]]))
             done |= held[wanted] | 1 << wanted
         place, apart = {at: place for place, at in enumerate(order)}, dict[Key, set[Key]]()
         for pair in pairs_of(left):

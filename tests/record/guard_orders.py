@@ -36,6 +36,7 @@ GUARDS: List[Guard] = [
         ("further-lines-of-recipe", "found = self.owners.get(pid)", "gate.Gates.make_in_a_recipe"),
     ),
     *guards("orders/graph.py",
+        ("fixes-that-turn-round", "found[at] |= 1 << early", "orders_graph.Graphs.fix_that_turns_two_round"),
         ("recipes-around", "found.update({key: -float(at)} if key else {})", "orders_graph.Graphs.order_of_what_runs_inside"),
         ("who-lists-folder", 'for path in row["reads"]:', "orders_graph.Graphs.users_first"),
     ),

@@ -61,6 +61,14 @@ class Graphs(unittest.TestCase):
         self.assertEqual((["n", "b", "c", "a"], {(("/p", "a", 1),): {(("/p", "b", 1),)}}), (self.began(places), apart))
         self.assertEqual(["n", "b", "a", "c"], self.began(graph.beside([(2, 0)])[0]))
 
+    def test_fix_that_turns_two_round(self) -> None:
+        """A recipe may wait for one that came behind it in the serial build, and for what that needs."""
+        graph = self.graph((None, [("a", [], [], []), ("n", [], [], []), ("b", ["n"], [], []), ("c", [], [], [])]))
+        after = {(("/p", "a", 1),): {(("/p", "b", 1),)}}
+        self.assertEqual([0b110, 0, 0b10, 0], graph.held(after))
+        self.assertEqual([0, 0, 0, 0b111], graph.apart(after))
+        self.assertEqual(["c", "n", "b", "a"], self.began(graph.covering([0, 0, 0, 1], after)[0]))
+
     def test_parts(self) -> None:
         """A part of a recipe begins when that does, and what it runs is inside the recipe."""
         rows: List[Row] = [("a#1", [], [], []), ("a", ["a#1"], [], []), ("b", [], [], [])]
