@@ -124,6 +124,11 @@ def environment(watch: Watch) -> Dict[str, str]:
     return watch.environment(env)
 
 
+def counting(watch: Watch) -> List[str]:
+    """The names of the system's folders at which looks are kept: makes over which copies lie, and where a shell looks first for programs."""
+    return [*watch.covered, os.environ.get("PATH", os.defpath).split(":")[0]]
+
+
 def run_build(words: List[str], spool: Path, tops: List[str], watch: Watch, expected: float) -> Tuple[int, float]:
     """The build under strace; meanwhile its trace is sifted, and the modules are loaded that read it. Its status and seconds; `Missing` where nobody may trace."""
     env = environment(watch)
@@ -142,8 +147,7 @@ def run_build(words: List[str], spool: Path, tops: List[str], watch: Watch, expe
         progress = Progress(expected, process.pid)
         filling = pool.submit(pipe.fill, ended.wait, progress.see)
         filling.add_done_callback(lambda _: filled.set())
-        counting = [*watch.covered, env.get("PATH", os.defpath).split(":")[0]]  # where a shell looks first for programs
-        sifting, loading = pool.submit(sift, pipe.file, tops, spool / "sifted", filled.wait, counting), pool.submit(import_module, "record.importing")
+        sifting, loading = pool.submit(sift, pipe.file, tops, spool / "sifted", filled.wait, counting(watch)), pool.submit(import_module, "record.importing")
         try:
             signal.pthread_sigmask(signal.SIG_SETMASK, held)
             status, seconds = process.wait(), time.monotonic() - began

@@ -222,7 +222,7 @@ def replay(work: Callable[[], int], args: List[str], room: str, path: Path) -> i
         put(str(watch.said), kept.said)
         clear(room, kept.tree)
         put(room, kept.tree)
-        main.sift(spool / "trace", tops, spool / "sifted")
+        main.sift(spool / "trace", tops, spool / "sifted", counting=main.counting(watch))
         show(kept, path)
         return kept.given  # type: ignore[no-any-return]
 
