@@ -153,9 +153,13 @@ class Signals(unittest.TestCase):
             pids = [*map(str, below(process.pid))]
             os.killpg(process.pid, signal.SIGKILL)
             process.communicate(timeout=60)
+            until = time.monotonic() + 15
             while any(map(is_alive, pids)) and time.monotonic() < until:
                 time.sleep(0.05)
-            self.assertEqual((True, []), (len(pids) > 3, [*filter(is_alive, pids)]))
+            left = [*filter(is_alive, pids)]
+            for pid in left:
+                os.kill(int(pid), signal.SIGKILL)
+            self.assertEqual((True, []), (len(pids) > 3, left))
 
     def test_terminated(self) -> None:
         self.stopped(signal.SIGTERM)
@@ -374,7 +378,7 @@ class Together(unittest.TestCase):
     def test_a_target_that_something_else_makes(self) -> None:
         makefile = "all: x c d\nx: ; touch begun; while ! test -e go; do sleep 0.05; done; touch x\nc: ; echo 1 > c\nd: ; cat c > d\n"
         with support.Project({"Makefile": makefile}) as project:
-            process = started(project)
+            process = started(project, ["--once"])
             (project.folder / "c").write_text("1\n")
             (project.folder / "go").touch()
             said = process.communicate(timeout=60)[0].decode()
