@@ -17,9 +17,6 @@ from record.trace.lives import Life
 
 NAME = ".exists"
 TOUCHES = ["-MExtUtils::Command", "-e", "touch", "--"]
-LINE = re.compile(r"\s*\$\(NOECHO\) \$\((?:MKPATH|CHMOD|TOUCH)\) (?:\$\(PERM_DIR\) )?\$\(\w+\)(?:\$\(DFSEP\)\.exists)?\s*")
-
-
 Looks = Dict[Tuple[int, str], int]  # when a make looked at such a file, by id of its life, and path
 
 
@@ -62,10 +59,7 @@ def is_marker(life: Life, path: str) -> bool:
 
 
 def is_plain(base: Base, path: str) -> bool:
-    """Whether the rules of a make for such a file are Perl's, and it is needed by targets that are no files."""
-    for name, lines in base.recipes.items():
-        if is_name(name, path) and not all(LINE.fullmatch(line) for line in lines):
-            return False
+    """Whether such a file is needed by targets alone that are no files: so nothing compares its age."""
     return not any(target not in base.phony and any(is_name(one, path) for one in names) for target, names in base.prerequisites.items())  # guard: ages
 
 
