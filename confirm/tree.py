@@ -8,7 +8,7 @@ from pathlib import Path
 from typing import Any
 
 from confirm.races import CannotConfirm, written
-from record.ninja.log import text_of
+from record import machine
 from record.ninja.manifest import Unreadable, read_manifest
 from record.ninja.runs import options_of
 from record.orders.trees import UNCOMPARED
@@ -20,7 +20,7 @@ def of_ninja(tree: Path, folder: str, about: dict[str, Any]) -> Iterator[str]:
     options = options_of(["ninja", *about["words"].split()])
     name = (options[0] if options else {}).get("-f", "build.ninja")
     try:
-        manifest = read_manifest(str(tree / os.path.relpath(about["folder"], folder)), name, text_of)
+        manifest = read_manifest(str(tree / os.path.relpath(about["folder"], folder)), name, machine.text)
     except Unreadable as fault:
         raise CannotConfirm(f"the manifest cannot be read: {fault}") from None
     for edge in manifest.edges:

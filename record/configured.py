@@ -44,7 +44,7 @@ def made_by(status: str) -> Tuple[Set[str], Set[str]]:
     """What a `config.status` says that it makes, with the stamps of that, and what all of these and it itself are made of; and the stamps. Nothing where its
     text is not of autoconf."""
     try:
-        text = machine.opened(status).read()
+        text = machine.text(status)
     except OSError:
         return set(), set()
     found = SOURCES.search(text)

@@ -13,7 +13,7 @@ from typing import Dict, Sequence
 
 from record import machine
 from record.folder import Record
-from record.ninja.log import kept_texts
+from record.ninja.manifest import OWN as OF_NINJA
 from record.trace.names import Names
 from record.watch.files import keep_files
 
@@ -54,4 +54,4 @@ def first_tree(tops: Sequence[str], linked: Sequence[str]) -> "tuple[Names, Dict
         names.walk(top)
     for path in linked:
         names.share(path)
-    return names, kept_texts(names)
+    return names, {path: machine.text(path) for path, kind in names.before.items() if kind == "f" and path.endswith((".ninja", *OF_NINJA[:2]))}

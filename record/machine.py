@@ -7,14 +7,13 @@ neither the project nor its machine is. A question that was not noted is an erro
 One question has one answer in such a block. What a build changes is asked in two blocks: one before it, one behind it.
 """
 
-import io
 import json
 import os
 import subprocess
 from contextlib import contextmanager
 from functools import wraps
 from pathlib import Path
-from typing import Any, Callable, Dict, Iterator, List, Optional, TextIO, Tuple, TypeVar, cast
+from typing import Any, Callable, Dict, Iterator, List, Optional, Tuple, TypeVar, cast
 
 Ask = TypeVar("Ask", bound=Callable[..., Any])
 Question = Tuple[Any, ...]  # the name of a function, and its words
@@ -110,15 +109,14 @@ stat, lstat, readlink, listdir = asked(os.stat), asked(os.lstat), asked(os.readl
 
 
 @asked
-def read(path: str, size: int = -1) -> bytes:
-    """What a file holds, or so many bytes of it."""
-    with open(path, "rb") as file:
-        return file.read(size)
+def read(path: str) -> bytes:
+    """What a file holds."""
+    return Path(path).read_bytes()
 
 
-def opened(path: str, errors: str = "surrogateescape", newline: Optional[str] = None) -> TextIO:
-    """A file as a text."""
-    return io.TextIOWrapper(io.BytesIO(read(path, -1)), encoding="utf-8", errors=errors, newline=newline)
+def text(path: str) -> str:
+    """A file as a text; bytes that are none are kept."""
+    return read(path).decode("utf-8", "surrogateescape")
 
 
 @asked

@@ -26,7 +26,7 @@ def text_of(path: str) -> str:
     leads to says nothing when the build has ended. To open it may wait for ever, or gives what is the recorder's own."""
     if not machine.isfile(path) or os.path.normpath(path).startswith(OF_PROCESS):  # guard: what-cannot-be-read-again
         raise OSError(errno.EINVAL, "is no plain file", path)
-    return machine.opened(path, "replace").read()
+    return machine.text(path)
 
 
 @dataclass(eq=False)

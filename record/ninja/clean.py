@@ -6,9 +6,9 @@ import subprocess
 from pathlib import Path
 from typing import Iterator, List
 
+from record import machine
 from record.messages import reason
-from record.ninja.log import OWN
-from record.ninja.manifest import Unreadable, read_manifest
+from record.ninja.manifest import OWN, Unreadable, read_manifest
 
 
 class CannotClean(Exception):
@@ -26,7 +26,7 @@ def run(words: List[str], package: str, use: str) -> "subprocess.CompletedProces
 def made_in(folder: str) -> Iterator[str]:
     """The files that ninja has made, by the statements of a folder, and its logs."""
     try:
-        manifest = read_manifest(folder, "build.ninja", lambda path: Path(path).read_bytes().decode("utf-8", "surrogateescape"))
+        manifest = read_manifest(folder, "build.ninja", machine.text)
     except (Unreadable, OSError) as fault:
         raise CannotClean("%s cannot be cleaned: %s" % (folder, reason(fault) if isinstance(fault, OSError) else fault)) from None
     edges = [edge for edge in manifest.edges if not edge.is_phony and not edge.is_generator]

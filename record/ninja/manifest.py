@@ -18,6 +18,7 @@ VARIABLE = re.compile(r"\$(?:\{([A-Za-z0-9_.-]+)\}|([A-Za-z0-9_-]+)|(.?))", re.S
 TOKEN = re.compile(r"(\|\||\|@|\||:)|((?:\$.|[^ :|$])+)")
 LET = re.compile(r" *([A-Za-z0-9_.-]+) *= *(.*)", re.S)
 PLAIN = re.compile(r"[A-Za-z0-9_+./-]*\Z")
+OWN = (".ninja_log", ".ninja_deps", ".ninja_lock")  # what ninja keeps for itself
 SECTIONS = {"|": "implicit", "||": "order_only", "|@": "validations"}
 
 

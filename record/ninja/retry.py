@@ -11,7 +11,7 @@ from pathlib import Path
 from typing import TYPE_CHECKING, Dict, List
 
 from record.command import with_jobs
-from record.ninja.log import OWN
+from record.ninja.manifest import OWN
 from record.trace.names import Names
 
 if TYPE_CHECKING:

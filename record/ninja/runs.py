@@ -11,7 +11,6 @@ from record import machine
 from record.build.work import Tool, Work
 from record.commands import shelltext
 from record.make.owners import Owners
-from record.ninja.log import text_of
 from record.ninja.manifest import Edge, Manifest, Unreadable, canonical, read_manifest
 from record.trace.lives import Life
 from record.trace.names import Names
@@ -191,7 +190,7 @@ class Runs:
         first = min((life.events.get((kind, path), NEVER) for life in self.lives for kind in "WCD"), default=NEVER)
         last = max((life.changed.get(path, -1) for life in self.lives), default=-1)  # guard: manifest-that-one-process-changed-twice
         if last < place:  # guard: manifest-that-changed-since
-            return text_of(path)
+            return machine.text(path)
         if path in self.kept and first > place:  # guard: manifest-that-changed-before
             return self.kept[path]
         raise Unreadable("nobody kept %s as it was when ninja read it" % path)

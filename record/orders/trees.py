@@ -11,7 +11,7 @@ from collections.abc import Iterable
 from dataclasses import dataclass
 from pathlib import Path
 
-from record.ninja.log import OWN
+from record.ninja.manifest import OWN
 
 UNCOMPARED = {".git", ".hg", ".svn"}  # folders of version control: builds may refresh what is in them
 CHUNK = 1 << 20

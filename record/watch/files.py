@@ -7,7 +7,7 @@ from pathlib import Path
 from typing import Dict, Iterable, Iterator, List, TextIO, Tuple
 
 ESCAPED = re.compile(r"\\([n\\])")
-HEAD = ("MAKE", "ARG", "ENV", "CWD", "OUT", "ASKS", "SAYS")
+HEAD = ("MAKE", "ARG", "ENV", "CWD", "ASKS", "SAYS")
 PRINTS = ("db_level", "print_data_base_flag")  # flags of a make that prints its own words, and runs recipes all the same
 OWN_WORDS = "a make that prints its own words (-d, -p, --debug, --trace) cannot be seen: make %s"
 PUBLIC = {"PATH", "HOME", "PWD", "OLDPWD", "SHELL", "MAKEFLAGS", "MFLAGS", "GNUMAKEFLAGS", "MAKELEVEL", "MAKEFILES"}  # variables that hold no secrets

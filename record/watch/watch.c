@@ -7,7 +7,7 @@
    A life of a make has a file, SAID/PID.LIFE.make, where SAID lies beside this library. It holds
 
      MAKE, ARG, ENV      how make was called, its words, its environment, a line each
-     CWD, OUT            the folder in which it began; where standard output leads
+     CWD                 the folder in which it began
      SAYS                its version, where it says from here on what it does
      ASKS                else the flag of make by which it only answers; of a makefile that lets it print its own words, from there on
      lines of make       what it considers, and what it does with jobs, in English
@@ -103,18 +103,6 @@ static void put_line(const char *key, const char *text) {
     if (*text == '\n' || *text == '\\') fprintf(said, "\\%c", *text == '\n' ? 'n' : '\\');
     else fputc_unlocked(*text, said);
   fputc_unlocked('\n', said);
-}
-
-static void put_output(int stream) {
-  struct stat found;
-  char link[32], path[LONGEST] = "", kind = '-';
-  if (!fstat(stream, &found) && !S_ISCHR(found.st_mode)) {
-    kind = S_ISREG(found.st_mode) ? 'f' : 'p';
-    snprintf(link, sizeof link, "/proc/self/fd/%d", stream);
-    if (readlink(link, path, sizeof path - 1) < 0) *path = 0;
-  }
-  fprintf(said, "OUT %d %c %lu %lu", stream, kind, kind == '-' ? 0 : (unsigned long)found.st_dev, kind == '-' ? 0 : (unsigned long)found.st_ino);
-  put_line("", path);
 }
 
 /* Opens the file of this life; where make begins again, that of the last one. */
@@ -220,7 +208,6 @@ __attribute__((constructor)) static void begin(int argc, char **argv) {
   for (int at = 1; at < argc; at++) put_line("ARG", argv[at]);
   for (char **one = environ; *one; one++) put_line("ENV", *one);
   put_line("CWD", getcwd(cwd, sizeof cwd) ? cwd : "");
-  put_output(1);
   fflush_unlocked(said);
   if (signal(SIGPIPE, end_unread) != SIG_DFL) signal(SIGPIPE, SIG_IGN);
   errno = before;

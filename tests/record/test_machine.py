@@ -13,15 +13,18 @@ from typing import Dict, Iterator, Set
 import support
 from record import machine
 from record.orders.graph import Graph
-from record.import_again import import_again
 from record.folder import rewrite
+
+sys.path.append(str(support.HERE / "golden"))
+
+from goldens import import_again  # noqa: E402
 
 ASKS = {"os.path.%s" % name for name in ("isfile", "isdir", "islink", "exists", "lexists", "realpath", "getsize", "samefile")} | {
     "os.%s" % name for name in ("stat", "lstat", "readlink", "listdir", "scandir", "walk", "environ", "getenv", "geteuid", "getcwd", "umask")} | {
     "open", "tokenize.open", "glob.glob", "subprocess.run", "time.time"}
 OF_PATHS = {"read_text", "read_bytes", "is_file", "is_dir", "is_symlink", "exists", "iterdir", "rglob", "resolve", "samefile"}  # methods of paths that ask too
 # Modules that run builds, read what was kept of one, or write a record or judge it.
-OTHERS = ("machine.py", "first_tree.py", "fresh.py", "facts.py", "folder.py", "entry.py", "messages.py", "judge.py", "importing.py", "import_again.py", "footprints.py", "orders/processes.py", "missing", "make/words.py",
+OTHERS = ("machine.py", "first_tree.py", "fresh.py", "facts.py", "folder.py", "entry.py", "messages.py", "judge.py", "importing.py", "footprints.py", "orders/processes.py", "missing", "make/words.py",
           "trace/sifting.py", "watch/files.py")
 
 

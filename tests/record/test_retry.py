@@ -10,12 +10,11 @@ from record.fixes import remedy
 from record.judge import Race
 from record.ninja.fix import owner_of, pool_text
 from record.ninja.builds import MISSING
-from record.ninja.log import kept_texts
+from record.facts import first_tree
 from record.ninja.manifest import Manifest, read_manifest
 from record.ninja.retry import undo
 from record.ninja.runs import options_of
 from record.trace.lives import Life
-from record.trace.names import Names
 
 HEAD = "# ninja log v5\n"
 
@@ -72,9 +71,7 @@ class Undone(unittest.TestCase):
         """What cannot be set right, and the names that are left."""
         with support.Project({"old": "x", ".ninja_log": HEAD}) as project:
             top = os.path.realpath(project.folder)
-            names = Names()
-            names.walk(top)
-            kept = kept_texts(names)
+            names, kept = first_tree([top], ())
             project.sh("mkdir -p d/e; touch d/e/f .ninja_deps; echo more >> .ninja_log; echo y > old")
             life = Life(1)
             life.events = {(kind, top + "/" + path): 1 for path, kinds in events.items() for kind in kinds}

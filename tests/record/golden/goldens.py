@@ -1,14 +1,16 @@
 """Golden traces: what the recorder kept of a build of a Debian package, and the tasks and the verdict that came of it, each in an archive. `run` compares,
 `make` makes."""
 
+import argparse
 import difflib
 import filecmp
+import json
 import lzma
 import os
 import sys
 import tarfile
 from pathlib import Path
-from typing import List
+from typing import Any, Dict, List, Optional, Tuple
 
 HERE = Path(__file__).resolve().parent
 TOP = HERE.parent.parent.parent
@@ -18,8 +20,12 @@ SIGNS = 240  # so much of such a line, where it differs
 
 sys.path.insert(0, str(TOP))
 
+from record import machine  # noqa: E402
 from record.build.text import labels_of, lines_of, shown  # noqa: E402
-from record.import_again import import_again  # noqa: E402
+from record.facts import OF_BUILD, SAID, Facts, first_tree  # noqa: E402
+from record.first_tree import FirstTree  # noqa: E402
+from record.folder import Record  # noqa: E402
+from record.importing import Imported, complete, imported  # noqa: E402
 from record.judge import ask  # noqa: E402
 
 
@@ -38,7 +44,24 @@ def unpack(archive: Path, folder: Path) -> Path:
     folder.mkdir()
     with lzma.open(archive, "rb") as file, tarfile.open(fileobj=file, mode="r|") as whole:
         whole.extractall(folder)
+    (folder / SAID).mkdir(exist_ok=True)  # no make may have said anything
     return folder
+
+
+def import_again(folder: Path, out: Optional[Path] = None) -> Tuple[Record, Imported]:
+    """Imports a build again, of what was kept of it; the machine is not asked. The record is written to `out`, if there is one, without what
+    `--missing` and `--footprints` add: only then the places of lines are looked for, and what else a report shows."""
+    about: Dict[str, Any] = json.loads((folder / "facts.json").read_text(encoding="utf-8"))
+    first: Dict[str, Any] = about.get("first") or {}
+    first.update({name: tuple(first.get(name, ())) for name in ("new", "left", "linked")}, tracked=frozenset(first.get("tracked", ())))
+    with machine.answering(machine.Answers.written(folder / "before")):
+        names, kept = first_tree(about["tops"], first["linked"])
+    record = Record(*(about[name] for name in OF_BUILD))
+    record.first = FirstTree(**first) if about.get("first") else None
+    facts = Facts(folder, about["place"], about["real"], names, kept, folder / SAID, about["said"], about["covered"])
+    options = argparse.Namespace(warm=about["warm"], footprints=False, missing=False, held=())
+    with machine.answering(machine.Answers.written(folder / "after")):
+        return record, complete(record, facts, out, options) if out else imported(record, facts, options.warm)
 
 
 def golden_of(facts: Path, golden: Path, race: str) -> Path:
