@@ -241,7 +241,7 @@ def attempt(options: argparse.Namespace, words: List[str], tools: Dict[str, str]
         names, kept = first_tree(tops_of(words, options.top), options.tree.linked)
     rooms = room_of_programs(names.tops)
     room = Path(tempfile.mkdtemp(prefix="race-record-", dir=rooms))
-    spool, watch = Path(os.path.realpath(room)), Watch(os.path.dirname(options.gate) or rooms, options.gate)
+    spool, watch = Path(os.path.realpath(room)), Watch(os.path.dirname(options.gate) or rooms, options.gate, is_many=True)
     try:
         watch.prepare(makes_of(os.environ.get("PATH", os.defpath)))
         status, seconds = run_build(prepared(options) + words, spool, names.tops, watch, options.expected)

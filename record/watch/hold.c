@@ -3,7 +3,7 @@
    The gate is a socket beside this library. Where there is one, make or ninja starts a copy of itself in the place of a recipe's first
    process: that connects to the gate, waits for an answer, and then becomes the process. So it has its number, its files and its
    environment. All others, such as those of $(shell ..) and of a recipe's further lines, begin at once; further lines wait, too, where
-   there is a file `each`. The answer may be a filter of calls: the kernel reports these, of the process and of all below it, at a descriptor
+   there is a file `each`, and a file `many` says that no number of jobs holds back a recipe. The answer may be a filter of calls: the kernel reports these, of the process and of all below it, at a descriptor
    whose number goes back to the gate. */
 
 #define _GNU_SOURCE
@@ -67,6 +67,19 @@ static void wait_at_gate(void) {
   close(channel);
 }
 
+/* The gate chooses among all recipes that are ready: several jobs in the words of a make or a ninja are as many as there are recipes. */
+static void take_many(char **words) {
+  for (; *words; words++) {
+    size_t end = strspn(*words, "-BbdeiknqRrSsvw"); /* flags before it, as in `-kj4` */
+    if (**words != '-' || (*words)[end] != 'j') continue;
+    end += strncmp(*words, "--jobs", 6) ? 1 : 4;
+    end += (*words)[end] == '=';
+    char **number = (*words)[end] ? words : words + 1, *many = NULL;
+    if (!*number || atoi(*number + (number == words ? end : 0)) < 2) continue;
+    if (asprintf(&many, "%.*s1000", number == words ? (int)end : 0, *words) > 0) *number = many;
+  }
+}
+
 /* Before the other constructors: a process that waits is no make. Its words are HOLD, a program, and the words of that. */
 __attribute__((constructor(101))) static void find_gate(int argc, char **argv) {
   Dl_info here;
@@ -84,9 +97,11 @@ __attribute__((constructor(101))) static void find_gate(int argc, char **argv) {
   }
   is_ninja = !strncmp(program_invocation_short_name, "ninja", 5) || !strncmp(program_invocation_short_name, "samu", 4);
   if (access(gate, F_OK) || access(holder, X_OK)) *gate = 0;
-  char each[sizeof holder];
-  snprintf(each, sizeof each, "%.*seach", length, here.dli_fname);
-  is_each = !access(each, F_OK);
+  char path[sizeof holder];
+  snprintf(path, sizeof path, "%.*seach", length, here.dli_fname);
+  is_each = !access(path, F_OK);
+  snprintf(path, sizeof path, "%.*smany", length, here.dli_fname);
+  if (!access(path, F_OK)) take_many(argv);
 }
 
 static void note_output(int from, int to) {

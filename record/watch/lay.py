@@ -62,6 +62,7 @@ class Watch:
     rooms: str
     gate: str = ""
     is_each: bool = False  # all lines of a recipe wait
+    is_many: bool = False  # all recipes that are ready wait, whatever number of jobs a make has in its words
     covered: Dict[str, Path] = field(default_factory=dict)  # by make: its copy
     ninjas: Dict[str, Path] = field(default_factory=dict)  # the same of ninjas whose commands wait
     mounts: str = ""  # the list of mounts that the processes of the build have
@@ -82,8 +83,8 @@ class Watch:
         if self.gate:
             self.ninjas = self.copies(makes_of(os.environ.get("PATH", os.defpath), NINJAS), ())
             (self.room / "gate").symlink_to(self.gate)
-            if self.is_each:
-                (self.room / "each").touch()
+            for name in ["each"] * self.is_each + ["many"] * self.is_many:  # guard: number-of-jobs-in-words
+                (self.room / name).touch()
             (self.room / "hold").symlink_to(next(iter([*self.covered.values(), *self.ninjas.values()])))
         self.covered = self.covered if self.can_be_laid() else {}
 

@@ -65,7 +65,7 @@ GUARDS: List[Guard] = [
         ("manifest-that-changed-before", "if path in self.kept:", "ninja_runs.Changed.before_and_after_ninja_read_it"),
         ("manifest-that-one-process-changed-twice", 'last = max((life.events.get(("W", path), -1) for life in self.lives), default=-1)',
          "ninja.Ninja.manifest_that_a_script_changes_twice", LOST_HOLE),
-        ("dyndep-file-that-changed-since", "manifest.add_found(edge, read_manifest(manifest.folder, name, text_of))", "ninja.Ninja.dyndep_that_changes", LOST_HOLE),
+        ("dyndep-file-that-changed-since", "manifest.add_found(edge, read_manifest(manifest.folder, name, machine.text))", "ninja.Ninja.dyndep_that_changes", LOST_HOLE),
         ("ninja-that-failed", "if False:", "ninja.Ninja.inner_ninja_that_fails", LOST_HOLE),
         ("command-that-is-cut", "if not edges:", "ninja_runs.Holes.command_that_is_cut"),
         ("command-of-nobody", 'str("ninja ran a command that no build statement has: " + job.text[:200])', "ninja_runs.Holes.command_that_no_statement_has"),

@@ -25,6 +25,7 @@ GUARDS: List[Guard] = [
         ("data-base-of-make-that-goes", "if False:", "words.Holes.data_base_that_a_recipe_prints_whole"),
     ),
     *guards("watch/lay.py",
+        ("number-of-jobs-in-words", 'for name in ["each"] * self.is_each:', "orders.Orders.number_of_jobs_in_a_script"),
         ("number-that-comes-again", "pass", "ends.Signals.number_that_comes_again", "[True, True]"),
     ),
     *guards("watch/files.py",

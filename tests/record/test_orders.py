@@ -206,6 +206,17 @@ class Orders(unittest.TestCase):
         self.assertEqual((0, True), (found.status, "recipes that nothing orders come to the same" in found.text()), found.text())
         self.assertIn("note: not built in other orders: the system gives no mounts", found.text())
 
+    def test_number_of_jobs_in_a_script(self) -> None:
+        """It holds back no recipe: few builds turn round all pairs."""
+        outputs = "abcdefgh"
+        files = {"Makefile": "all: ; @sh s\n", "in.mk": "all: %s\n%s: ; @echo > $@\n" % (" ".join(outputs), " ".join(outputs)),
+                 "build.ninja": "rule r\n command = echo > $out\n" + "".join("build %s: r\n" % name for name in outputs)}
+        for words in ("make -sj2 -f in.mk", "make -j2 -f in.mk", "make --jobs=2 -f in.mk", "make --jobs 2 -f in.mk", "ninja -j2", "ninja -j 2"):
+            with self.subTest(words), support.Project({**files, "s": words}) as project:
+                found = project.record(once=False)
+                self.assertEqual((0, 28), (found.status, found.record["orders"]["turned"]), found.text())
+                self.assertLess(found.record["orders"]["made"], 6)
+
     def test_statements_of_ninja(self) -> None:
         manifest = "rule r\n  command = $c\nbuild d/a: r\n  c = echo a > d/a\nbuild list: r\n  c = ls d > list\nbuild all: phony d/a list\ndefault all\n"
         with support.Project({"build.ninja": manifest, "d/k": ""}) as project:
