@@ -6,9 +6,7 @@ what runs inside of the two; it goes on when the other one has ended, or when no
 
 from __future__ import annotations
 
-import os
 import socket
-import struct
 from collections.abc import Collection, Iterator
 from dataclasses import dataclass, field
 from functools import partial
@@ -18,11 +16,9 @@ from confirm.schedules import Point, Points, Schedule
 from confirm.uses import FILTER, program_of, use_of
 from record.orders.gate import Gate, Key
 from record.orders.processes import parent_of, words_of
-from record.orders.reported import Call, go_on
-from record.watch.lay import LIBC
+from record.orders.reported import Call, go_on, reports_of
 
 LATEST = -1e9  # recipes that the record has not begin behind all others, except one that is held at its beginning
-GET_DESCRIPTOR = 438  # the number of pidfd_getfd, on all machines
 
 
 @dataclass
@@ -79,16 +75,7 @@ class Meeting(Gate):
 
     def ask_for_reports(self, pid: int, channel: socket.socket, side: str) -> None:
         """Has the kernel report the calls of a process that waits, and of those below it. Where it cannot, only the beginning of a line is known."""
-        listener = -1
-        try:
-            if FILTER:
-                channel.sendall(FILTER)
-                number, = struct.unpack("i", channel.recv(4, socket.MSG_WAITALL))
-                process = os.pidfd_open(pid)
-                listener = LIBC.syscall(GET_DESCRIPTOR, process, number, 0)
-                os.close(process)
-        except (OSError, struct.error):  # it has ended
-            pass
+        listener = reports_of(pid, channel, FILTER)
         if listener < 0:
             self.points.add(side, "start", "-", program_of(pid))
         else:

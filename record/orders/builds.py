@@ -31,6 +31,7 @@ from record.command import with_jobs
 from record.entry import forget_coerced, in_one_step
 from record.orders.gate import Gate, Key
 from record.orders.holding import Ends
+from record.orders.overlap import Overlap
 from record.orders.processes import children_of, end
 from record.orders.trees import CannotTry, copy, held_by, remove
 from record.trace.lives import Address
@@ -43,8 +44,6 @@ QUIET, TIMES = 20.0, 2.0  # a build hangs where nothing begins or ends for so ma
 ENDING = 2.0  # seconds that the output of a build has to come, when that has ended
 WITH_PARENT, TAKES_LEFT = 1, 36  # for prctl: which signal comes when the parent ends; who outlives its parent becomes a child of this process
 SET_FLAGS, IS_UP = 0x8914, 1  # of a device of the network
-# What goes before a command so that each call that makes a folder takes two seconds: the gate lets the next recipe begin meanwhile.
-SLOWLY = ("strace", "-f", "-qq", "-o", os.devnull, "--seccomp-bpf", "-e", "signal=none", "-e", "trace=?mkdir,?mkdirat", "-e", "inject=?mkdir,?mkdirat:delay_enter=2000000")
 OWN_NET, OWN_KEYS = 0x40000000, 0x8000000  # for unshare: ports; memory and queues that have keys
 SHOWN_LINES = re.compile(r"(?i)\b(error|fatal|cannot|no such|not found|failed|no rule)\b|\*\*\*")
 SHOWN = 3  # so many of them
@@ -53,8 +52,8 @@ SHOWN = 3  # so many of them
 @dataclass
 class Plan:
     """A build to be made: which recipe begins of those that wait, with how many jobs, and whether it is recorded. `is_flipped`: where `places` does not say,
-    the last that came to wait, and not the first; `at_once`: so many may run side by side, of those that wait for no other one, also by `apart`; `is_slow`: to
-    make a folder takes a while; `ends`: of these processes, which are held there: no recipe waits to begin."""
+    the last that came to wait, and not the first; `at_once`: so many may run side by side, of those that wait for no other one, also by `apart`;
+    `beside`: of these pairs both make a folder at once; `ends`: of these processes, which are held there: no recipe waits to begin."""
 
     name: str
     places: Mapping[Key, float]
@@ -64,7 +63,7 @@ class Plan:
     is_flipped: bool = False
     at_once: int = 1
     apart: Mapping[Key, set[Key]] = field(default_factory=dict)
-    is_slow: bool = False
+    beside: Sequence[tuple[Key, Key]] = ()
     ends: frozenset[Address] = frozenset()
 
 
@@ -192,8 +191,7 @@ class Room:
         place = self.place(plan)
         for number, tree in enumerate(self.trees(plan)):
             copy(self.fresh(number), tree)
-        after = {late: {*plan.after.get(late, ()), *plan.apart.get(late, ())} for late in (*plan.after, *plan.apart)}
-        gate = gate or (Ends(place, {}, ends=plan.ends) if plan.ends else Gate(place, plan.places, after, plan.is_flipped, plan.at_once))
+        gate = gate or self.gate_of(plan)
         began, before = time.monotonic(), {*children_of(os.getpid())}
         read, output = os.pipe()  # and no file, which a recipe could empty (`> /dev/stdout`)
         said: list[bytes] = []
@@ -211,6 +209,15 @@ class Room:
         keeping.join(ENDING)
         status = os.WEXITSTATUS(os.waitpid(pid, 0)[1])
         return Built(plan, status if has_ended else None, time.monotonic() - began, gate.began, b"".join(said).decode(errors="replace"), [*map(held_by, self.trees(plan))])
+
+    def gate_of(self, plan: Plan) -> Gate:
+        """The gate that a plan means."""
+        after = {late: {*plan.after.get(late, ()), *plan.apart.get(late, ())} for late in (*plan.after, *plan.apart)}
+        if plan.ends:
+            return Ends(self.place(plan), {}, ends=plan.ends)
+        if plan.beside:
+            return Overlap(self.place(plan), plan.places, after, pairs=plan.beside)
+        return Gate(self.place(plan), plan.places, after, plan.is_flipped, plan.at_once)
 
     def build_in_place(self, plan: Plan, gate: Gate, listener: socket.socket, output: int) -> int:
         """Builds in this process; the status."""
@@ -238,7 +245,7 @@ class Room:
         watch.prepare(makes_of(os.environ.get("PATH", os.defpath)))
         env = self.environment()
         words, env = with_many(self.words, env, plan.jobs)
-        return subprocess.run([*self.setup, *(SLOWLY if plan.is_slow else ()), *words], env=watch.environment(env), preexec_fn=watch.lay, check=False).returncode
+        return subprocess.run([*self.setup, *words], env=watch.environment(env), preexec_fn=watch.lay, check=False).returncode
 
 
 def with_many(words: Sequence[str], env: Mapping[str, str], jobs: int) -> tuple[list[str], dict[str, str]]:

@@ -9,6 +9,7 @@ import ctypes
 import fcntl
 import os
 import select
+import socket
 import struct
 from collections.abc import Sequence
 from contextlib import suppress
@@ -22,6 +23,7 @@ NO_NEW_RIGHTS, FILTER, LISTENED, UNTIL_KILLED = 38, 1, 8, 32  # for prctl, and f
 RECEIVE, ANSWER = 0xC0502100, 0xC0182101  # for ioctl
 REPORTED, ANSWERED = struct.Struct("=QIIiIQ6Q"), struct.Struct("=QqiI")
 GOES_ON = 1
+GET_DESCRIPTOR = 438  # the number of pidfd_getfd, on all machines
 
 
 class Call(NamedTuple):
@@ -53,6 +55,20 @@ def report(program: bytes) -> int:
     if found < 0:
         raise OSError(ctypes.get_errno(), "the kernel reports no calls")
     return found
+
+
+def reports_of(pid: int, channel: socket.socket, program: bytes) -> int:
+    """From here on the kernel reports calls of a process that waits at the gate (watch/hold.c), and of each that it starts; the descriptor by which it does, and -1
+    where it does not."""
+    try:
+        channel.sendall(program)
+        number, = struct.unpack("i", channel.recv(4, socket.MSG_WAITALL) if program else b"")
+        process = os.pidfd_open(pid)
+        found: int = LIBC.syscall(GET_DESCRIPTOR, process, number, 0)
+        os.close(process)
+        return found
+    except (OSError, struct.error):  # it has ended
+        return -1
 
 
 def is_reported(listener: int) -> bool:

@@ -220,12 +220,12 @@ class Trial:
                 self.is_whole = False
                 return
             places, met = self.graph.beside(left)
-            plan = Plan("overlap", places, after=self.after, is_slow=True)
+            plan = Plan("overlap", places, after=self.after, beside=[(self.graph.tasks[one].key or (), self.graph.tasks[other].key or ()) for one, other in met])
             built, = self.make(plan)
             if built.otherwise and len(met) > 1:
                 for pair in met:
                     self.overlap([pair])
-            elif built.otherwise and not self.make(replace(plan, is_slow=False))[0].otherwise:
+            elif built.otherwise and not self.make(replace(plan, beside=()))[0].otherwise:
                 self.shown.append(Shown([key for at in sorted(met[0]) for key in [self.graph.tasks[at].key] if key], built, True))
             left = [pair for pair in left if pair not in met]
 
