@@ -129,7 +129,7 @@ class Imported:
                 self.record.holes += builder.holes
         for path in made_unseen(self.makes, self.ninjas, names, past.until(sys.maxsize)):
             self.record.holes.append("%s was absent, and something else made it while the build ran, so its recipe did not run: let nothing else build here, and record again" % path)
-        self.builds.sort(key=lambda build: build.make.life.born)
+        self.builds.sort(key=lambda build: start_of(build.make.life))  # guard: when-a-make-began
 
     def texts(self) -> Dict[str, str]:
         """By path: what each makefile said when make read it; nothing for one that a make begins with which no recipe runs, as without it there is no such build."""

@@ -4,6 +4,7 @@ from __future__ import annotations
 
 import json
 from collections.abc import Mapping
+from itertools import chain
 from typing import Any
 
 from record.folder import replace
@@ -17,7 +18,9 @@ def join(graph: Graph, other: Graph) -> None:
         rows = {row["task"]: row for row in other.rows.get(other.known.get(known, ""), ())}
         for row in graph.rows[number]:
             also = judged(other.builds[other.known[known]], rows[row["task"]]) if row["task"] in rows else row
-            writes = {*row["writes"], *also["writes"]}
+            both = (graph.builds[number], other.builds.get(other.known.get(known, ""), {"labels": {}}))
+            leaves = chain(*(one["labels"].get(row["task"], {}).get("leaves", ()) for one in both if graph.about(number, row["task"])["kind"] == "recipe"))
+            writes = {*row["writes"], *also["writes"], *leaves}  # guard: what-one-task-alone-writes-in-each
             row["reads"], row["writes"] = sorted({*row["reads"], *also["reads"]} - writes), sorted(writes)
 
 

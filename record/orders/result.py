@@ -52,7 +52,10 @@ def premise(orders: Orders) -> list[str]:
 
 
 def uncompared(orders: Orders, folder: str, most: int) -> list[str]:
-    """Names that two serial builds leave otherwise."""
-    names = [os.path.relpath(name, folder) for name in (orders or {}).get("unstable", ())]
-    more = " and %d more" % (len(names) - most) if len(names) > most else ""
-    return ["two builds in one order differ in %s%s, so other orders are not compared there" % (", ".join(names[:most]), more)] if names else []
+    """Names that two serial builds leave otherwise, and those that all builds in copies do."""
+    found = []
+    for key, text in (("unstable", "two builds in one order differ in %s, so other orders are not compared there"), ("apart", "all builds in copies leave %s otherwise than the recorded one")):
+        names = [os.path.relpath(name, folder) for name in (orders or {}).get(key, ())]
+        more = " and %d more" % (len(names) - most) if len(names) > most else ""
+        found += [text % (", ".join(names[:most]) + more)] if names else []
+    return found

@@ -34,7 +34,7 @@ class Trial:
 
     room: Room
     graph: Graph
-    serial: list[dict[str, str]]  # what the recorded build left
+    recorded: list[dict[str, str]]  # what the recorded build left
     after: dict[Key, set[Key]]  # which recipe waits for which besides: what ends the conflicts
     most: int
     markers: set[str]  # files that say that a folder is there: which of the recipes runs that make one depends on the order
@@ -48,6 +48,7 @@ class Trial:
 
     def __post_init__(self) -> None:
         self.turned = [0] * len(self.graph.tasks)  # for each recipe the earlier ones that have run behind it
+        self.serial, self.trees = self.recorded, [*map(Path, self.room.tops)]  # what a serial build left, and where that stands
         self.unstable: list[set[str]] = [set() for _ in self.serial]  # names in which serial builds differ
         self.passing: list[list[re.Pattern[str]]] = [[] for _ in self.serial]
 
@@ -73,6 +74,12 @@ class Trial:
         while size(self.left) != left and self.goes_on:
             left = size(self.left)
             self.try_all(self.covers(self.left))
+        if self.is_parallel and not self.shown and self.names(self.recorded):
+            self.compare(*side_by_side(self.room, [SERIAL]))
+        apart = self.names(self.recorded)
+        if self.is_parallel and not self.shown and apart:  # guard: what-the-recorded-build-left
+            text = [str(difference(name, self.trees[number], Path(self.room.tops[number]))) for number, name in apart[:SHOWN]]
+            self.shown.append(Shown((), Built(SERIAL, 0, 0.0, [], "", self.recorded, text, self.whole(*apart[0]))))
 
     def begin(self, running: Running) -> Built:
         """The second serial build, and the flipped one: those that ran beside the recorded build, where they count. `CannotTry` where the project cannot be built a
@@ -91,6 +98,11 @@ class Trial:
             return self.begin(running)
         if again.status != 0:
             raise CannotTry("of a second serial build, in a copy: " + "; ".join(again.message()))
+        if any(map(differing, self.recorded, again.held)):  # by chance, or as it ran several recipes at once, or the copies are another place
+            running.begin(second := replace(SERIAL, name="second"))
+            base = running.result(second.name)
+            if base.status == 0:  # guard: copies-among-themselves
+                self.serial, self.trees, self.builds = base.held, self.room.trees(second), 1
         self.compare(again)
         self.builds += 2
         return self.seen(running.result(flip.name))
@@ -139,22 +151,26 @@ class Trial:
             self.passing[number] += passing(one.keys() - other.keys(), other.keys() - one.keys())
         self.room.forget(again.plan)
 
-    def names(self, built: Built) -> list[tuple[int, str]]:
+    def names(self, held: Sequence[dict[str, str]]) -> list[tuple[int, str]]:
         """What a build left otherwise: the tree, and the name in it."""
-        return [(number, name) for number, (one, other) in enumerate(zip(self.serial, built.held)) for name in sorted(differing(one, other) - self.unstable[number])
-                if not any(it.fullmatch(name) for it in self.passing[number])]
+        return [(number, name) for number, (one, other) in enumerate(zip(self.serial, held)) for name in sorted(differing(one, other) - self.unstable[number])
+                if name in self.serial[number] or not any(it.fullmatch(name) for it in self.passing[number])]  # guard: names-that-a-serial-build-leaves
+
+    def whole(self, number: int, name: str) -> str:
+        """The path of a name in a tree."""
+        return os.path.join(self.room.tops[number], name)
 
     def seen(self, built: Built) -> Built:
         """Takes in how a build ended otherwise than the serial one, which of two builds the one with one job is; its copy goes. Recipes that the recorded build did
         not run come and go, such as those of CMake's tries."""
-        names, order, began, known = self.names(built), {*self.order}, {*built.began}, {*self.graph.keys}
+        names, order, began, known = self.names(built.held), {*self.order}, {*built.began}, {*self.graph.keys}
         more = began - order if order <= known else began & known - order  # guard: recipes-that-the-record-has
         less, turn = order & known - began, -1 if built.plan.jobs == ONE else 1  # guard: which-of-two-builds-is-serial
         both = zip(("does not run", "runs, and does not in a serial build"), (less, more)[::turn])
         text = ["the recipe of %s %s" % (key[-1][1], how) for how, keys in both for key in sorted(keys) if target_of(key) not in self.markers]
-        text += [str(difference(name, *(Path(self.room.tops[number]), self.room.trees(built.plan)[number])[::turn])) for number, name in names[:SHOWN]]
+        text += [str(difference(name, *(self.trees[number], self.room.trees(built.plan)[number])[::turn])) for number, name in names[:SHOWN]]
         built.otherwise = text[:SHOWN] if built.status == 0 else built.message()
-        built.path = next((os.path.join(self.room.tops[number], name) for number, name in names), "")
+        built.path = next((self.whole(number, name) for number, name in names), "")
         self.room.forget(built.plan)
         return built
 
@@ -172,7 +188,8 @@ class Trial:
             if not self.goes_on:
                 return
             self.after.setdefault(found.recipes[1], set()).add(found.recipes[0])
-            built, = self.make(replace(built.plan, name="again", after=self.after, is_recorded=False))
+            self.builds += 1
+            built = self.made_again(replace(built.plan, name="again", after=self.after, is_recorded=False))
         self.others += 1
         self.turned = [one | earlier for one, earlier in zip(self.turned, self.graph.turned(built.began))]
 
@@ -191,7 +208,7 @@ class Trial:
         if once.plan == FLIPPED or once.plan.after != self.after:
             return
         if once.status == 0:
-            for number, name in self.names(once):
+            for number, name in self.names(once.held):
                 self.unstable[number].add(name)
         elif once.status is not None:
             self.failed.append("; ".join(once.otherwise))
@@ -232,11 +249,11 @@ class Trial:
     # ---------------------------------------------------------------- what is kept
     def result(self) -> dict[str, Any]:
         """What a record keeps of it."""
-        unstable = sorted(os.path.join(top, name) for top, found in zip(self.room.tops, self.unstable) for name in found)
+        unstable = sorted(self.whole(number, name) for number, found in enumerate(self.unstable) for name in found)
         return {"builds": self.others, "failed": self.failed, "made": self.builds, "pairs": self.graph.pairs(), "turned": size(self.turned),
                 "untried": bool(self.graph.pairs()) and (not self.is_whole or any(self.left) or not self.graph.leaves().isdisjoint(unstable)),
                 "files": sum(text.startswith("file") for held in self.serial for text in held.values()),
-                "unstable": unstable, "shown": [*map(self.shown_labels, self.shown)]}
+                "unstable": unstable, "apart": [self.whole(*one) for one in self.names(self.recorded)], "shown": [*map(self.shown_labels, self.shown)]}
 
     def shown_labels(self, one: Shown) -> dict[str, Any]:
         """A difference, by the build and the labels of its two recipes."""

@@ -91,6 +91,7 @@ GUARDS: List[Guard] = [
         ("names-outside-of-folder", "if os.lstat(path).st_nlink > 1:", "fresh.Copies.file_with_two_names", LOST_RACE),
     ),
     *guards("importing.py",
+        ("when-a-make-began", "self.builds.sort(key=lambda build: build.make.life.born)", "orders.Orders.make_in_what_comes_before"),
         ("byte-code", "for kind, example in ():", "python.Python.modules_and_byte_code", FALSE_RACE),
         ("links-that-lead", 'trace = spool / ("sifted" if (spool / "sifted").exists() else "trace")', "replay.Traces.name_that_leads_to_the_system"),
         ("changes-that-no-line-shows", "pass", "sifting.Skips.change_that_no_line_shows_is_a_hole"),

@@ -50,6 +50,10 @@ CASES: Dict[str, Tuple[str, Dict[str, str], int, Tuple[str, ...]]] = {
         "  seen where sub runs before d/a:", "    s/list: line 1 is `k`, and `a` after a serial build")),
     "look whose answer is not compared": ("all: c\n" + AB + "c: a b ; @test a -nt b && echo newer > c; date +%N >> c\n", {}, 0, ("note: two builds in one order differ in c, so other orders are not compared there",)),
     "time of day": ("all: a b\na b: ; @date +%N > $@\n", {}, 0, ("note: two builds in one order differ in a, b, so other orders are not compared there",)),
+    "names that depend on the order": ("all: a b\na b: ; @n=$$(ls d | grep -c run); echo hi > d/run$$n; touch $@\n", {"d/k": ""}, 1, ("RACE  d/run0",)),
+    "name like one that is drawn": ("all: r a e\nr: ; @mktemp tmp.XXXXXX > /dev/null; touch r\na: ; @touch d/a a\ne: ; @ls d > tmp.list; touch e\n", {"d/x": ""}, 1, ("  seen where e runs before a:", "    tmp.list: line 1 is `x`, and `a` after a serial build")),
+    "place of the project": ("all: a list\na: ; @touch d/a a\nlist: ; @stat -c %d . > list; ls d >> list\n", {"d/k": ""}, 1, (
+        "note: all builds in copies leave list otherwise than the recorded one", "  seen where list runs before a:", "    list: line 2 is `k`, and `a` after a serial build")),
     "hard conflict that another order shows": ("all: d/a x c\nd/a: ; @echo a > d/a\nx: ; @echo x > x\nc: ; @ls d | grep -q a || cat x > /dev/null 2>&1; echo c > c\n", {"d/k": ""}, 1, (
         "RACE  x", "  c  Makefile:4  reads it, and nothing orders the two")),
 }
@@ -66,6 +70,26 @@ class Orders(unittest.TestCase):
         for line in wanted:
             self.assertIn(line, text)
         self.assertEqual(status, found.status, text)
+
+    def test_jobs_of_the_user(self) -> None:
+        """What a build with several jobs leaves is no measure: builds in copies are compared with a serial one."""
+        with support.Project({"Makefile": "all: a list\na: ; @sleep 0.5; touch d/a a\nlist: ; @ls d > list\n", "d/k": ""}) as project:
+            found = project.record(["make", "-j2"], once=False)
+        self.assertEqual((1, True), (found.status, "  seen where list runs before a:" in found.text()), found.text())
+
+    def test_what_jobs_alone_show(self) -> None:
+        """No order does, where each recipe sees what the other one has done so far."""
+        makefile = "all: a b\na: ; @echo > d/a; sleep 0.5; ls d > a; rm d/a\nb: ; @sleep 0.2; echo > d/b; sleep 0.5; rm d/b; touch b\n"
+        with support.Project({"Makefile": makefile, "d/k": ""}) as project:
+            found = project.record(["make", "-j2"], once=False)
+        self.assertEqual((1, True), (found.status, "  a: line 2 is `b`, and `k` after a serial build" in found.text()), found.text())
+
+    def test_make_in_what_comes_before(self) -> None:
+        """It has a target of the same name."""
+        makefile = "all: ; @$(MAKE) -s x y z\n.PHONY: all\nx: ; @echo x > d/x\ny: ; @ls d > y\nz: ; @echo z > z\n"
+        with support.Project({"Makefile": makefile, "d/k": "", "configure": "printf 'all: ; @echo > x.c\\n' > c.mk; make -s -f c.mk; rm c.mk x.c\n"}) as project:
+            found = project.record(options=["--fresh", "--setup", "sh configure"], once=False)
+        self.assertEqual((1, True), (found.status, "  seen where y runs before x:" in found.text()), found.text())
 
     def test_strict(self) -> None:
         """A yes is barred where pairs ran in one order alone, or what they leave is not compared."""
