@@ -31,7 +31,7 @@ from record.command import with_jobs
 from record.entry import forget_coerced, in_one_step
 from record.orders.gate import Gate, Key
 from record.orders.holding import Ends
-from record.orders.overlap import Overlap
+from record.orders.overlap import Meet, Overlap
 from record.orders.processes import children_of, end
 from record.orders.trees import CannotTry, copy, held_by, remove
 from record.trace.lives import Address
@@ -53,7 +53,7 @@ SHOWN = 3  # so many of them
 class Plan:
     """A build to be made: which recipe begins of those that wait, with how many jobs, and whether it is recorded. `is_flipped`: where `places` does not say,
     the last that came to wait, and not the first; `at_once`: so many may run side by side, of those that wait for no other one, also by `apart`;
-    `beside`: of these pairs both make a folder at once; `ends`: of these processes, which are held there: no recipe waits to begin."""
+    `meets`: these recipes meet at a folder; `ends`: of these processes, which are held there: no recipe waits to begin."""
 
     name: str
     places: Mapping[Key, float]
@@ -63,7 +63,7 @@ class Plan:
     is_flipped: bool = False
     at_once: int = 1
     apart: Mapping[Key, set[Key]] = field(default_factory=dict)
-    beside: Sequence[tuple[Key, Key]] = ()
+    meets: Sequence[Meet] = ()
     ends: frozenset[Address] = frozenset()
 
 
@@ -215,8 +215,8 @@ class Room:
         after = {late: {*plan.after.get(late, ()), *plan.apart.get(late, ())} for late in (*plan.after, *plan.apart)}
         if plan.ends:
             return Ends(self.place(plan), {}, ends=plan.ends)
-        if plan.beside:
-            return Overlap(self.place(plan), plan.places, after, pairs=plan.beside)
+        if plan.meets:
+            return Overlap(self.place(plan), plan.places, after, meets=plan.meets)
         return Gate(self.place(plan), plan.places, after, plan.is_flipped, plan.at_once)
 
     def build_in_place(self, plan: Plan, gate: Gate, listener: socket.socket, output: int) -> int:

@@ -3,6 +3,7 @@
 from __future__ import annotations
 
 import json
+import os
 from collections.abc import Mapping
 from itertools import chain
 from typing import Any
@@ -10,6 +11,8 @@ from typing import Any
 from record.folder import replace
 from record.kinds import is_of_folder
 from record.orders.graph import Graph, Pair
+
+Contest = tuple[Pair, str, bool]  # two recipes, the name of a folder, and whether the second one removes it
 
 
 def join(graph: Graph, other: Graph) -> None:
@@ -42,10 +45,11 @@ def judged(build: Mapping[str, Any], row: Mapping[str, Any]) -> dict[str, Any]:
     return {**row, "reads": [path for path in row["reads"] if not is_of_folder(path) and path not in asks], "writes": [path for path in row["writes"] if not is_of_folder(path)]}
 
 
-def contested(graph: Graph, other: Graph) -> list[Pair]:
+def contested(graph: Graph, other: Graph) -> list[Contest]:
     """Recipes that make a folder by a call that fails where it is there, and were never seen to find it there by that: each behind another recipe that makes it
-    and that nothing orders with it. It may have looked before the other one made the folder, and may make it after that."""
-    found: dict[Pair, None] = {}
+    and that nothing orders with it. It may have looked before the other one made the folder, and may make it after that. And recipes that remove a folder, each
+    behind another one that makes it."""
+    found: dict[Contest, None] = {}
     for known, number in graph.known.items():
         ways: dict[str, dict[str, set[str]]] = {}
         for build in (graph.builds[number], other.builds.get(other.known.get(known, ""), {"labels": {}})):
@@ -53,9 +57,9 @@ def contested(graph: Graph, other: Graph) -> list[Pair]:
                 for how, paths in about.get("folders", {}).items():
                     for path in paths:
                         ways.setdefault(path, {}).setdefault(how, set()).add(label)
-        for way in ways.values():
-            made, there = ({graph.recipe_of(number, label) for label in way.get(how, ()) if (number, label) in graph.at} for how in ("made", "found"))
-            for late in sorted(made - there):  # guard: who-found-it-there
+        for path, way in ways.items():
+            made, there, gone = ({graph.recipe_of(number, label) for label in way.get(how, ()) if (number, label) in graph.at} for how in ("made", "found", "removed"))
+            for late in sorted(made - there | gone):  # guard: who-found-it-there
                 early = next((one for one in sorted(made | there) if one != late and graph.is_free(one, late)), None)
-                found.update({(early, late): None} if early is not None else {})  # guard: who-looks-before-the-other-makes-it
+                found.update({((early, late), os.path.basename(path), late in gone): None} if early is not None else {})  # guard: who-looks-before-the-other-makes-it
     return list(found)

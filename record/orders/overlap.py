@@ -1,45 +1,84 @@
-"""The gate of a build in which recipes make folders side by side: of each pair the first one is held where it makes a folder until the second one has come so far,
-and that until the first one has ended, or nothing else can happen."""
+"""The gate of a build in which two recipes meet at a folder that one of them makes.
+
+Where the folder stays, the first recipe is held where it makes it until the second one has come so far, and that until the first one has ended. Where one of them
+removes it, the first is held when it has made it, and the second runs meanwhile: until it ends, or tries to make the folder once more, as who takes it for a lock.
+"""
 
 from __future__ import annotations
 
 import os
 import socket
+from collections import Counter
 from collections.abc import Container, Sequence
 from dataclasses import dataclass, field
 from functools import partial
+from typing import NamedTuple
 
 from record.orders.gate import Gate, Key
 from record.orders.reported import Call, filter_of, go_on, reports_of
 
-CALLS = {"x86_64": (83, 258), "aarch64": (34,)}  # by machine: the numbers of mkdir and mkdirat
+# By machine: the numbers of calls that make a folder, each with the place of its path, and of those by which a process goes on: rmdir, unlinkat, openat, exit_group.
+MAKING = {"x86_64": {83: 0, 258: 1}, "aarch64": {34: 1}}.get(os.uname().machine, {})
+OTHERS = {"x86_64": (84, 263, 257, 231), "aarch64": (35, 56, 94)}.get(os.uname().machine, ())
+
+
+class Meet(NamedTuple):
+    """Two recipes, the name of the folder, and whether it goes again."""
+
+    first: Key
+    second: Key
+    name: str
+    goes: bool
 
 
 @dataclass
 class Overlap(Gate):
-    """`pairs`: the recipes that run side by side."""
+    """`meets`: who meets where."""
 
-    pairs: Sequence[tuple[Key, Key]] = ()
+    meets: Sequence[Meet] = ()
     held: dict[int, tuple[Key, int, int]] = field(default_factory=dict)  # by process: its recipe, the descriptor by which the kernel reports it, and the report
+    tries: Counter[tuple[Key, Meet]] = field(default_factory=Counter)  # how often a recipe was to make the folder
+    over_there: set[Meet] = field(default_factory=set)  # those of which the first recipe was held
 
     def let_go(self, pid: int, channel: socket.socket) -> None:
-        inner = [key for pair in self.pairs for key in pair if self.owners[pid][:len(key)] == key]
-        if self.owners[pid] in inner and len({*inner}) == 1:  # else the recipe around it is reported, and all that this starts
-            reports = reports_of(pid, channel, filter_of(CALLS.get(os.uname().machine, ())))
+        own = self.owners[pid]
+        around = {key for meet in self.meets for key in meet[:2] if own[:len(key)] == key}
+        if around == {own}:  # else the recipe around it is reported, and all that this starts
+            reports = reports_of(pid, channel, filter_of([*MAKING, *OTHERS]))
             if reports < 0:
                 raise OSError("the kernel reports no calls that make folders")
-            self.expect(reports, partial(self.take, self.owners[pid], reports))
+            self.expect(reports, partial(self.take, own, reports))
         super().let_go(pid, channel)
 
     def take(self, key: Key, reports: int, call: Call) -> None:
-        """A process is to make a folder."""
+        """A process is to make a folder, or goes on: it is held, or does so."""
+        name = name_of(call) if call.call in MAKING else ""
         self.held[call.pid] = key, reports, call.number
+        if not [meet for meet in self.meets if key in meet[:2] and self.is_held(key, meet, name)]:
+            self.go_on(call.pid)
+
+    def is_held(self, key: Key, meet: Meet, name: str) -> bool:
+        """Whether a recipe is held for another one, where it is to make a folder of some name, or goes on."""
+        if name != meet.name:
+            waits = meet.goes and key == meet.first and self.tries[key, meet] > 0 and meet not in self.over_there  # guard: folders-that-go-again
+            self.over_there |= {meet} if waits else set()
+            return waits
+        self.tries[key, meet] += 1
+        if meet.goes and key == meet.second and self.tries[key, meet] > 1:
+            for pid in [pid for pid, (other, _, _) in self.held.items() if other == meet.first]:
+                self.go_on(pid)
+        return not meet.goes
+
+    def go_on(self, pid: int) -> None:
+        """A process that is held goes on."""
+        _, reports, number = self.held.pop(pid)
+        go_on(reports, number)
 
     def still(self) -> Container[int]:
         return {*self.waiting, *self.held}
 
     def may_begin(self, key: Key) -> bool:
-        beside = [one for pair in self.pairs for one in pair if any(held in pair for held, _, _ in self.held.values())]
+        beside = [one for meet in self.meets for one in meet[:2] if any(held in meet[:2] for held, _, _ in self.held.values())]
         return super().may_begin(key) and (not beside or any(key[:len(one)] == one for one in beside))
 
     def turn(self, root: int) -> bool:
@@ -50,6 +89,15 @@ class Overlap(Gate):
         self.hear_makes()
         if any((make, name) in self.open or self.may_begin(key) for make, name, key in map(self.bare, self.waiting)):
             return super().turn(root)
-        _, reports, number = self.held.pop(min(self.held, key=lambda pid: self.began.index(self.held[pid][0])))
-        go_on(reports, number)
+        self.go_on(min(self.held, key=lambda pid: self.began.index(self.held[pid][0])))
         return True
+
+
+def name_of(call: Call) -> str:
+    """The name of the folder that a process is to make; nothing where its memory cannot be read."""
+    try:
+        with open(f"/proc/{call.pid}/mem", "rb", buffering=0) as memory:
+            path = os.pread(memory.fileno(), 4096, call.given[MAKING[call.call]])
+        return os.path.basename(os.fsdecode(path.partition(b"\0")[0]).rstrip("/"))
+    except (OSError, OverflowError):
+        return ""

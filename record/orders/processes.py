@@ -72,15 +72,15 @@ def below(root: int, but: Container[int] = ()) -> Iterator[int]:
 
 def pulse(root: int, waiting: Container[int], held: Container[int]) -> tuple[bool, list[tuple[int, str]]] | None:
     """Whether a process of a build does something of its own, as it sleeps and has none to wait for, and how long each has run so far; nothing where one runs, or
-    lets a time pass. Those that wait at the gate do neither, and have started none; nor does one that is held by who traces it, and of those in `held` it is known."""
+    lets a time pass. Those that wait at the gate do neither, and have started none; of those in `held` it is known."""
     found, has_own = [], False
     for pid in below(root, waiting):
         state = words_of(pid)[0]
         if state in "ZX" or pid in held:
             continue
-        if state not in "St" or any(one in shown(pid, "wchan") for one in SLEEPS):  # guard: who-is-held-by-a-tracer
+        if state != "S" or any(one in shown(pid, "wchan") for one in SLEEPS):
             return None
-        has_own |= state == "t" or not any(one in waiting or one not in held and words_of(one)[0] not in "ZX" for one in children_of(pid))  # guard: who-does-something-of-its-own
+        has_own |= not any(one in waiting or one not in held and words_of(one)[0] not in "ZX" for one in children_of(pid))  # guard: who-does-something-of-its-own
         found.append((pid, shown(pid, "schedstat")))
     return has_own, found
 

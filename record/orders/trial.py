@@ -11,7 +11,9 @@ from typing import Any
 
 from record.orders.builds import FLIPPED, ONE, SERIAL, Built, Plan, Room, Running, side_by_side
 from record.orders.gate import Key
-from record.orders.graph import Graph, Pair, pairs_of, placed, size, without
+from record.orders.graph import Graph, pairs_of, placed, size, without
+from record.orders.joined import Contest
+from record.orders.overlap import Meet
 from record.orders.trees import CannotTry, difference, differing, passing
 
 AT_ONCE = 4  # builds that run side by side
@@ -228,23 +230,25 @@ class Trial:
                 low = steps
         return Shown(between(self.order, log, high)[1], built)
 
-    def overlap(self, pairs: Sequence[Pair]) -> None:
-        """Tries out recipes that make a folder where it is not there, the second of each pair beside the first: it looks while that makes the folder."""
+    def overlap(self, contests: Sequence[Contest]) -> None:
+        """Tries out recipes that make or remove a folder, the second of each pair beside the first, which makes it."""
         apart = self.graph.apart(self.after)
-        left = [pair for pair in pairs if apart[max(pair)] >> min(pair) & 1]
+        left = [one for one in contests if apart[max(one[0])] >> min(one[0]) & 1]
         while left:
             if not self.goes_on:
                 self.is_whole = False
                 return
-            places, met = self.graph.beside(left)
-            plan = Plan("overlap", places, after=self.after, beside=[(self.graph.tasks[one].key or (), self.graph.tasks[other].key or ()) for one, other in met])
+            places, pairs = self.graph.beside([pair for pair, _, _ in left])
+            met = [one for one in left if one[0] in pairs]
+            meets = [Meet(self.graph.tasks[one].key or (), self.graph.tasks[other].key or (), name, goes) for (one, other), name, goes in met]
+            plan = Plan("overlap", places, after=self.after, meets=meets)
             built, = self.make(plan)
             if built.otherwise and len(met) > 1:
-                for pair in met:
-                    self.overlap([pair])
-            elif built.otherwise and not self.make(replace(plan, beside=()))[0].otherwise:
-                self.shown.append(Shown([key for at in sorted(met[0]) for key in [self.graph.tasks[at].key] if key], built, True))
-            left = [pair for pair in left if pair not in met]
+                for one in met:
+                    self.overlap([one])
+            elif built.otherwise and not self.make(replace(plan, meets=()))[0].otherwise:
+                self.shown.append(Shown([key for at in sorted(met[0][0]) for key in [self.graph.tasks[at].key] if key], built, True))
+            left = [one for one in left if one not in met]
 
     # ---------------------------------------------------------------- what is kept
     def result(self) -> dict[str, Any]:

@@ -11,7 +11,6 @@ GUARDS: List[Guard] = [
     ),
     *guards("build/folders.py",
         ("there-before-build", "if kind in MAKES:", "folders.Folders.folder_that_was_there"),
-        ("folders-that-are-removed-again", "pass", "orders.Orders.folders_that_need_no_try"),
         ("user-needs-maker", "if at not in makers[path]:", "folders.Folders.user_behind_its_maker"),
         ("who-looks-for-the-folder", "return sorted({path for path, place in uses if path in makers})", "folders.Folders.user_that_looks_first"),
     ),

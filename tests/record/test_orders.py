@@ -35,6 +35,12 @@ CASES: Dict[str, Tuple[str, Dict[str, str], int, Tuple[str, ...]]] = {
         "RACE  b", "  seen where b runs beside a:", "    the build fails with status 2", "  fix: b: a")),
     "folder that one makes by p": ("all: a b\na:\n\t@test -d d || mkdir d\n\t@touch d/a a\nb: ; @mkdir -p d; touch d/b b\n", {}, 1, ("  seen where b runs beside a:", "    the build fails with status 2")),
     "folder that both make by p": ("all: a b\na b:\n\t@test -d d || mkdir -p d\n\t@echo > d/$@; echo > $@\n", {}, 0, ("in other orders left the same 5 files",)),
+    "folder that each removes": ("all: a b\na b: ; @mkdir d && cp src d/$@ && rm d/$@ && rmdir d && echo > $@\n", {"src": ""}, 1, ("RACE  b", "  seen where b runs beside a:")),
+    "folder that each makes anew": ("all: a b\na b: ; @mkdir -p d; cp src d/$@; cp d/$@ $@; rm -rf d\n", {"src": "1\n"}, 1, ("  seen where b runs beside a:",)),
+    "folder that a program makes for a while": ("all: a b\na b: ; @python3 p.py $@\n", {"p.py": "import os, sys\nos.mkdir('d')\nopen('d/x' + sys.argv[1], 'w')\nos.unlink('d/x' + sys.argv[1])\nos.rmdir('d')\nopen(sys.argv[1], 'w')\n"}, 1, (
+        "  seen where b runs beside a:",)),
+    "folder that goes behind both": ("all: c\na b:\n\t@test -d d || mkdir d\n\t@echo > d/$@; echo > $@\nc: a b ; @ls d > c; rm -r d\n", {}, 1, ("  seen where b runs beside a:",)),
+    "folder that is a lock": ("all: a b c\na b c: ; @while ! mkdir d 2> /dev/null; do sleep 0.1; done; echo $@ > $@; rmdir d\n", {}, 0, ("in other orders left the same 4 files",)),
     "name for which make asks": ("all: a u\na: ; @echo > x; echo > a\nu: x ; @echo > u\nx: ;\n", {}, 0, ("other orders left the same 4 files",)),
     "file beside a name for which make asks": ("all: w b\nw: ; @echo 1 > b; echo 1 > z; echo > w\nb: F ; @cat z > /dev/null; echo > t\nF: ;\n.PHONY: F\n", {}, 1, ("RACE  z",)),
     "jobs alone": ("all: a b\na: ; @case \"$$MAKEFLAGS\" in *jobserver*) echo many > a ;; *) echo one > a ;; esac\nb: ; @echo b > b\n", {}, 1, (
@@ -170,13 +176,12 @@ class Orders(unittest.TestCase):
                 found = project.record(once=False)
         self.assertEqual((0, True), (found.status, "other orders left the same" in found.text()), found.text())
 
-    def test_folders_that_need_no_try(self) -> None:
-        """Each has found it there and went on, or it goes again."""
-        for makes in ("mkdir d 2> /dev/null; echo > d/$@", "while ! mkdir d 2> /dev/null; do sleep 0.1; done; rmdir d"):
-            with support.Project({"Makefile": "all: a b\na b: ; @%s; echo > $@\n" % makes}) as project:
-                found = project.record(once=False)
-            assert found.record is not None
-            self.assertEqual((0, 3), (found.status, found.record["orders"]["made"]), found.text())
+    def test_folder_that_needs_no_try(self) -> None:
+        """Each has found it there and went on."""
+        with support.Project({"Makefile": "all: a b\na b: ; @mkdir d 2> /dev/null; echo > d/$@; echo > $@\n"}) as project:
+            found = project.record(once=False)
+        assert found.record is not None
+        self.assertEqual((0, 3), (found.status, found.record["orders"]["made"]), found.text())
 
     def test_what_differs_once(self) -> None:
         """It is compared no more, and a build that failed gives no yes."""
