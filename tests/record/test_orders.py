@@ -85,7 +85,8 @@ class Orders(unittest.TestCase):
 
     def test_what_jobs_alone_show(self) -> None:
         """No order does, where each recipe sees what the other one has done so far."""
-        makefile = "all: a b\na: ; @echo > d/a; sleep 0.5; ls d > a; rm d/a\nb: ; @sleep 0.2; echo > d/b; sleep 0.5; rm d/b; touch b\n"
+        wait = "for i in 1 2 3 4 5 6 7 8; do test -e %s || sleep 0.2; done"
+        makefile = "all: a b\na: ; @echo > d/a; %s; ls d > a; rm d/a\nb: ; @echo > d/b; %s; rm d/b; touch b\n" % (wait % "d/b", wait % "a")
         with support.Project({"Makefile": makefile, "d/k": ""}) as project:
             found = project.record(["make", "-j2"], once=False)
         self.assertEqual((1, True), (found.status, "  a: line 2 is `b`, and `k` after a serial build" in found.text()), found.text())
