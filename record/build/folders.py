@@ -8,20 +8,21 @@ import os
 from typing import Dict, List, Set, Tuple
 
 from record.build.tasks import Build, Task
-from record.trace.events import ABSENT, CREATED, ENTERED, FOLDER_REMOVED, LISTED, MADE, MADE_BEFORE, MAKES, SEEN
+from record.trace.events import ABSENT, CREATED, ENTERED, FOLDER_REMOVED, LISTED, MADE_BEFORE, MAKES, SEEN
 from record.trace.names import Names
 
-HOW = {MADE: "made", MADE_BEFORE: "found", FOLDER_REMOVED: "removed"}
 
 def add_folders(build: Build, names: Names, before: Dict[str, str]) -> None:
-    """A name for each two that meet on a folder; and for each task which folders it makes, found there when it tried, and removes."""
+    """A name for each two that meet on a folder; and for each task which folders it makes, found there when it tried, and uses though they go again."""
     makers: Dict[str, Set[int]] = {}
     gone = {path for task in build.tasks for kind, path, _ in task.events() if kind == FOLDER_REMOVED}
     for at, task in enumerate(build.tasks):
         for kind, path, _ in task.events():
-            if kind == FOLDER_REMOVED or kind in MAKES and (path in gone or before.get(path) != "d" and path not in names.above):  # guard: there-before-build
-                task.folders.setdefault(HOW[kind], set()).add(path)
-                makers.setdefault(path, set()).update([at] if kind in MAKES else [])
+            if kind in MAKES and (path in gone or before.get(path) != "d" and path not in names.above):  # guard: there-before-build
+                makers.setdefault(path, set()).add(at)
+                task.folders.setdefault("found" if kind == MADE_BEFORE else "made", set()).add(path)
+            task.folders.setdefault("used", set()).update({path, os.path.dirname(path.rstrip("/"))} & gone)
+        task.folders = {how: paths for how, paths in task.folders.items() if paths}
     for at, task in enumerate(build.tasks) if makers else ():
         for path in used(task, makers):
             if at not in makers[path] and not any(build.is_before(maker, at) for maker in makers[path]):  # guard: user-needs-maker

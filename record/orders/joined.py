@@ -12,7 +12,7 @@ from record.folder import replace
 from record.kinds import is_of_folder
 from record.orders.graph import Graph, Pair
 
-Contest = tuple[Pair, str, bool]  # two recipes, the name of a folder, and whether the second one removes it
+Contest = tuple[Pair, str, bool]  # two recipes, the name of a folder, and whether that goes again
 
 
 def join(graph: Graph, other: Graph) -> None:
@@ -47,9 +47,9 @@ def judged(build: Mapping[str, Any], row: Mapping[str, Any]) -> dict[str, Any]:
 
 def contested(graph: Graph, other: Graph) -> list[Contest]:
     """Recipes that make a folder by a call that fails where it is there, and were never seen to find it there by that: each behind another recipe that makes it
-    and that nothing orders with it. It may have looked before the other one made the folder, and may make it after that. And recipes that remove a folder, each
-    behind another one that makes it."""
-    found: dict[Contest, None] = {}
+    and that nothing orders with it. It may have looked before the other one made the folder, and may make it after that. And recipes that use or remove a folder
+    that goes again, each behind another one that makes it."""
+    found: set[Contest] = set()
     for known, number in graph.known.items():
         ways: dict[str, dict[str, set[str]]] = {}
         for build in (graph.builds[number], other.builds.get(other.known.get(known, ""), {"labels": {}})):
@@ -58,8 +58,8 @@ def contested(graph: Graph, other: Graph) -> list[Contest]:
                     for path in paths:
                         ways.setdefault(path, {}).setdefault(how, set()).add(label)
         for path, way in ways.items():
-            made, there, gone = ({graph.recipe_of(number, label) for label in way.get(how, ()) if (number, label) in graph.at} for how in ("made", "found", "removed"))
-            for late in sorted(made - there | gone):  # guard: who-found-it-there
-                early = next((one for one in sorted(made | there) if one != late and graph.is_free(one, late)), None)
-                found.update({((early, late), os.path.basename(path), late in gone): None} if early is not None else {})  # guard: who-looks-before-the-other-makes-it
-    return list(found)
+            made, there, used = ({graph.recipe_of(number, label) for label in way.get(how, ()) if (number, label) in graph.at} for how in ("made", "found", "used"))
+            for late, goes in [*((one, False) for one in made - there), *((one, True) for one in used)]:  # guard: who-found-it-there
+                others = sorted((one for one in made | there if one != late and graph.is_free(one, late)), key=lambda one: (one > late, abs(one - late)))
+                found.update(((early, late), os.path.basename(path), goes) for early in others[:1])  # guard: who-looks-before-the-other-makes-it
+    return sorted(found, key=lambda one: (one[0][::-1], one))

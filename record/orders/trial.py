@@ -238,8 +238,9 @@ class Trial:
             if not self.goes_on:
                 self.is_whole = False
                 return
-            places, pairs = self.graph.beside([pair for pair, _, _ in left])
-            met = [one for one in left if one[0] in pairs]
+            alike = [one for one in left if one[2] == left[-1][2]]
+            places, pairs = self.graph.beside([pair for pair, _, _ in alike])
+            met = [one for one in alike if one[0] in pairs]
             meets = [Meet(self.graph.tasks[one].key or (), self.graph.tasks[other].key or (), name, goes) for (one, other), name, goes in met]
             plan = Plan("overlap", places, after=self.after, meets=meets)
             built, = self.make(plan)
