@@ -241,7 +241,7 @@ class Room:
 
     def build(self, plan: Plan) -> int:
         """A build that is not recorded."""
-        watch = Watch(str(self.place(plan)), str(self.place(plan) / "gate"), self.is_each, plan.jobs == MANY)
+        watch = Watch(str(self.place(plan)), str(self.place(plan) / "gate"), self.is_each or bool(plan.meets), plan.jobs == MANY)
         watch.prepare(makes_of(os.environ.get("PATH", os.defpath)))
         env = self.environment()
         words, env = with_many(self.words, env, plan.jobs)

@@ -39,6 +39,7 @@ CASES: Dict[str, Tuple[str, Dict[str, str], int, Tuple[str, ...]]] = {
     "folder that each makes anew": ("all: a b\na b: ; @mkdir -p d; cp src d/$@; cp d/$@ $@; rm -rf d\n", {"src": "1\n"}, 1, ("  seen where b runs beside a:",)),
     "folder that a program makes for a while": ("all: a b\na b: ; @python3 p.py $@\n", {"p.py": "import os, sys\nos.mkdir('d')\nopen('d/x' + sys.argv[1], 'w')\nos.unlink('d/x' + sys.argv[1])\nos.rmdir('d')\nopen(sys.argv[1], 'w')\n"}, 1, (
         "  seen where b runs beside a:",)),
+    "folder that a further line makes": ("all: a b\na b:\n\t@echo > $@\n\t@mkdir -p d; echo > d/$@; rm d/$@; rmdir d\n", {}, 1, ("  seen where b runs beside a:",)),
     "look at a folder that goes": ("all: a b\na: ; @mkdir d; rmdir d; echo > a\nb: ; @test -d d && echo yes > b || echo no > b\n", {}, 1, ("  seen where b runs beside a:", "    b: line 1 is `yes`, and `no` after a serial build")),
     "folder that goes behind both": ("all: c\na b:\n\t@test -d d || mkdir d\n\t@echo > d/$@; echo > $@\nc: a b ; @ls d > c; rm -r d\n", {}, 1, ("  seen where b runs beside a:",)),
     "folder that is a lock": ("all: a b c\na b c: ; @while ! mkdir d 2> /dev/null; do sleep 0.1; done; echo $@ > $@; rmdir d\n", {}, 0, ("in other orders left the same 4 files",)),
