@@ -4,17 +4,18 @@ tried out in other orders."""
 import errno
 import os
 import re
+from bisect import bisect
 from dataclasses import dataclass, field
 from functools import cached_property
-from typing import Dict, Iterable, Iterator, List, Optional, Set
+from typing import Dict, Iterable, Iterator, List, Optional, Set, Tuple
 
 from record import machine
 from record.build.parts import divide
 from record.build.tasks import Job
 from record.build.work import Part, Tool, Work, written_by
 from record.make.words import Words, makefiles
-from record.trace.events import ENTERED, INSIDE, READ
-from record.trace.lives import Life
+from record.trace.events import CHANGES, ENTERED, INSIDE, MAKES, READ
+from record.trace.lives import Key, Life
 
 MAGIC = re.compile(r"[*?\[]")
 LOOSE = re.compile(r"\\.|\[[!^]?\]?[^\]/]*\]|\[")  # what stands for one sign in a pattern of `glob`: more names fit `?`
@@ -156,11 +157,26 @@ class Owners:
                     work.add(*key, place)
 
     def collect(self, make: Make) -> None:
-        """The work of all jobs of a make."""
-        for life in make.life.children:
+        """The work of all jobs of a make. What it and its calls change while it expands a recipe is of that recipe, which it starts next. What they read is tried out in
+        other orders."""
+        first: Dict[int, int] = {}  # by id of a job, in order: where it begins
+        for life in sorted(make.life.children, key=lambda life: life.born):
             job = self.jobs.get(id(life))
             if job is not None:
+                first.setdefault(id(job), life.born)
                 self.take(make.work.setdefault(id(job), Work()), life)
+        jobs, begun = [*first], [*first.values()]
+        for (kind, path), place in self.expanding(make):
+            at = bisect(begun, place)
+            if kind in CHANGES + MAKES and 0 < at < len(jobs):  # guard: what-make-expands
+                make.work[jobs[at]].add(kind, path, place)
+
+    def expanding(self, make: Make) -> Iterator[Tuple[Key, int]]:
+        """What a make and its calls do."""
+        yield from make.life.events.items()
+        for life in make.life.children:
+            for one in self.below(life) if id(life) not in self.jobs else ():
+                yield from one.events.items()
 
     def divide(self, work: Work) -> List[Part]:
         """The parts of a recipe."""

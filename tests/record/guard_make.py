@@ -47,6 +47,7 @@ GUARDS: List[Guard] = [
         ("who-makes-one-first", "pass", "locks.Makefiles.file_that_recipes_make", FALSE_RACE),
     ),
     *guards("make/owners.py",
+        ("what-make-expands", "if False:", "owners.Makefiles.file_that_make_writes_for_a_recipe", YES),
         ("makes-with-glob-of-their-own", "return parts", "words.Patterns.make_that_nobody_hears"),
         ("makes-that-ninja-runs", "return False", "ninja.Ninja.make_below_serial", FALSE_RACE),
         ("makes-that-ninja-runs", "return above == {False}", "ninja.Ninja.make_below", YES),

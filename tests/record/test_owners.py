@@ -18,6 +18,7 @@ KEPT = "all: gen t\nt: p ; touch t log\ngen: ; sleep 0.02; touch p gen\n"
 LATER = "all: u gen\ngen: ; cp t bin/tool; touch gen\n"
 SETUP = "sed -i '1i#!/bin/sh' t; chmod +x t bin2/tool"
 TOOLS = {"t": "echo new > $1\n", "bin2/tool": "#!/bin/sh\necho old > $1\n", "bin/k": ""}
+EXPANDED = "all: a b\na: p ; @%s\nb: p ; @%s\np: ; @touch p\n"
 LISTS = "S := $(wildcard *.q)\nz: ; echo '$(S)' > z\n"
 # A make inside that lists its folder for one pattern, beside a recipe that makes a name of another one.
 INSIDE = "all: a b\na: ; $(MAKE) -f in.mk\nb: ; %s; touch b\n"
@@ -101,6 +102,9 @@ class Holes(unittest.TestCase):
 
 Makefiles = makefiles(__name__, {
     "output_that_a_recipe_reads": Small("race", "all: ; $(MAKE) -f in.mk > log\n", {"in.mk": "all: a b\na: ; echo 1; touch a\nb: ; cat log > b\n"}, is_tried=True),
+    "file_that_make_writes_for_a_recipe": Small("race", EXPANDED % ("touch a$(file >v,V=1)", ". ./v; echo $$V > b"), {"v": "V=1\n"}),
+    "file_that_a_call_of_make_counts_up": Small("race", EXPANDED % ("n=$$(cat v); echo $$((n+1)) > v; touch a", "echo $(shell echo $$(($$(cat v)+1)) > v) > b"), {"v": "0\n"}),
+    "file_that_two_calls_of_make_read": Small("safe", EXPANDED % ("echo $(shell cat v) > a", "echo $(shell cat v) > b"), {"v": "1\n"}),
     # when make has read its makefiles
     # what a make inside a recipe asks of a list that it keeps of a folder
     "pattern_of_a_default_that_changes_nothing": Small("safe", INNER % "echo n > d/n.h", {"d/k.c": "k", "d/k.h": "k", "in.mk": "C = d/k.c\ninclude more.mk\n", "more.mk": "C ?= $(shell ls d/*)\nout: $(C) ; cat $^ > out\n"}),
