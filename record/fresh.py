@@ -12,7 +12,6 @@ import pickle
 import shlex
 import shutil
 import signal
-import sys
 import tempfile
 from contextlib import contextmanager, suppress
 from dataclasses import replace
@@ -23,7 +22,7 @@ from record.command import named_folders, ninja_folder
 from record.entry import in_one_step
 from record.first_tree import FirstTree, first_names, git, tree_of, with_folders
 from record.folder import Record, room_of_programs
-from record.messages import reason
+from record.messages import reason, tell
 from record.ninja import clean as ninja
 from record.ninja.clean import CannotClean, run
 from record.orders.builds import WITH_PARENT, is_child_able
@@ -33,6 +32,7 @@ from record.watch.lay import BELOW, BIND, LIBC, OWN_MOUNTS, mount
 
 TRIES = 4  # so many recordings, each without what the ones before show to be left
 SAVED = ".race-saved"  # how the other name of a project ends
+SUBMODULE = "160000 "  # how git lists one
 PRIVATE = 1 << 18  # for mount: neither mounts that come from outside, nor own ones outside
 FOLDERS = ("-C", "-f", "--directory=", "--file=", "--makefile=")  # how words of make begin that say where it works
 
@@ -51,7 +51,7 @@ def record_fresh(options: argparse.Namespace, out: Path, record: Callable[[Path]
                 tree = fresh_tree(options, os.path.join(place, "tree"), left)
                 found = recorded(options, Path(place), tree, record)
                 if records and found.status != 0:
-                    print("race-record: the build fails without that: what was recorded before stands", file=sys.stderr, flush=True)
+                    tell("race-record: the build fails without that: what was recorded before stands")
                     break
                 records.append(found)
                 shutil.rmtree(kept, ignore_errors=True)
@@ -60,7 +60,7 @@ def record_fresh(options: argparse.Namespace, out: Path, record: Callable[[Path]
             if not more or options.warm or found.status != 0 or number == TRIES - 1:
                 break
             left |= more
-            print("race-record: an earlier build left %s; recording again without that" % first_names([os.path.relpath(path) for path in sorted(more)]), file=sys.stderr, flush=True)
+            tell("race-record: an earlier build left %s; recording again without that" % first_names([os.path.relpath(path) for path in sorted(more)]))
         shutil.copytree(kept, out, dirs_exist_ok=True)
     return records[-1]
 
@@ -71,6 +71,8 @@ def recorded(options: argparse.Namespace, place: Path, tree: FirstTree, record: 
 
     def work() -> None:
         options.tree = clean(tree, options.words)
+        for gone in map(Path, tree.left):
+            shutil.rmtree(gone) if gone.is_dir() and not gone.is_symlink() else gone.unlink(missing_ok=True)  # guard: what-earlier-builds-left
         said.write_bytes(pickle.dumps(record(place / "record")))
 
     if is_child_able(lambda: lay(tree.folder, tree.folder)):
@@ -104,8 +106,6 @@ def fresh_tree(options: argparse.Namespace, copy: str, left: Set[str]) -> FirstT
         place = ninja.place_of(tree.ninja, copy) if tree.ninja else folder
         copy_tree(Path(place), Path(copy))
         tree = replace(tree, folder=place, linked=tuple(linked(place, copy)))
-    for gone in (Path(copy, os.path.relpath(path, tree.folder)) for path in left):
-        shutil.rmtree(gone) if gone.is_dir() and not gone.is_symlink() else gone.unlink(missing_ok=True)  # guard: what-earlier-builds-left
     return tree
 
 
@@ -131,9 +131,11 @@ def of_archive(archive: str, folder: str, copy: str, setup: str) -> FirstTree:
 
 
 def copy_work_tree(top: str, copy: str) -> List[str]:
-    """Copies what git tracks, new files that are not ignored, and git's own folder, as far as they are there; their names."""
-    found = git(top, "ls-files", "-z", "--recurse-submodules") + git(top, "ls-files", "-z", "--others", "--exclude-standard")
-    names = [name.rstrip("/") for name in dict.fromkeys([".git", *filter(None, found.split("\0"))]) if os.path.lexists(os.path.join(top, name))]
+    """Copies what git tracks, new files that are not ignored, and git's own folder, as far as they are there, also of submodules; their names."""
+    parts = ["", *(line.partition("\t")[2] + "/" for line in git(top, "ls-files", "-s", "-z").split("\0") if line.startswith(SUBMODULE))]
+    new = (part + name for part in parts for name in git(os.path.join(top, part), "ls-files", "-z", "--others", "--exclude-standard").split("\0") if name)  # guard: new-files-of-submodules
+    found = [*(part + ".git" for part in parts), *filter(None, git(top, "ls-files", "-z", "--recurse-submodules").split("\0")), *new]
+    names = [name.rstrip("/") for name in dict.fromkeys(found) if os.path.lexists(os.path.join(top, name))]
     for source, target in ((Path(top, name), Path(copy, name)) for name in names):
         target.parent.mkdir(parents=True, exist_ok=True)
         if source.is_dir() and not source.is_symlink():
@@ -205,7 +207,7 @@ def moved(copy: str, top: str) -> Iterator[None]:
                               "clean checkout without --fresh" % (top, fault.strerror)) from None
         try:
             with heard():
-                print("race-record: %s is kept as %s meanwhile" % (top, saved), file=sys.stderr, flush=True)
+                tell("race-record: %s is kept as %s meanwhile" % (top, saved))
                 shutil.move(copy, top)
                 os.chdir(here)
                 yield
@@ -226,4 +228,4 @@ def come_back(top: str, saved: str) -> None:
     with suppress(OSError):
         remove(Path(left))
     if os.path.lexists(left):
-        print("race-record: %s is what is left of the copy, and could not be removed: remove it" % left, file=sys.stderr, flush=True)
+        tell("race-record: %s is what is left of the copy, and could not be removed: remove it" % left)

@@ -4,6 +4,8 @@ stand in, or below the prefix of an installation."""
 import errno
 import os
 import re
+import sys
+from contextlib import suppress
 from pathlib import Path
 
 TOP = Path(__file__).resolve().parent.parent  # the checkout, or PREFIX/share/race
@@ -23,6 +25,12 @@ def reason(error: OSError) -> str:
     what = error.strerror or str(many[0][-1] if isinstance(many, list) and many else error) or type(error).__name__
     what += HELPS.get(error.errno or 0, "")
     return "%s: %s" % (os.fsdecode(error.filename), what) if isinstance(error.filename, (str, bytes)) else what
+
+
+def tell(text: str, end: str = "\n") -> None:
+    """Writes a text to standard error. Nobody may read it, or the device may be full: what is done goes on."""
+    with suppress(OSError, ValueError):  # guard: where-it-cannot-be-written
+        print(text, end=end, file=sys.stderr, flush=True)
 
 
 def plural(count: int, word: str) -> str:

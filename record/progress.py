@@ -10,7 +10,7 @@ from dataclasses import dataclass
 from typing import Iterable, Iterator
 
 from record.entry import traced
-from record.messages import printable
+from record.messages import printable, tell
 from record.orders.processes import born, parent_of, shown
 
 EVERY, MINUTE = 2.0, 60.0  # seconds between two lines about the build, on a terminal and elsewhere
@@ -23,13 +23,7 @@ CHANGE = re.compile(rb"O_(?:WRONLY|RDWR|CREAT|TRUNC)[^\n]*\) = \d+</(?!dev/|proc
                     rb"|\b(?:rename|unlink|rmdir|mkdir|mknod|link|symlink|truncate)\w*\([^\n]*\) = 0\n")  # guard: names-that-cannot-be-made
 BUILDERS = ("make", "gmake", "ninja")
 LINE = ("race-record: no file was made or changed for %d minutes%s. With one job a recipe that waits for another one never ends: "
-        "stop it with Ctrl-C (then there is no verdict), and let it need the other one. A long test or download may go on\n")
-
-
-def say(text: str) -> None:
-    """Writes a text to standard error. Nobody may read it, or the device may be full: the recording goes on."""
-    with suppress(OSError, ValueError):  # guard: where-it-cannot-be-written
-        print(text, end="", file=sys.stderr, flush=True)
+        "stop it with Ctrl-C (then there is no verdict), and let it need the other one. A long test or download may go on")
 
 
 @dataclass
@@ -52,13 +46,13 @@ class Progress:
         now = time.monotonic()
         if now >= self.due:
             self.due = now + self.every
-            say(self.text(now - self.began) + ("\x1b[K\r" if self.is_terminal else "\n"))
+            tell(self.text(now - self.began), "\x1b[K\r" if self.is_terminal else "\n")
         if lines and now - self.changed >= STEP and CHANGE.search(lines):  # guard: changes
             self.changed = now
         elif not self.is_still and now - self.changed >= PATIENCE:
             self.is_still = True  # guard: once
             command = running(self.tracer)
-            say(printable(LINE % (PATIENCE // 60, "; this runs: " + command if command else "")))
+            tell(printable(LINE % (PATIENCE // 60, "; this runs: " + command if command else "")))
 
     def text(self, seconds: float) -> str:
         """What is known after some seconds."""
@@ -69,7 +63,7 @@ class Progress:
     def end(self) -> None:
         """Takes the line away."""
         if self.is_terminal and self.due > self.began + self.every:
-            say(WIPE)
+            tell(WIPE, "")
 
 
 def clock_text(seconds: float) -> str:
@@ -93,6 +87,6 @@ def watched(lines: Iterable[str], size: int) -> Iterator[str]:
         done += len(line)
         if is_terminal and 100 * done // size > shown:
             shown = 100 * done // size
-            say("\rrace-record: reads the trace: %d %%" % shown)
+            tell("\rrace-record: reads the trace: %d %%" % shown, "")
         yield line
-    say(WIPE if shown else "")
+    tell(WIPE if shown else "", "")

@@ -44,6 +44,7 @@ QUIET, TIMES = 20.0, 2.0  # a build hangs where nothing begins or ends for so ma
 ENDING = 2.0  # seconds that the output of a build has to come, when that has ended
 WITH_PARENT, TAKES_LEFT = 1, 36  # for prctl: which signal comes when the parent ends; who outlives its parent becomes a child of this process
 SET_FLAGS, IS_UP = 0x8914, 1  # of a device of the network
+SHARED = "/dev/shm"  # files that are memory
 OWN_NET, OWN_KEYS = 0x40000000, 0x8000000  # for unshare: ports; memory and queues that have keys
 SHOWN_LINES = re.compile(r"(?i)\b(error|fatal|cannot|no such|not found|failed|no rule)\b|\*\*\*")
 SHOWN = 3  # so many of them
@@ -164,6 +165,9 @@ class Room:
             upper.mkdir()
             work.mkdir()
             is_done &= mount("overlay", path, 0, "overlay", "lowerdir=%s,upperdir=%s,workdir=%s" % (path, upper, work))
+        if os.path.isdir(SHARED) and not any(top.startswith(SHARED) for top in self.tops):
+            is_done &= mount("tmpfs", SHARED, 0, "tmpfs")  # guard: shared-memory-of-their-own
+            self.top.mkdir(parents=True, exist_ok=True)  # it may have been there
         return is_done
 
     def is_apart(self) -> bool:

@@ -4,7 +4,6 @@ from __future__ import annotations
 
 import json
 import os
-import sys
 import tempfile
 from collections.abc import Callable, Iterator, Sequence
 from contextlib import closing, contextmanager
@@ -13,6 +12,7 @@ from typing import Any
 
 from record.folder import Record, runs_programs
 from record.judge import judge, unshown
+from record.messages import tell
 from record.orders.builds import FLIPPED, SERIAL, Plan, Room, Running, is_child_able
 from record.orders.gate import Key
 from record.orders.graph import Graph
@@ -65,7 +65,7 @@ def beside(room: Room, expected: float, made: int) -> Iterator[Running]:
     with closing(Running(room)) as running:
         if room.is_apart():
             last = "the last time it took %s, and %d builds in copies" % (clock(expected), made) if made else "others may follow"
-            print("race-record: two builds in copies run meanwhile; " + last, file=sys.stderr, flush=True)
+            tell("race-record: two builds in copies run meanwhile; " + last)
             running.begin(SERIAL, FLIPPED)
         yield running
 
@@ -79,7 +79,7 @@ def say(count: int, record: Record, more: str) -> None:
     """Says how many builds will follow, and of what kind."""
     many, each = ("s", " each") if count > 1 else ("", "")
     if count:
-        print("race-record: %d build%s in copies, of %s%s%s" % (count, many, clock(record.seconds), each, more), file=sys.stderr, flush=True)
+        tell("race-record: %d build%s in copies, of %s%s%s" % (count, many, clock(record.seconds), each, more))
 
 
 def explore(room: Room, record: Record, out: Path, race: str, most: int, running: Running) -> dict[str, Any]:

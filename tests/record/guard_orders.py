@@ -17,6 +17,7 @@ GUARDS: List[Guard] = [
         ("builds-that-are-left", "pass", "ends.Signals.builds_that_are_left"),
         ("makes-that-another-program-runs", "if name in NAMES:", "orders.Orders.where_one_job_is_asked_for"),
         ("ports-of-their-own", "if False:", "orders.Orders.port_that_each_build_opens"),
+        ("shared-memory-of-their-own", "pass", "orders.Orders.what_copies_write_elsewhere"),
         ("folders-of-their-own", "pass", "orders.Orders.what_copies_write_elsewhere"),
     ),
     *guards("orders/trial.py",

@@ -158,6 +158,13 @@ class Fresh(unittest.TestCase):
         self.assertEqual(0, outcome.status, outcome.text())
         self.assertIn("for this folder as make clean leaves it\n", outcome.text())
 
+    def test_submodule(self) -> None:
+        """It has its own commits, and files that are new there."""
+        makefile = "all: a\na: ; @cat sub/new > a && git -C sub log --format=%s > b && grep -q inner b\n"
+        setup = "mkdir in && (cd in; git init -q; touch x; git add x; git -c user.name=x -c user.email=x@y commit -qm inner); " + GIT
+        outcome = self.fresh({"Makefile": makefile}, setup.replace("in &&", "../in &&").replace("(cd in", "(cd ../in") + "; git -c protocol.file.allow=always submodule -q add ../in sub; echo > sub/new")
+        self.assertEqual(0, outcome.status, outcome.text())
+
     def test_what_make_clean_leaves(self) -> None:
         outcome = self.fresh(DEPFILES, "make -s")
         self.assertEqual((1, ["gen.h"]), (outcome.status, support.races_of(outcome.text())), outcome.text())

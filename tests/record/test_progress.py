@@ -41,7 +41,7 @@ class Full(io.StringIO):
 def shown(out: io.StringIO, step: float = 1.0) -> Iterator[None]:
     """Standard error goes to a text, by a clock that is so much on at each look."""
     seconds = count()
-    with mock.patch.object(progress, "sys", SimpleNamespace(stderr=out)), mock.patch.object(progress, "time", SimpleNamespace(monotonic=lambda: step * next(seconds))):
+    with mock.patch("sys.stderr", out), mock.patch.object(progress, "time", SimpleNamespace(monotonic=lambda: step * next(seconds))):
         yield
 
 
@@ -125,7 +125,7 @@ class Lines(unittest.TestCase):
         closed = io.StringIO()
         closed.close()
         for out in (closed, Full()):
-            with mock.patch.object(progress, "sys", SimpleNamespace(stderr=out)), mock.patch.object(closed, "isatty", lambda: False, create=True):
+            with mock.patch("sys.stderr", out), mock.patch.object(closed, "isatty", lambda: False, create=True):
                 watch = Progress(0.0, 0)
                 watch.due, watch.changed, stops = watch.began, watch.began - PATIENCE, False
                 try:
