@@ -15,7 +15,7 @@ from importlib import import_module
 from pathlib import Path
 from typing import Callable, ContextManager, Dict, Iterable, Iterator, List, Set
 
-from record.messages import reason, tell
+from record.messages import reason, say
 
 STOPPING = (signal.SIGINT, signal.SIGTERM, signal.SIGHUP, signal.SIGQUIT, signal.SIGALRM, signal.SIGUSR1, signal.SIGUSR2, signal.SIGXCPU)  # the last ones by batch systems  # guard: key-that-quits
 UNHEARD: List[signal.Signals] = []  # what this program hears, and its caller ignores, as a build would
@@ -121,7 +121,7 @@ def ended(name: str, module: str, without: str) -> int:
     if sys.stderr is None:  # what is said there is lost, as that of the build, which gets no other file in its place  # guard: closed-errors
         sys.stderr = open(os.devnull, "w", encoding="utf-8")
     if sys.stdout is None:  # another file may then have its number, and nobody would see the answer  # guard: closed-output
-        tell("%s: its standard output is closed, so %s: leave it open, such as by > /dev/null" % (name, without))
+        say("%s: its standard output is closed, so %s: leave it open, such as by > /dev/null" % (name, without))
         return FAILED
     try:
         hear()
@@ -139,7 +139,7 @@ def ended(name: str, module: str, without: str) -> int:
     except Exception:  # whatever it is, there is no answer
         traceback.print_exc()
         said = "%s: an error of its own stopped it; %s. %s" % (name, without, OF_ITS_OWN)
-    tell(said)
+    say(said)
     for stream in (1, 2):
         os.dup2(os.open(os.devnull, os.O_WRONLY), stream)  # what is left in the buffer may not be writable, and Python would try to write it at its end
     return FAILED

@@ -22,7 +22,7 @@ from record.command import named_folders, ninja_folder
 from record.entry import in_one_step
 from record.first_tree import FirstTree, first_names, git, tree_of, with_folders
 from record.folder import Record, room_of_programs
-from record.messages import reason, tell
+from record.messages import reason, say
 from record.ninja import clean as ninja
 from record.ninja.clean import CannotClean, run
 from record.orders.builds import WITH_PARENT, is_child_able
@@ -51,7 +51,7 @@ def record_fresh(options: argparse.Namespace, out: Path, record: Callable[[Path]
                 tree = fresh_tree(options, os.path.join(place, "tree"), left)
                 found = recorded(options, Path(place), tree, record)
                 if records and found.status != 0:
-                    tell("race-record: the build fails without that: what was recorded before stands")
+                    say("race-record: the build fails without that: what was recorded before stands")
                     break
                 records.append(found)
                 shutil.rmtree(kept, ignore_errors=True)
@@ -60,7 +60,7 @@ def record_fresh(options: argparse.Namespace, out: Path, record: Callable[[Path]
             if not more or options.warm or found.status != 0 or number == TRIES - 1:
                 break
             left |= more
-            tell("race-record: an earlier build left %s; recording again without that" % first_names([os.path.relpath(path) for path in sorted(more)]))
+            say("race-record: an earlier build left %s; recording again without that" % first_names([os.path.relpath(path) for path in sorted(more)]))
         shutil.copytree(kept, out, dirs_exist_ok=True)
     return records[-1]
 
@@ -207,7 +207,7 @@ def moved(copy: str, top: str) -> Iterator[None]:
                               "clean checkout without --fresh" % (top, fault.strerror)) from None
         try:
             with heard():
-                tell("race-record: %s is kept as %s meanwhile" % (top, saved))
+                say("race-record: %s is kept as %s meanwhile" % (top, saved))
                 shutil.move(copy, top)
                 os.chdir(here)
                 yield
@@ -228,4 +228,4 @@ def come_back(top: str, saved: str) -> None:
     with suppress(OSError):
         remove(Path(left))
     if os.path.lexists(left):
-        tell("race-record: %s is what is left of the copy, and could not be removed: remove it" % left)
+        say("race-record: %s is what is left of the copy, and could not be removed: remove it" % left)

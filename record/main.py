@@ -23,7 +23,7 @@ from typing import Dict, List, Optional, Set, Tuple, cast
 from record import RELEASE, VERSION, machine
 from record.command import tops_of, with_jobs
 from record.entry import STOPPING, UNHEARD, Stopped, end_traced, forget_coerced
-from record.messages import printable, tell
+from record.messages import printable, say
 from record.facts import Facts, first_tree
 from record.first_tree import tree_of
 from record.folder import Idle, Missing, NotWhole, Record, accept_warm, alone, aside, former, holds_other, reading, rewrite, room_of_programs
@@ -314,7 +314,7 @@ def record_serial(options: argparse.Namespace, tools: Dict[str, str], out: Path)
     while is_again:
         number += 1
         shutil.rmtree(out)  # the build does not see it
-        tell("race-record: the serial build failed; recording again with -j%d (%d of %d)" % (JOBS, number, TRIES))
+        say("race-record: the serial build failed; recording again with -j%d (%d of %d)" % (JOBS, number, TRIES))
         record, is_again = attempt(options, with_jobs(options.words, JOBS), tools, out, number < TRIES)  # guard: last-build-stays
         record.notes.append(SERIAL_FAILED + "; this is build %d with -j%d" % (number, JOBS))
     record.hints = found or record.hints or ([by_hand(options.words)] if record.status != 0 else [])  # guard: hint-where-no-better-one-is-known
@@ -396,5 +396,5 @@ def main(args: Optional[List[str]] = None) -> int:
         print("\n".join(["NO VERDICT", *("  - %s" % why for why in idle.args), "  the record that was in %s stays: race-report shows it" % Path(options.output).absolute()]))
         return 2
     except (CannotClean, CannotTry, Missing, NotBuilt, NotWhole) as fault:
-        tell("race-record: %s" % fault)
+        say("race-record: %s" % fault)
         return 3

@@ -27,7 +27,7 @@ def reason(error: OSError) -> str:
     return "%s: %s" % (os.fsdecode(error.filename), what) if isinstance(error.filename, (str, bytes)) else what
 
 
-def tell(text: str, end: str = "\n") -> None:
+def say(text: str, end: str = "\n") -> None:
     """Writes a text to standard error. Nobody may read it, or the device may be full: what is done goes on."""
     with suppress(OSError, ValueError):  # guard: where-it-cannot-be-written
         print(text, end=end, file=sys.stderr, flush=True)

@@ -10,7 +10,7 @@ from dataclasses import dataclass
 from typing import Iterable, Iterator
 
 from record.entry import traced
-from record.messages import printable, tell
+from record.messages import printable, say
 from record.orders.processes import born, parent_of, shown
 
 EVERY, MINUTE = 2.0, 60.0  # seconds between two lines about the build, on a terminal and elsewhere
@@ -46,13 +46,13 @@ class Progress:
         now = time.monotonic()
         if now >= self.due:
             self.due = now + self.every
-            tell(self.text(now - self.began), "\x1b[K\r" if self.is_terminal else "\n")
+            say(self.text(now - self.began), "\x1b[K\r" if self.is_terminal else "\n")
         if lines and now - self.changed >= STEP and CHANGE.search(lines):  # guard: changes
             self.changed = now
         elif not self.is_still and now - self.changed >= PATIENCE:
             self.is_still = True  # guard: once
             command = running(self.tracer)
-            tell(printable(LINE % (PATIENCE // 60, "; this runs: " + command if command else "")))
+            say(printable(LINE % (PATIENCE // 60, "; this runs: " + command if command else "")))
 
     def text(self, seconds: float) -> str:
         """What is known after some seconds."""
@@ -63,7 +63,7 @@ class Progress:
     def end(self) -> None:
         """Takes the line away."""
         if self.is_terminal and self.due > self.began + self.every:
-            tell(WIPE, "")
+            say(WIPE, "")
 
 
 def clock_text(seconds: float) -> str:
@@ -87,6 +87,6 @@ def watched(lines: Iterable[str], size: int) -> Iterator[str]:
         done += len(line)
         if is_terminal and 100 * done // size > shown:
             shown = 100 * done // size
-            tell("\rrace-record: reads the trace: %d %%" % shown, "")
+            say("\rrace-record: reads the trace: %d %%" % shown, "")
         yield line
-    tell(WIPE if shown else "", "")
+    say(WIPE if shown else "", "")

@@ -12,7 +12,7 @@ from typing import Any
 
 from record.folder import Record, runs_programs
 from record.judge import judge, unshown
-from record.messages import tell
+from record.messages import say
 from record.orders.builds import FLIPPED, SERIAL, Plan, Room, Running, is_child_able
 from record.orders.gate import Key
 from record.orders.graph import Graph
@@ -65,7 +65,7 @@ def beside(room: Room, expected: float, made: int) -> Iterator[Running]:
     with closing(Running(room)) as running:
         if room.is_apart():
             last = "the last time it took %s, and %d builds in copies" % (clock(expected), made) if made else "others may follow"
-            tell("race-record: two builds in copies run meanwhile; " + last)
+            say("race-record: two builds in copies run meanwhile; " + last)
             running.begin(SERIAL, FLIPPED)
         yield running
 
@@ -75,11 +75,11 @@ def clock(seconds: float) -> str:
     return "about %.0f seconds" % seconds if seconds > 1 else "a second or less"
 
 
-def say(count: int, record: Record, more: str) -> None:
+def say_how_many(count: int, record: Record, more: str) -> None:
     """Says how many builds will follow, and of what kind."""
     many, each = ("s", " each") if count > 1 else ("", "")
     if count:
-        tell("race-record: %d build%s in copies, of %s%s%s" % (count, many, clock(record.seconds), each, more))
+        say("race-record: %d build%s in copies, of %s%s%s" % (count, many, clock(record.seconds), each, more))
 
 
 def explore(room: Room, record: Record, out: Path, race: str, most: int, running: Running) -> dict[str, Any]:
@@ -89,7 +89,7 @@ def explore(room: Room, record: Record, out: Path, race: str, most: int, running
     graph = Graph(out)
     after = fixes(graph, race, room.top / "tasks")
     trial = Trial(room, graph, [held_by(Path(top), str(out)) for top in room.tops], after, most, {*record.markers}, record.is_parallel)
-    trial.run(running, lambda count: say(count, record, "; one more for each step where something differs"))
+    trial.run(running, lambda count: say_how_many(count, record, "; one more for each step where something differs"))
     if graph.pairs() and not (any(trial.turned) or trial.shown or after):  # guard: builds-that-turn-nothing-round
         raise CannotTry("no two recipes change places there, as where a script calls make with -j1")
     if (room.top / "record").exists():  # else that build was stopped, as all of it waited

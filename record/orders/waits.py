@@ -15,7 +15,7 @@ from typing import cast
 from record.folder import Record
 from record.judge import judge
 from record.orders.builds import OWN, Plan, Room, side_by_side
-from record.orders.exploring import say
+from record.orders.exploring import say_how_many
 from record.orders.trees import remove
 from record.report import read_json
 from record.trace.lives import Child
@@ -37,7 +37,7 @@ def try_waits(room: Room, record: Record, out: Path, race: str, most: int) -> Re
     plans = [Plan("held%d" % number, {}, OWN, is_recorded=True, ends=frozenset(row)) for number, row in enumerate(record.apart[:min(MOST, most)])]
     if not plans:
         return record
-    say(len(plans), record, ", in which processes are held at their end")
+    say_how_many(len(plans), record, ", in which processes are held at their end")
     known: set[Child] = {*record.known}
     for built in side_by_side(room, plans):
         place = room.place(built.plan)
