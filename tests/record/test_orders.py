@@ -87,8 +87,7 @@ class Orders(unittest.TestCase):
 
     def test_what_jobs_alone_show(self) -> None:
         """No order does, where each recipe sees what the other one has done so far."""
-        wait = "for i in 1 2 3 4 5 6 7 8; do test -e %s || sleep 0.2; done"
-        makefile = "all: a b\na: ; @echo > d/a; %s; ls d > a; rm d/a\nb: ; @echo > d/b; %s; rm d/b; touch b\n" % (wait % "d/b", wait % "a")
+        makefile = "all: a b\na: ; @echo > d/a; sleep 0.8; ls d > a; rm d/a\nb: ; @echo > d/b; sleep 1.6; rm d/b; touch b\n"
         with support.Project({"Makefile": makefile, "d/k": ""}) as project:
             found = project.record(["make", "-j2"], once=False)
         self.assertEqual((1, True), (found.status, "  a: line 2 is `b`, and `k` after a serial build" in found.text()), found.text())
