@@ -38,7 +38,7 @@ class Overlap(Gate):
     meets: Sequence[Meet] = ()
     held: dict[int, tuple[Key, int, int]] = field(default_factory=dict)  # by process: its recipe, the descriptor by which the kernel reports it, and the report
     tries: Counter[tuple[Key, Meet]] = field(default_factory=Counter)  # how often a recipe was to make the folder
-    over_there: set[Meet] = field(default_factory=set)  # those of which the first recipe was held
+    met: set[Meet] = field(default_factory=set)  # those of which the first recipe was held behind its call
 
     def let_go(self, pid: int, channel: socket.socket) -> None:
         own = self.owners[pid]
@@ -54,14 +54,14 @@ class Overlap(Gate):
         """A process is to make a folder, or goes on: it is held, or does so."""
         name = name_of(call) if call.call in MAKING else ""
         self.held[call.pid] = key, reports, call.number
-        if not [meet for meet in self.meets if key in meet[:2] and self.is_held(key, meet, name)]:
+        if not any([self.reach(key, meet, name) for meet in self.meets if key in meet[:2]]):
             self.go_on(call.pid)
 
-    def is_held(self, key: Key, meet: Meet, name: str) -> bool:
-        """Whether a recipe is held for another one, where it is to make a folder of some name, or goes on."""
+    def reach(self, key: Key, meet: Meet, name: str) -> bool:
+        """A recipe is to make a folder of some name, or goes on: whether it is held there for another one."""
         if name != meet.name:
-            waits = meet.goes and key == meet.first and self.tries[key, meet] > 0 and meet not in self.over_there  # guard: folders-that-go-again
-            self.over_there |= {meet} if waits else set()
+            waits = meet.goes and key == meet.first and self.tries[key, meet] > 0 and meet not in self.met  # guard: folders-that-go-again
+            self.met |= {meet} if waits else set()
             return waits
         self.tries[key, meet] += 1
         if meet.goes and key == meet.second and self.tries[key, meet] > 1:
