@@ -233,23 +233,25 @@ class Trial:
     def overlap(self, contests: Sequence[Contest]) -> None:
         """Tries out recipes that make or remove a folder, the second of each pair beside the first, which makes it."""
         apart = self.graph.apart(self.after)
-        left = [one for one in contests if apart[max(one[0])] >> min(one[0]) & 1]
+        left, plans = [one for one in contests if apart[max(one[0])] >> min(one[0]) & 1], list[tuple[list[Contest], Plan]]()
         while left:
-            if not self.goes_on:
-                self.is_whole = False
-                return
             alike = [one for one in left if one[2] == left[-1][2]]
             places, pairs = self.graph.beside([pair for pair, _, _ in alike])
             met = [one for one in alike if one[0] in pairs]
             meets = [Meet(self.graph.tasks[one].key or (), self.graph.tasks[other].key or (), name, goes) for (one, other), name, goes in met]
-            plan = Plan("overlap", places, after=self.after, meets=meets)
-            built, = self.make(plan)
-            if built.otherwise and len(met) > 1:
-                for one in met:
-                    self.overlap([one])
-            elif built.otherwise and not self.make(replace(plan, meets=()))[0].otherwise:
-                self.shown.append(Shown([key for at in sorted(met[0][0]) for key in [self.graph.tasks[at].key] if key], built, True))
+            plans.append((met, Plan("overlap%d" % len(plans), places, after=self.after, meets=meets)))
             left = [one for one in left if one not in met]
+        for at in range(0, len(plans), AT_ONCE):
+            some = plans[at:at + AT_ONCE]
+            if not self.goes_on or self.builds + len(some) > self.most:
+                self.is_whole = False
+                return
+            for (met, plan), built in zip(some, self.make(*(plan for _, plan in some))):
+                if built.otherwise and len(met) > 1:
+                    for one in met:
+                        self.overlap([one])
+                elif built.otherwise and not self.make(replace(plan, meets=()))[0].otherwise:
+                    self.shown.append(Shown([key for at in sorted(met[0][0]) for key in [self.graph.tasks[at].key] if key], built, True))
 
     # ---------------------------------------------------------------- what is kept
     def result(self) -> dict[str, Any]:
