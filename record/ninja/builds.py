@@ -41,7 +41,8 @@ def beside(ninjas: List[Ninja], builds: List[Build], names: Names) -> "Tuple[int
     found = [(ninja, one) for (program, folder, file), ninja in asked.items()
              for one in sorted(set(MISSING.findall(machine.printed(program, "-C", folder, "-f", file, "-t", "missingdeps"))))]
     said = [(ninja, one) for ninja, one in found for build in builds if isinstance(build, NinjaBuild) and build.folder == ninja.folder and is_race(build, one, names)]
-    return len(found), [one for ninja, one in found if (ninja, one) not in said and not is_of_nobody(ninja, one, builds, names)]  # guard: phony-ones
+    more = [(ninja, one) for ninja, one in found if (ninja, one) not in said and not is_of_nobody(ninja, one, builds, names)]  # guard: phony-ones
+    return len(found), [one for ninja, one in more if not is_apart(ninja, one, builds, names)]  # guard: one-ninja-behind-the-other
 
 
 def is_of_nobody(ninja: Ninja, one: Missing, builds: List[Build], names: Names) -> bool:
@@ -51,9 +52,22 @@ def is_of_nobody(ninja: Ninja, one: Missing, builds: List[Build], names: Names) 
     return all(edge is not None and edge.is_phony and not edge.waits() for edge in edges) and not any(path in build.writers for build in builds)  # guard: phony-ones-that-are-written
 
 
+def is_apart(ninja: Ninja, one: Missing, builds: List[Build], names: Names) -> bool:
+    """Whether one call of ninja ran the statement that makes a file, and another one that which reads it."""
+    path = names.find(ninja.folder, one[1], True).path
+    users = {id(build) for build in builds if isinstance(build, NinjaBuild) and users_in(build, one)}
+    makers = {id(build) for build in builds if path in build.writers}
+    return bool(users and makers) and users.isdisjoint(makers)
+
+
+def users_in(build: NinjaBuild, one: Missing) -> List[int]:
+    """The tasks of a build that have that output."""
+    return [at for at in range(len(build.tasks)) if os.path.normpath(one[0]) in build.edge(at).makes()]
+
+
 def is_race(build: NinjaBuild, one: Missing, names: Names) -> bool:
     """Whether a build has two tasks that nothing orders, one with that output, one that writes the path."""
     path = names.find(build.folder, one[1], True).path
-    users = [at for at in range(len(build.tasks)) if os.path.normpath(one[0]) in build.edge(at).makes()]
+    users = users_in(build, one)
     writers = [at for at, task in enumerate(build.tasks) if path in task.writes]
     return any(build.unordered(user, writer) for user in users for writer in writers)

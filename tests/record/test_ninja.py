@@ -41,6 +41,15 @@ def test_of(case: Case) -> Callable[[unittest.TestCase], None]:
 class Ninja(unittest.TestCase):
     """A test for each case."""
 
+    @unittest.skipUnless(support.is_new_ninja(), "ninja 1.11 has that, and later versions")
+    def test_ninja_behind_another_one(self) -> None:
+        """They come in the order of the script, whatever ninja itself finds."""
+        manifest = "rule g\n  command = echo x > $out\nrule c\n  command = cat g.h > $out && echo '$out: g.h' > $out.d\n  depfile = $out.d\n  deps = gcc\nbuild g.h: g\nbuild a: c\n"
+        for words, status in (("ninja g.h && ninja", 0), ("ninja", 1)):
+            with support.Project({"build.ninja": manifest}) as project:
+                outcome = project.record(["sh", "-c", words])
+            self.assertEqual(status, outcome.status, outcome.text())
+
 
 @unittest.skipUnless(shutil.which("ninja"), "ninja is missing (Debian: apt-get install ninja-build)")
 class Companions(unittest.TestCase):
