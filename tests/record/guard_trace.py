@@ -37,6 +37,7 @@ GUARDS: List[Guard] = [
         ("changes-that-they-wait", "return", "calls.Descriptors.who_waits_for_changes"),
         ("listed-said", "elif False:", "calls.Makefiles.processes", UNSAID),
         ("whose-name-file", "if False:", "calls.Makefiles.folder_whose_name_a_file_has", YES),
+        ("folders-that-are-not-empty", "pass", "orders.Orders.case_folder_that_goes_where_it_is_empty"),
         ("one-that-is-removed", "pass", "calls.Traces.name_of_two_that_is_removed"),
         ("number-of-file", "base, path = self.base_and_path(life, call) ", "calls.Traces.attribute_by_a_number"),
         ("that-are-set", "pass", "missing.Verdicts.premises"),

@@ -41,6 +41,7 @@ CASES: Dict[str, Tuple[str, Dict[str, str], int, Tuple[str, ...]]] = {
         "  seen where b runs beside a:",)),
     "folder that a further line makes": ("all: a b\na b:\n\t@echo > $@\n\t@mkdir -p d; echo > d/$@; rm d/$@; rmdir d\n", {}, 1, ("  seen where b runs beside a:",)),
     "look at a folder that goes": ("all: a b\na: ; @mkdir d; rmdir d; echo > a\nb: ; @test -d d && echo yes > b || echo no > b\n", {}, 1, ("  seen where b runs beside a:", "    b: line 1 is `yes`, and `no` after a serial build")),
+    "folder that goes where it is empty": ("all: a b\na: ; @mkdir -p d; echo > d/a; touch a\nb: ; @rmdir d 2> /dev/null; touch b\n", {}, 1, ("  seen where b runs beside a:", "    d/a: is missing")),
     "folder that goes behind both": ("all: c\na b:\n\t@test -d d || mkdir d\n\t@echo > d/$@; echo > $@\nc: a b ; @ls d > c; rm -r d\n", {}, 1, ("  seen where b runs beside a:",)),
     "folder that is a lock": ("all: a b c\na b c: ; @while ! mkdir d 2> /dev/null; do sleep 0.1; done; echo $@ > $@; rmdir d\n", {}, 0, ("in other orders left the same 4 files",)),
     "name for which make asks": ("all: a u\na: ; @echo > x; echo > a\nu: x ; @echo > u\nx: ;\n", {}, 0, ("other orders left the same 4 files",)),
