@@ -1,5 +1,6 @@
 """How race-record ends where it cannot go on: in a sentence, with status 3, and nothing of the user's is lost."""
 
+import contextlib
 import errno
 import os
 import re
@@ -158,7 +159,8 @@ class Signals(unittest.TestCase):
                 time.sleep(0.05)
             left = [*filter(is_alive, pids)]
             for pid in left:
-                os.kill(int(pid), signal.SIGKILL)
+                with contextlib.suppress(ProcessLookupError):  # it ended with another one
+                    os.kill(int(pid), signal.SIGKILL)
             self.assertEqual((True, []), (len(pids) > 3, left))
 
     def test_terminated(self) -> None:
