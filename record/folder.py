@@ -24,6 +24,7 @@ from record.trace.lives import Address, Child, apart
 
 ROOMS = "/tmp" if os.path.isdir("/tmp") else None  # where temporary folders are made
 NO_ROOM = "no folder for temporary files lets programs run (%s: they are mounted with noexec, or not for you): name one by TMPDIR that is not in the project"
+APART = "the recorded build ran several recipes at once, and left %s otherwise than each build in a copy: record with one job"
 NAMES = 12  # so many of the targets that were there before are named
 INSIDE = ("apart", "configured", "first", "is_parallel", "known", "lucky", "markers", "up_to_date")  # what the record does not hold as it is
 
@@ -114,6 +115,8 @@ class Record:
         """Takes in what builds in other orders came to: what they try out is not taken for granted any more."""
         self.orders = orders
         self.holes += ["a build in another order failed, and did not when it was made again: " + how for how in orders["failed"]]
+        if self.is_parallel and not orders["shown"]:  # guard: what-the-recorded-build-left
+            self.holes += [APART % path for path in orders["apart"][:1]]
         self.assumptions = [one for one in self.assumptions if one["kind"] not in TRIED_OUT]  # guard: what-orders-try-out
 
     def text(self) -> str:

@@ -78,10 +78,6 @@ class Trial:
             self.try_all(self.covers(self.left))
         if self.is_parallel and not self.shown and self.names(self.recorded):
             self.compare(*side_by_side(self.room, [SERIAL]))
-        apart = self.names(self.recorded)
-        if self.is_parallel and not self.shown and apart:  # guard: what-the-recorded-build-left
-            text = [str(difference(name, self.trees[number], Path(self.room.tops[number]))) for number, name in apart[:SHOWN]]
-            self.shown.append(Shown((), Built(SERIAL, 0, 0.0, [], "", self.recorded, text, self.whole(*apart[0]))))
 
     def begin(self, running: Running) -> Built:
         """The second serial build, and the flipped one: those that ran beside the recorded build, where they count. `CannotTry` where the project cannot be built a

@@ -22,7 +22,6 @@ GUARDS: List[Guard] = [
     ),
     *guards("orders/trial.py",
         ("what-differs-once", "pass", "orders.Orders.what_differs_once"),
-        ("what-the-recorded-build-left", "if False:", "orders.Orders.what_jobs_alone_show"),
         ("copies-among-themselves", "if False:", "orders.Orders.case_place_of_the_project"),
         ("names-that-a-serial-build-leaves", "if not any(it.fullmatch(name) for it in self.passing[number])]", "orders.Orders.case_name_like_one_that_is_drawn"),
         ("recipes-that-the-record-has", "more = began - order", "orders.Orders.case_targets_with_drawn_names"),

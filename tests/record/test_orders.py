@@ -91,7 +91,7 @@ class Orders(unittest.TestCase):
         makefile = "all: a b\na: ; @echo > d/a; sleep 0.8; ls d > a; rm d/a\nb: ; @echo > d/b; sleep 1.6; rm d/b; touch b\n"
         with support.Project({"Makefile": makefile, "d/k": ""}) as project:
             found = project.record(["make", "-j2"], once=False)
-        self.assertEqual((1, True), (found.status, "  a: line 2 is `b`, and `k` after a serial build" in found.text()), found.text())
+        self.assertEqual((2, True), (found.status, "/a otherwise than each build in a copy: record with one job" in found.text()), found.text())
 
     def test_make_in_what_comes_before(self) -> None:
         """It has a target of the same name."""
