@@ -8,14 +8,14 @@ import os
 from typing import Dict, List, Set, Tuple
 
 from record.build.tasks import Build, Task
-from record.trace.events import ABSENT, CREATED, ENTERED, FOLDER_KEPT, FOLDER_REMOVED, LISTED, MADE_BEFORE, MAKES, SEEN
+from record.trace.events import ABSENT, CREATED, ENTERED, FOLDER_FULL, FOLDER_REMOVED, LISTED, MADE_BEFORE, MAKES, SEEN
 from record.trace.names import Names
 
 
 def add_folders(build: Build, names: Names, before: Dict[str, str]) -> None:
     """A name for each two that meet on a folder; and for each task which folders it makes, found there when it tried, and uses though they may go again."""
     makers: Dict[str, Set[int]] = {}
-    gone = {path for task in build.tasks for kind, path, _ in task.events() if kind in FOLDER_REMOVED + FOLDER_KEPT}
+    gone = {path for task in build.tasks for kind, path, _ in task.events() if kind in FOLDER_REMOVED + FOLDER_FULL}
     for at, task in enumerate(build.tasks):
         for kind, path, _ in task.events():
             if kind in MAKES and (path in gone or before.get(path) != "d" and path not in names.above):  # guard: there-before-build

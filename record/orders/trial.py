@@ -11,7 +11,7 @@ from typing import Any
 
 from record.orders.builds import FLIPPED, ONE, SERIAL, Built, Plan, Room, Running, side_by_side
 from record.orders.gate import Key
-from record.orders.graph import Graph, pairs_of, placed, size, without
+from record.orders.graph import Graph, numbers, pairs_of, placed, size, without
 from record.orders.joined import Contest
 from record.orders.overlap import Meet
 from record.orders.trees import CannotTry, difference, differing, passing
@@ -233,7 +233,8 @@ class Trial:
         while left:
             alike = [one for one in left if one[2] == left[-1][2]]
             places, pairs = self.graph.beside([pair for pair, _, _ in alike])
-            met = [one for one in alike if one[0] in pairs]
+            outer = {at for pair in pairs for at in pair}
+            met = [one for one in alike if one[0] in pairs and outer.isdisjoint(at for own in one[0] for at in numbers(self.graph.tasks[own].around))]  # guard: inner-recipes-apart
             meets = [Meet(self.graph.tasks[one].key or (), self.graph.tasks[other].key or (), name, goes) for (one, other), name, goes in met]
             plans.append((met, Plan("overlap%d" % len(plans), places, after=self.after, meets=meets)))
             left = [one for one in left if one not in met]

@@ -12,7 +12,7 @@ from record.trace.arguments import TEXT_END, Opening, opening, spelled
 from record.trace.classes import COPIES, DOUBLES, LIMITS, NO_FILES, PAIRS, SHARING, SIGNALLED, SIGNALS, SLEEPS, TIMERS, WAITS, WRITES
 from record.trace.descriptors import CHANGING, OF_KERNEL, READING, requests
 from record.trace.events import (
-    ABSENT, CREATED, ENTERED, FOLDER_CHANGED, FOLDER_KEPT, FOLDER_REMOVED, HELD, LISTED, LOCKED, MADE, MADE_BEFORE, READ, REFUSED, REMOVED, SEEN, TIME_SET, WRITTEN,
+    ABSENT, CREATED, ENTERED, FOLDER_CHANGED, FOLDER_FULL, FOLDER_REMOVED, HELD, LISTED, LOCKED, MADE, MADE_BEFORE, READ, REFUSED, REMOVED, SEEN, TIME_SET, WRITTEN,
 )
 from record.trace.lives import Life
 from record.trace.names import Found, Inode
@@ -234,7 +234,7 @@ class Calls(Started):
         if not ok:
             self.look(life, path, call.error != "ENOENT", False, base=base)
             if call.error == "ENOTEMPTY":
-                self.put(life, FOLDER_KEPT, found.path)  # guard: folders-that-are-not-empty
+                self.put(life, FOLDER_FULL, found.path)  # guard: folders-that-are-not-empty
             return
         others = [a for a in self.names.aliases(found.inode) if a != found.path]
         if found.folder is not None:

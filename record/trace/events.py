@@ -25,7 +25,7 @@ MADE_BEFORE = "E"  # a folder could not be made, since the name was there
 FOLDER_CHANGED = "m"  # what is known of a folder, as its mode
 TIME_SET = "t"  # the time of a folder was set; or that of a file, to another time than now
 FOLDER_REMOVED = "X"  # a folder went
-FOLDER_KEPT = "k"  # a folder could not go, as it held something
+FOLDER_FULL = "k"  # a folder could not go, as it held something
 
 LOOKS = READ + SEEN + ABSENT
 CHANGES = WRITTEN + CREATED + REMOVED + LOCKED  # guard: removals-are-writes

@@ -43,6 +43,9 @@ CASES: Dict[str, Tuple[str, Dict[str, str], int, Tuple[str, ...]]] = {
     "look at a folder that goes": ("all: a b\na: ; @mkdir d; rmdir d; echo > a\nb: ; @test -d d && echo yes > b || echo no > b\n", {}, 1, ("  seen where b runs beside a:", "    b: line 1 is `yes`, and `no` after a serial build")),
     "folder that goes where it is empty": ("all: a b\na: ; @mkdir -p d; echo > d/a; touch a\nb: ; @rmdir d 2> /dev/null; touch b\n", {}, 1, ("  seen where b runs beside a:", "    d/a: is missing")),
     "folder that goes behind both": ("all: c\na b:\n\t@test -d d || mkdir d\n\t@echo > d/$@; echo > $@\nc: a b ; @ls d > c; rm -r d\n", {}, 1, ("  seen where b runs beside a:",)),
+    "folder that goes in a make beside one for a lock": (
+        "all: s t\ns t: ; @while ! mkdir k 2> /dev/null; do sleep 0.1; done; rmdir k; $(MAKE) -s -f $@.mk; touch $@\n",
+        {"s.mk": "all: a b\na b: ; @mkdir d && cp src d/$@ && rm d/$@ && rmdir d && echo > $@\n", "t.mk": "all: ; @touch x\n", "src": ""}, 1, ("  seen where b runs beside a:",)),
     "folder that is a lock": ("all: a b c\na b c: ; @while ! mkdir d 2> /dev/null; do sleep 0.1; done; echo $@ > $@; rmdir d\n", {}, 0, ("in other orders left the same 4 files",)),
     "name for which make asks": ("all: a u\na: ; @echo > x; echo > a\nu: x ; @echo > u\nx: ;\n", {}, 0, ("other orders left the same 4 files",)),
     "file beside a name for which make asks": ("all: w b\nw: ; @echo 1 > b; echo 1 > z; echo > w\nb: F ; @cat z > /dev/null; echo > t\nF: ;\n.PHONY: F\n", {}, 1, ("RACE  z",)),
@@ -79,6 +82,14 @@ class Orders(unittest.TestCase):
         for line in wanted:
             self.assertIn(line, text)
         self.assertEqual(status, found.status, text)
+
+    def test_kernel_that_reports_nothing(self) -> None:
+        """Folders that two use are not tried out then."""
+        makefile, files, _, _ = CASES["folder that each removes"]
+        with mock.patch("record.orders.overlap.reports_of", return_value=-1), support.Project({"Makefile": makefile, **files}) as project:
+            found = project.record(once=False)
+        self.assertEqual((0, True), (found.status, "recipes that nothing orders come to the same" in found.text()), found.text())
+        self.assertIn("the kernel reports no calls that make folders", found.text())
 
     def test_jobs_of_the_user(self) -> None:
         """What a build with several jobs leaves is no measure: builds in copies are compared with a serial one."""
