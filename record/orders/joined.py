@@ -11,7 +11,6 @@ from typing import Any
 from record.folder import replace
 from record.kinds import is_of_folder
 from record.orders.graph import Graph, Pair
-from record.tools.python import BYTE_CODE
 
 Contest = tuple[Pair, str, bool]  # two recipes, the name of a folder, and whether that goes again
 
@@ -24,7 +23,7 @@ def join(graph: Graph, other: Graph) -> None:
             also = judged(other.builds[other.known[known]], rows[row["task"]]) if row["task"] in rows else row
             both = (graph.builds[number], other.builds.get(other.known.get(known, ""), {"labels": {}}))
             leaves = chain(*(one["labels"].get(row["task"], {}).get("leaves", ()) for one in both if graph.about(number, row["task"])["kind"] == "recipe"))
-            writes = {*row["writes"], *also["writes"], *(path for path in leaves if not BYTE_CODE.match(path))}  # guard: what-one-task-alone-writes-in-each
+            writes = {*row["writes"], *also["writes"], *leaves}  # guard: what-one-task-alone-writes-in-each
             row["reads"], row["writes"] = sorted({*row["reads"], *also["reads"]} - writes), sorted(writes)
 
 

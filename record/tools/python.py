@@ -5,7 +5,7 @@ import re
 from typing import Iterator, List, Sequence, Set, Tuple
 
 from record.commands.system import is_below
-from record.trace.events import ABSENT, BY_LIST, MADE, MADE_BEFORE, READ, SEEN
+from record.trace.events import ABSENT, BY_LIST, CHANGES, MADE, MADE_BEFORE, READ, SEEN
 from record.trace.lives import Life
 
 PYTHON = re.compile(r"(?:.*/)?python[\d.]*$")
@@ -50,3 +50,5 @@ def settle_code(life: Life, others: Set[str]) -> None:
             life.events.update({} if is_cache else {(READ, source): life.events.get((READ, source), place)})
         elif kind == MADE and is_cache:
             life.events.setdefault((MADE_BEFORE, path), place)  # it would have gone on where the folder is there
+        elif kind in CHANGES and match is not None:
+            del life.events[kind, path]  # who comes first writes it  # guard: byte-code-that-is-written

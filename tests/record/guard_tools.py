@@ -2,7 +2,7 @@
 
 from typing import List
 
-from guard import YES, Guard, guards
+from guard import FALSE_RACE, YES, Guard, guards
 
 GUARDS: List[Guard] = [
     *guards("tools/caches.py",
@@ -25,6 +25,7 @@ GUARDS: List[Guard] = [
         ("ages", "return not any(False and any(is_name(one, path) for one in names) for target, names in base.prerequisites.items())", "exists.Makefiles.marker_that_is_older_than_a_file", YES),
     ),
     *guards("tools/python.py",
+        ("byte-code-that-is-written", "pass", "python.Python.modules_and_byte_code", FALSE_RACE),
         ("scripts-that-begin", "return bool(len(life.ran) == 1 and PYTHON.match(life.ran[-1][0]))", "python.Python.that_a_script_begins"),
         ("byte-code-of-system", "pass", "python.Python.byte_code_of_the_system_is_no_assumption"),
         ("byte-code-that-others-read", "if place <= life.begun:", "python.Python.byte_code_that_another_program_reads"),
