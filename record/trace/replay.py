@@ -2,6 +2,7 @@
 
 import os
 import re
+from pathlib import Path
 from typing import Dict, List, Set, Tuple
 
 from record.commands import shelltext
@@ -155,7 +156,7 @@ class Replay:
         if PROGRESS in path and shelltext.shows_progress(life.argv):  # guard: what-cmake-counts
             self.progress.append(path[:path.index(PROGRESS) + len(PROGRESS)])
             return
-        if kind in TREE_CHANGES and path.rstrip("/") not in self.fresh and not self.names.is_inside(path):
+        if kind in TREE_CHANGES and not self.names.is_inside(path) and self.fresh.isdisjoint(map(str, (Path(path), *Path(path).parents))):  # guard: names-in-folders-that-are-made
             self.outside[path.rstrip("/")] = None  # guard: names-outside-of-project
         if kind in (READ, ENTERED) and (life.is_ninja or life.is_make and life.number >= 0):
             life.acts.append(Act(self.place, kind, path))

@@ -167,6 +167,7 @@ SMALL: Dict[str, Small] = {
     "all_up_to_date": Small("no verdict", "a: s ; cp s a\n", {"s": "s", "a": "s"}, OLD + "s", says="targets that were up to date"),
     "unasked": Small("safe", ".SUFFIXES: .x .y\nall: a\na: ; touch a\nb: a ; cp a b\nclean: ; rm -f a\n.x.y: ; cp $< $@\n.DEFAULT: ; false\n", says="(2, such as b)"),
     "outside": Small("safe", "all: ; echo x > $(CURDIR)/../outside; mktemp -u > /dev/null\n", says="names outside of the project"),
+    "outside_in_a_folder_that_is_made": Small("safe", "all: ; mkdir $(CURDIR)/../d; echo x > $(CURDIR)/../d/x; cp $(CURDIR)/../d/x all\n", lacks="names outside of the project"),
     "makers": Small("safe", "all: a b\na b: ; sh install-sh -d d; touch d/$@\n", {"install-sh": INSTALL}),
     "libtool_makes_its_folder": Small("safe", "all: a b\na b: ; ./libtool --mode=compile; touch .libs/$@\n", {"libtool": "#!/bin/sh\ntest -d .libs || mkdir .libs\n"}, "chmod +x libtool"),
     "hard_links": Small("safe", "all: ; ln x y\n", {"x": "x"}, says="files that got or lost a second name"),
