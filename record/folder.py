@@ -26,7 +26,7 @@ ROOMS = "/tmp" if os.path.isdir("/tmp") else None  # where temporary folders are
 NO_ROOM = "no folder for temporary files lets programs run (%s: they are mounted with noexec, or not for you): name one by TMPDIR that is not in the project"
 APART = "the recorded build ran several recipes at once, and left %s otherwise than each build in a copy: record with one job"
 NAMES = 12  # so many of the targets that were there before are named
-INSIDE = ("apart", "configured", "first", "is_parallel", "known", "lucky", "markers", "up_to_date")  # what the record does not hold as it is
+INSIDE = ("apart", "configured", "first", "known", "late", "lucky", "markers", "up_to_date")  # what the record does not hold as it is
 
 
 class Missing(Exception):
@@ -82,7 +82,7 @@ class Record:
     lucky: Dict[str, Set[Child]] = field(default_factory=dict)  # by case of `luck`: the processes for which others have waited so
     apart: List[Set[Address]] = field(default_factory=list)  # the same in rows: those of one row can be held at their end in one build
     known: Set[Child] = field(default_factory=set)  # of those that were held at their end, and of others with the same parent: for whom each build waits
-    is_parallel: bool = False  # a make ran several recipes at once
+    late: Optional[Set[str]] = None  # what processes changed that ended after a make had run several recipes at once; none where none did
     missingdeps: int = 0  # what `ninja -t missingdeps` finds
     orders: Optional[Dict[str, Any]] = None  # what builds in other orders came to
     missing: Optional[Dict[str, Any]] = None  # with --missing: what its answer takes for granted, and why there may be none
@@ -90,6 +90,10 @@ class Record:
     def __post_init__(self) -> None:
         if self.status != 0:
             self.holes.append("the build ended with status %d" % self.status + (": signal %d stopped it" % -self.status if self.status < 0 else ""))  # guard: build-that-failed
+
+    def is_late(self, path: str) -> bool:
+        """Whether something changed a path, or a folder above it, since a make had run several recipes at once."""
+        return any(str(one) in (self.late or ()) for one in (path, *Path(path).parents))  # guard: what-was-there-by-then
 
     def bar(self, kinds: Container[str]) -> None:
         """What is taken for granted of these kinds bars a yes."""
@@ -115,8 +119,8 @@ class Record:
         """Takes in what builds in other orders came to: what they try out is not taken for granted any more."""
         self.orders = orders
         self.holes += ["a build in another order failed, and did not when it was made again: " + how for how in orders["failed"]]
-        if self.is_parallel and not orders["shown"]:  # guard: what-the-recorded-build-left
-            self.holes += [APART % path for path in orders["apart"][:1]]
+        if not orders["shown"]:
+            self.holes += [APART % path for path in filter(self.is_late, orders["apart"])][:1]  # guard: what-the-recorded-build-left
         self.assumptions = [one for one in self.assumptions if one["kind"] not in TRIED_OUT]  # guard: what-orders-try-out
 
     def text(self) -> str:

@@ -31,6 +31,7 @@ from record.tools.caches import settle_caches
 from record.tools.exists import credit_makes, settle_exists
 from record.tools.python import settle
 from record.trace.calls import Calls
+from record.trace.events import CHANGES, FOLDER_CHANGED, MADE, OUTPUT
 from record.trace.lives import known_of
 from record.trace.names import mounts_below
 from record.trace.sifting import SYSTEM, unseen_changes
@@ -87,7 +88,8 @@ class Imported:
         self.add_builds()
         if (self.makes or self.ninjas) and record.status == 0 and did_nothing(self.builds, self.makes):
             record.holes.append(IDLE)  # guard: nothing
-        record.is_parallel = any(map(self.owners.run_at_once, self.makes))
+        since = min((place for make in self.makes for place in self.owners.at_once(make)), default=None)
+        record.late = None if since is None else {path.rstrip("/") for life in self.lives if life.died > since for kind, path in life.events if kind in CHANGES + OUTPUT + MADE + FOLDER_CHANGED}
 
     def past(self) -> Past:
         """The names that are there at each place of the trace."""

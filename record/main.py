@@ -32,12 +32,13 @@ from record.fresh import record_fresh
 from record.judge import find_race, judge, no_race
 from record.ninja.clean import CannotClean
 from record.ninja.retry import JOBS, TRIES, by_hand, hints, undo
-from record.orders.builds import Plan, with_many
+from record.orders.builds import Plan, Room, Running, with_many
 from record.orders.graph import Graph
 from record.orders.exploring import MOST, beside, explore, new_room
 from record.orders.result import tried, whatever
 from record.orders.trees import CannotTry
 from record.orders.waits import try_waits
+from record.processor import Processor
 from record.progress import Progress
 from record.report import Judged, colours, read_json, report
 from record.trace.classes import shown_as_numbers, traced
@@ -65,6 +66,7 @@ NO_COMMAND = "no such command: %s, or it cannot be run; behind -- stands the com
 MAKES = ("make", "gmake", "bmake")
 SILENT = "%s cannot be recorded: %s. Nothing was built. Let a GNU make build, of version 4.2 or later (Debian: apt-get install make), and record again"
 SETUP = " || exit\nexec \"$@\""  # behind what comes before the build
+NOT_TRIED = "not built in other orders: %s"
 SERIAL_FAILED = "the serial build failed"
 ASKED = min(4, os.cpu_count() or 1)  # how many builds `race` is asked about at once
 WARM = ("WARM: the build used what was there before: record a clean tree (race-record --fresh%s -- %s), or, if builds start from this one, "
@@ -103,8 +105,9 @@ def refuse_silent(word: str) -> None:
             raise Missing(SILENT % (path, why))
 
 
-def enter(watch: Watch, older: Older, heard: object, held: Set[signal.Signals]) -> None:
+def enter(processor: Processor, watch: Watch, older: Older, heard: object, held: Set[signal.Signals]) -> None:
     """What the process does first that becomes strace. `held`: the signals that it does not hear."""
+    processor.enter()
     if watch.covered:
         watch.lay()
     older.enter(heard)
@@ -129,7 +132,7 @@ def counting(watch: Watch) -> List[str]:
     return [*watch.covered, os.environ.get("PATH", os.defpath).split(":")[0]]
 
 
-def run_build(words: List[str], spool: Path, tops: List[str], watch: Watch, expected: float) -> Tuple[int, float]:
+def run_build(words: List[str], spool: Path, tops: List[str], watch: Watch, processor: Processor, expected: float) -> Tuple[int, float]:
     """The build under strace; meanwhile its trace is sifted, and the modules are loaded that read it. Its status and seconds; `Missing` where nobody may trace."""
     env = environment(watch)
     began = time.monotonic()
@@ -138,15 +141,16 @@ def run_build(words: List[str], spool: Path, tops: List[str], watch: Watch, expe
     heard = old if old in (signal.SIG_IGN, signal.SIG_DFL) else signal.SIG_DFL
     signal.signal(signal.SIGINT, lambda number, _: interrupts.append(number))
     older, pipe = Older(), Pipe(spool)
-    with ThreadPoolExecutor(3) as pool:
-        words = STRACE + ["-o", str(pipe.path), "--"] + words
+    with ThreadPoolExecutor(4) as pool:
+        words = STRACE + processor.words() + ["-o", str(pipe.path), "--"] + words
         held = cast(Set[signal.Signals], signal.pthread_sigmask(signal.SIG_BLOCK, STOPPING))  # until what has begun would be ended  # guard: signal-when-build-has-just-begun
-        process = subprocess.Popen(words, env=env, close_fds=False, preexec_fn=lambda: enter(watch, older, heard, held))  # what the caller has opened for the build stays open  # guard: descriptors-of-caller
+        process = subprocess.Popen(words, env=env, close_fds=False, preexec_fn=lambda: enter(processor, watch, older, heard, held))  # what the caller has opened for the build stays open  # guard: descriptors-of-caller
         watch.note(process.pid)
         ended, filled = threading.Event(), threading.Event()
         progress = Progress(expected, process.pid)
         filling = pool.submit(pipe.fill, ended.wait, progress.see)
         filling.add_done_callback(lambda _: filled.set())
+        pool.submit(processor.watch, process.pid, ended.wait)
         sifting, loading = pool.submit(sift, pipe.file, tops, spool / "sifted", filled.wait, counting(watch)), pool.submit(import_module, "record.importing")
         try:
             signal.pthread_sigmask(signal.SIG_SETMASK, held)
@@ -189,8 +193,9 @@ def parser_of_words() -> argparse.ArgumentParser:
     parser.add_argument("--missing", action="store_true", help="report missing inputs too: files whose edit does not make a target again")
     parser.add_argument("-V", "--version", action="version", version="%(prog)s " + RELEASE, help="print the version")
     parser.add_argument("words", nargs=argparse.REMAINDER, metavar="-- COMMAND ..", help="what builds the project")
-    # The first tree, where --fresh made it; where recipes wait in another order; processes that are held at their end; seconds and builds of the former record.
-    parser.set_defaults(tree=None, gate="", held=(), expected=0.0, made=0)
+    # The first tree, where --fresh made it; where recipes wait in another order; processes that are held at their end; seconds and builds of the former record; the
+    # number of the processor that strace and the build begin on.
+    parser.set_defaults(tree=None, gate="", held=(), expected=0.0, made=0, processor=os.getpid())
     return parser
 
 
@@ -244,7 +249,7 @@ def attempt(options: argparse.Namespace, words: List[str], tools: Dict[str, str]
     spool, watch = Path(os.path.realpath(room)), Watch(os.path.dirname(options.gate) or rooms, options.gate, is_many=True)
     try:
         watch.prepare(makes_of(os.environ.get("PATH", os.defpath)))
-        status, seconds = run_build(prepared(options) + words, spool, names.tops, watch, options.expected)
+        status, seconds = run_build(prepared(options) + words, spool, names.tops, watch, Processor(options.processor, tools["strace"]), options.expected)
         record, facts = Record(options.words, folder, status, round(seconds, 2), dict(tools), first=options.tree), Facts(spool, str(spool), real, names, kept, watch.said, str(watch.said), list(watch.covered))
         from record.importing import complete  # it was loaded while the build ran
         with machine.answering(after):
@@ -266,7 +271,7 @@ def record_in_order(options: argparse.Namespace, tools: Dict[str, str], place: P
     """Records a build in a copy, whose recipes wait at a gate in its folder, or whose processes are held at their end; its status."""
     words, env = with_many(options.words, os.environ, plan.jobs)
     os.environ.update(env)
-    own = argparse.Namespace(**{**vars(options), "expected": 0.0, "held": plan.ends})
+    own = argparse.Namespace(**{**vars(options), "expected": 0.0, "held": plan.ends, "processor": options.processor + plan.processor})
     if not plan.ends:
         own.gate, own.missing, own.footprints, own.keep_trace = str(place / "gate"), False, False, False
     record = attempt(own, words, tools, place / "record")[0]
@@ -280,25 +285,39 @@ def record_all(options: argparse.Namespace, tools: Dict[str, str], out: Path, ra
     tops = tops_of(options.words, options.top)
     rooms = room_of_programs(tops)
     with ExitStack() as stack:
-        room, running, why = None, None, ""
+        room, running, notes = None, None, list[str]()
         try:
             if options.orders:
                 room = stack.enter_context(new_room(tops, prepared(options), options.words, os.path.realpath(out), rooms, partial(record_in_order, options, tools)))
                 running = stack.enter_context(beside(room, options.expected, options.made))
         except CannotTry as fault:
-            why = str(fault)
+            notes.append(NOT_TRIED % fault)
         record = record_serial(options, tools, out)
-        try:
-            if room is not None and running is not None and record.status == 0 and not record.holes and (not record.warm or options.warm):
-                room.bound(record.seconds)
-                record = try_waits(room, record, out, race, options.orders)
-                record.try_out(explore(room, record, out, race, options.orders, running))
-        except CannotTry as fault:
-            why = str(fault)
-        record.notes += ["not built in other orders: " + why] * bool(why)
+        record.notes += notes
+        if room is not None and running is not None and record.status == 0 and not record.holes and (not record.warm or options.warm):
+            record = try_out(room, running, record, out, race, options.orders)
         record.note_pairs(*Graph(out).free_pairs() if record.status == 0 and (record.orders is None or record.orders["untried"]) else (0, ""))
         rewrite(out, record)
     return record
+
+
+def try_out(room: Room, running: Running, record: Record, out: Path, race: str, most: int) -> Record:
+    """The record that counts, with what builds in copies came to: in other orders, and meanwhile those in which processes are held."""
+    def explored(one: Record) -> None:
+        try:
+            one.try_out(explore(room, one, out, race, most, running))
+        except CannotTry as fault:
+            one.notes.append(NOT_TRIED % fault)
+
+    room.bound(record.seconds)
+    try:
+        found = try_waits(room, record, out, race, most, partial(explored, record))
+    except CannotTry as fault:
+        record.notes.append(NOT_TRIED % fault)
+        return record
+    if found is not record:
+        explored(found)
+    return found
 
 
 def prepared(options: argparse.Namespace) -> List[str]:

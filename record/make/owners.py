@@ -131,10 +131,10 @@ class Owners:
         else:
             self.jobs.update((id(life), job) for life, (_, job) in zip(kids, make.words.processes))
 
-    def run_at_once(self, make: Make) -> bool:
-        """Whether a make ran several recipes at once."""
+    def at_once(self, make: Make) -> Iterator[int]:
+        """Where a recipe of a make begins before another one has ended."""
         lives = sorted((life for life in make.life.children if id(life) in self.jobs), key=lambda life: life.born)
-        return any(second.born < first.died for first, second in zip(lives, lives[1:]))
+        return (second.born for first, second in zip(lives, lives[1:]) if second.born < first.died)
 
     # ---------------------------------------------------------------- what jobs did
     def below(self, life: Life) -> Iterable[Life]:

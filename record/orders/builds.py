@@ -66,6 +66,7 @@ class Plan:
     apart: Mapping[Key, set[Key]] = field(default_factory=dict)
     meets: Sequence[Meet] = ()
     ends: frozenset[Address] = frozenset()
+    processor: int = 1  # where it is recorded
 
 
 SERIAL = Plan("serial", {}, OWN)

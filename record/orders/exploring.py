@@ -16,13 +16,13 @@ from record.messages import say
 from record.orders.builds import FLIPPED, SERIAL, Plan, Room, Running, is_child_able
 from record.orders.gate import Key
 from record.orders.graph import Graph
-from record.orders.joined import contested, join, judged, keep, pass_questions
+from record.orders.joined import join, judged, keep, pass_questions
 from record.orders.trees import CannotTry, held_by, remove
 from record.orders.trial import Trial
 from record.watch.lay import leave
 
 TMPFS = "/dev/shm"
-COPIES, GROWTH = 6, 4  # so many copies are there at once, and a build may make so many times of what it begins with
+COPIES, GROWTH = 11, 4  # so many copies are there at once, and a build may make so many times of what it begins with
 SHARED = {"outside", "processes"}  # of what is taken for granted: by these a build may see what another one does beside it
 MOST = 40  # builds, where nobody says how many
 
@@ -88,14 +88,12 @@ def explore(room: Room, record: Record, out: Path, race: str, most: int, running
         running.close()
     graph = Graph(out)
     after = fixes(graph, race, room.top / "tasks")
-    trial = Trial(room, graph, [held_by(Path(top), str(out)) for top in room.tops], after, most, {*record.markers}, record.is_parallel)
+    trial = Trial(room, graph, [held_by(Path(top), str(out)) for top in room.tops], after, most, {*record.markers}, record.late is not None, record.is_late)
     trial.run(running, lambda count: say_how_many(count, record, "; one more for each step where something differs"))
     if graph.pairs() and not (any(trial.turned) or trial.shown or after):  # guard: builds-that-turn-nothing-round
         raise CannotTry("no two recipes change places there, as where a script calls make with -j1")
     if (room.top / "record").exists():  # else that build was stopped, as all of it waited
-        other = Graph(room.top / "record")
-        trial.overlap(contested(graph, other))  # guard: folders-that-two-make
-        join(graph, other)
+        join(graph, Graph(room.top / "record"))
     found = trial.result()
     if not found["untried"]:
         pass_questions(graph)  # guard: what-is-tried-out-is-judged-no-more

@@ -4,7 +4,7 @@ from __future__ import annotations
 
 import os
 import re
-from collections.abc import Callable, Sequence
+from collections.abc import Callable, Iterator, Sequence
 from dataclasses import dataclass, field, replace
 from pathlib import Path
 from typing import Any
@@ -12,11 +12,12 @@ from typing import Any
 from record.orders.builds import FLIPPED, ONE, SERIAL, Built, Plan, Room, Running, side_by_side
 from record.orders.gate import Key
 from record.orders.graph import Graph, numbers, pairs_of, placed, size, without
-from record.orders.joined import Contest
+from record.orders.joined import Contest, contested
 from record.orders.overlap import Meet
 from record.orders.trees import CannotTry, difference, differing, passing
 
-AT_ONCE = 4  # builds that run side by side
+AT_ONCE = 6  # builds that run side by side
+FEW = 4  # so many pairs are turned round one by one
 SHOWN = 5  # differences that are named
 
 
@@ -41,6 +42,7 @@ class Trial:
     most: int
     markers: set[str]  # files that say that a folder is there: which of the recipes runs that make one depends on the order
     is_parallel: bool = False  # a make of the recorded build ran several recipes at once
+    is_late: Callable[[str], bool] = lambda _: False  # whether something changed a path since then
     order: list[Key] = field(default_factory=list)  # recipes as they begin in a serial build
     builds: int = 0
     others: int = 0  # builds in other orders that left the same
@@ -66,20 +68,30 @@ class Trial:
 
     # ---------------------------------------------------------------- which builds
     def run(self, running: Running, say: Callable[[int], object]) -> None:
-        """All builds: the flipped one, others that say more, and those that cover what is left, as long as they turn round more. `say` takes how many follow."""
-        flipped = self.begin(running)
-        plans = [*self.orders(), *self.covers(without(self.left, self.graph.turned(flipped.began)))]
-        say(len(plans))
-        self.settle(flipped)
+        """All builds: the two that began beside the recorded one; others that say more, of which the first run beside a third serial build, where one is needed; and
+        those that cover what is left, as long as they turn round more. `say` takes how many follow."""
+        again, flipped = self.begin(running)
+        plans = [*self.orders(), *self.covers(without(self.left, self.graph.turned(flipped.began))), *self.overlaps(self.contests(flipped))]
+        chance = [differing(one, other) for one, other in zip(self.recorded, again.held)]  # or as it ran several recipes at once, or the copies are another place
+        is_clean = flipped.status == 0 and all(differing(one, other) <= known for one, other, known in zip(again.held, flipped.held, chance))
+        more = [replace(SERIAL, name="second")] * any(chance)
+        self.builds = 2 + len(more)
+        say(len(more) + len(plans))
+        running.begin(*more, *(early := self.next_of(plans) if is_clean else []))
+        for base in (running.result(plan.name) for plan in more):
+            if base.status == 0:  # guard: copies-among-themselves
+                self.serial, self.trees = base.held, self.room.trees(base.plan)
+        self.compare(again)
+        self.take([flipped, *(running.result(plan.name) for plan in early)])
         self.try_all(plans)
         left = 0
         while size(self.left) != left and self.goes_on:
             left = size(self.left)
             self.try_all(self.covers(self.left))
-        if self.is_parallel and not self.shown and self.names(self.recorded):
+        if not self.shown and any(self.is_late(self.whole(*one)) for one in self.names(self.recorded)):
             self.compare(*side_by_side(self.room, [SERIAL]))
 
-    def begin(self, running: Running) -> Built:
+    def begin(self, running: Running) -> tuple[Built, Built]:
         """The second serial build, and the flipped one: those that ran beside the recorded build, where they count. `CannotTry` where the project cannot be built a
         second time."""
         flip = FLIPPED if running.children and not self.after else replace(FLIPPED, name="fixed", after=self.after)
@@ -96,23 +108,22 @@ class Trial:
             return self.begin(running)
         if again.status != 0:
             raise CannotTry("of a second serial build, in a copy: " + "; ".join(again.message()))
-        if any(map(differing, self.recorded, again.held)):  # by chance, or as it ran several recipes at once, or the copies are another place
-            running.begin(second := replace(SERIAL, name="second"))
-            base = running.result(second.name)
-            if base.status == 0:  # guard: copies-among-themselves
-                self.serial, self.trees, self.builds = base.held, self.room.trees(second), 1
-        self.compare(again)
-        self.builds += 2
-        return self.seen(running.result(flip.name))
+        self.order = again.began
+        return again, running.result(flip.name)
 
     def orders(self) -> list[Plan]:
         """What a look finds may depend on several: builds that turn round each pair alone, and where there are many, one in which all users come first. Where the
         recorded build ran several recipes at once, also one with one job: make goes through targets in another order then."""
-        pairs = [pair[::-1] for pair in pairs_of(self.left)] if size(self.left) <= AT_ONCE else []
+        pairs = [pair[::-1] for pair in pairs_of(self.left)] if 1 < size(self.left) <= FEW else []
         orders = [self.graph.beside([pair])[0] for pair in pairs] or filter(None, [self.graph.users_first()])
         found = [Plan("alone%d" % number, places, after=self.after) for number, places in enumerate(orders)]
         found += [Plan("one", placed(self.order), ONE, self.after)] * self.is_parallel  # guard: jobs-of-the-recorded-build
         return found
+
+    def contests(self, flipped: Built) -> list[Contest]:
+        """Which recipes may meet at folders, by the two recorded builds; none where the other one was stopped, as all of it waited."""
+        record = self.room.place(flipped.plan) / "record"
+        return contested(self.graph, Graph(record)) if (record / "record.json").exists() else []  # guard: folders-that-two-make
 
     def covers(self, left: list[int]) -> list[Plan]:
         """A build that turns round some pairs, where there are any, and in which the rest runs side by side."""
@@ -121,23 +132,29 @@ class Trial:
         places, apart = self.graph.covering(left, self.after)
         return [Plan("cover", places, after=self.after, apart=apart, at_once=os.cpu_count() or 1)]
 
-    def try_all(self, plans: Sequence[Plan]) -> None:
+    def try_all(self, plans: list[Plan]) -> None:
         """Makes builds, some at once."""
-        left = [*plans]
-        while left and self.goes_on:
-            some = left[:min(AT_ONCE, self.most - self.builds)]  # guard: no-more-than-there-may-be
-            left = left[len(some):]
-            for built in self.make(*some):
-                if not built.otherwise or all(one.recipes for one in self.shown):
-                    self.settle(built)
+        while plans and self.goes_on:
+            self.take(side_by_side(self.room, self.next_of(plans)))
+        self.is_whole &= not any(plan.meets for plan in plans)
 
-    def make(self, *plans: Plan) -> list[Built]:
-        """Some builds that count, side by side."""
-        self.builds += len(plans)
-        return self.step(*plans)
+    def next_of(self, plans: list[Plan]) -> list[Plan]:
+        """Takes builds off a list that are to run at once now, each with what ends the conflicts that are known."""
+        some = [replace(plan, after={late: {*early} for late, early in self.after.items()}) for plan in plans[:max(0, min(AT_ONCE, self.most - self.builds))]]  # guard: no-more-than-there-may-be
+        del plans[:len(some)]
+        self.builds += len(some)
+        return some
+
+    def take(self, made: Sequence[Built]) -> None:
+        """Takes in some builds that ran at once."""
+        for built in map(self.seen, made):
+            if built.plan.meets:
+                self.settle_meets(built)
+            elif not built.otherwise or all(one.recipes for one in self.shown):
+                self.settle(built)
 
     def step(self, *plans: Plan) -> list[Built]:
-        """The same of builds by which a difference is narrowed down."""
+        """Some builds side by side, by which a difference is narrowed down: they do not count."""
         return [*map(self.seen, side_by_side(self.room, plans))]
 
     # ---------------------------------------------------------------- what differs
@@ -226,29 +243,33 @@ class Trial:
                 low = steps
         return Shown(between(self.order, log, high)[1], built)
 
-    def overlap(self, contests: Sequence[Contest]) -> None:
-        """Tries out recipes that make or remove a folder, the second of each pair beside the first, which makes it."""
-        apart = self.graph.apart(self.after)
-        left, plans = [one for one in contests if apart[max(one[0])] >> min(one[0]) & 1], list[tuple[list[Contest], Plan]]()
+    def overlaps(self, contests: Sequence[Contest]) -> Iterator[Plan]:
+        """Builds in which recipes that make or remove a folder meet, the second of each pair beside the first, which makes it."""
+        apart, number = self.graph.apart(self.after), 0
+        left = [one for one in contests if apart[max(one[0])] >> min(one[0]) & 1]
         while left:
             alike = [one for one in left if one[2] == left[-1][2]]
             places, pairs = self.graph.beside([pair for pair, _, _ in alike])
             outer = {at for pair in pairs for at in pair}
             met = [one for one in alike if one[0] in pairs and outer.isdisjoint(at for own in one[0] for at in numbers(self.graph.tasks[own].around))]  # guard: inner-recipes-apart
             meets = [Meet(self.graph.tasks[one].key or (), self.graph.tasks[other].key or (), name, goes) for (one, other), name, goes in met]
-            plans.append((met, Plan("overlap%d" % len(plans), places, after=self.after, meets=meets)))
-            left = [one for one in left if one not in met]
-        for at in range(0, len(plans), AT_ONCE):
-            some = plans[at:at + AT_ONCE]
-            if not self.goes_on or self.builds + len(some) > self.most:
-                self.is_whole = False
-                return
-            for (met, plan), built in zip(some, self.make(*(plan for _, plan in some))):
-                if built.otherwise and len(met) > 1:
-                    for one in met:
-                        self.overlap([one])
-                elif built.otherwise and not self.make(replace(plan, meets=()))[0].otherwise:
-                    self.shown.append(Shown([key for at in sorted(met[0][0]) for key in [self.graph.tasks[at].key] if key], built, True))
+            yield Plan("overlap%d" % number, places, after=self.after, meets=meets)
+            left, number = [one for one in left if one not in met], number + 1
+
+    def settle_meets(self, built: Built) -> None:
+        """Takes in a build in which recipes meet. What differs is of two of them, unless it also differs where these run one behind the other."""
+        meets = built.plan.meets
+        if built.otherwise and len(meets) > 1:
+            self.try_all([replace(built.plan, name="alone%d" % number, meets=[one]) for number, one in enumerate(meets)])
+        elif built.otherwise and self.is_apart(meets[0]):
+            self.builds += 1
+            if not self.step(replace(built.plan, after=self.after, meets=()))[0].otherwise:
+                self.shown.append(Shown(sorted(meets[0][:2], key=self.graph.keys.__getitem__), built, True))
+
+    def is_apart(self, meet: Meet) -> bool:
+        """Whether nothing orders two recipes."""
+        one, other = sorted(self.graph.keys[key] for key in meet[:2])
+        return bool(self.graph.apart(self.after)[other] >> one & 1)
 
     # ---------------------------------------------------------------- what is kept
     def result(self) -> dict[str, Any]:

@@ -9,12 +9,14 @@ from __future__ import annotations
 
 import pickle
 import shutil
+from collections.abc import Callable
+from contextlib import closing
 from pathlib import Path
 from typing import cast
 
 from record.folder import Record
 from record.judge import judge
-from record.orders.builds import OWN, Plan, Room, side_by_side
+from record.orders.builds import OWN, Plan, Room, Running
 from record.orders.exploring import say_how_many
 from record.orders.trees import remove
 from record.report import read_json
@@ -32,19 +34,23 @@ def races_of(record: Path, race: str) -> set[tuple[str, str, str, str]]:
     return found
 
 
-def try_waits(room: Room, record: Record, out: Path, race: str, most: int) -> Record:
-    """The record that counts: with what is known of its waits, or another one that shows a race which this one does not."""
-    plans = [Plan("held%d" % number, {}, OWN, is_recorded=True, ends=frozenset(row)) for number, row in enumerate(record.apart[:min(MOST, most)])]
-    if not plans:
-        return record
+def try_waits(room: Room, record: Record, out: Path, race: str, most: int, meanwhile: Callable[[], object]) -> Record:
+    """The record that counts: with what is known of its waits, or another one that shows a race which this one does not. `meanwhile`: what is done as these
+    builds run."""
+    plans = [Plan("held%d" % number, {}, OWN, is_recorded=True, ends=frozenset(row), processor=number + 2) for number, row in enumerate(record.apart[:min(MOST, most)])]
     say_how_many(len(plans), record, ", in which processes are held at their end")
+    races = races_of(out, race) if plans else set()
+    with closing(Running(room)) as running:
+        running.begin(*plans)
+        meanwhile()
+        made = [running.result(plan.name) for plan in plans]
     known: set[Child] = {*record.known}
-    for built in side_by_side(room, plans):
+    for built in made:
         place = room.place(built.plan)
         other = cast(Record, pickle.loads((place / "kept").read_bytes())) if built.status == 0 else record
         if built.status == 0 and not other.holes:
             known |= other.known
-            if races_of(place / "record", race) - races_of(out, race):  # guard: races-of-build-that-holds
+            if races_of(place / "record", race) - races:  # guard: races-of-build-that-holds
                 shutil.rmtree(out)
                 shutil.copytree(place / "record", out)
                 record = other

@@ -17,7 +17,7 @@ from typing import Any, Callable, Dict, Iterable, List, Optional, Sequence, Tupl
 
 # Modules that act before the build has ended. A guard of theirs builds anew; test_kept.py wants each one that does to stand here, or among those that
 # also read the kept trace.
-BUILDING = {"main.py", "entry.py", "folder.py", "progress.py", "trace/pipe.py", "trace/unfollowed.py", "trace/classes.py", "trace/sifting.py", "ninja/retry.py", "ninja/clean.py", "fresh.py", "command.py",
+BUILDING = {"main.py", "entry.py", "folder.py", "processor.py", "progress.py", "orders/processes.py", "trace/pipe.py", "trace/unfollowed.py", "trace/classes.py", "trace/sifting.py", "ninja/retry.py", "ninja/clean.py", "fresh.py", "command.py",
             "watch/lay.py", "watch/library.py", "watch/elf.py"}
 READING = {"trace/arguments.py", "trace/strace.py"}  # what reads a trace ahead, too
 PREFIXES = ("race-record-", "race-watch-")  # of the folders that the recorder makes for itself
@@ -178,10 +178,10 @@ def keep(work: Callable[[], int], kept: Recording, room: str, path: Path) -> int
 
     build, make, leave, whole = main.run_build, tempfile.mkdtemp, os._exit, []
 
-    def run_build(words: List[str], spool: Path, tops: List[str], watch: Any, expected: float) -> Tuple[int, float]:
+    def run_build(words: List[str], spool: Path, tops: List[str], *how: Any) -> Tuple[int, float]:
         tree, kept.printed = tree_of(room), [printed()]
-        kept.asked, kept.given = (words, tops), build(words, spool, tops, watch, expected)
-        left = tree_of(room), tree_of(str(spool), LEFT_OUT), tree_of(str(watch.said))
+        kept.asked, kept.given = (words, tops), build(words, spool, tops, *how)
+        left = tree_of(room), tree_of(str(spool), LEFT_OUT), tree_of(str(how[0].said))
         whole.append(tree is not None and None not in left)
         if whole[-1]:
             kept.before, kept.tree, kept.spool, kept.said = digest(tree or []), left[0] or [], left[1] or [], left[2] or []
@@ -213,16 +213,16 @@ def replay(work: Callable[[], int], args: List[str], room: str, path: Path) -> i
     os.environ.update(kept.environment)
     build, make, rooms, used = main.run_build, tempfile.mkdtemp, list(kept.rooms), []
 
-    def run_build(words: List[str], spool: Path, tops: List[str], watch: Any, expected: float) -> Tuple[int, float]:
+    def run_build(words: List[str], spool: Path, tops: List[str], *how: Any) -> Tuple[int, float]:
         tree = tree_of(room)
         if used or rooms or (words, tops) != kept.asked or tree is None or digest(tree) != kept.before:
-            return build(words, spool, tops, watch, expected)
+            return build(words, spool, tops, *how)
         used.append(True)
         put(str(spool), kept.spool)
-        put(str(watch.said), kept.said)
+        put(str(how[0].said), kept.said)
         clear(room, kept.tree)
         put(room, kept.tree)
-        main.sift(spool / "trace", tops, spool / "sifted", counting=main.counting(watch))
+        main.sift(spool / "trace", tops, spool / "sifted", counting=main.counting(how[0]))
         show(kept, path)
         return kept.given  # type: ignore[no-any-return]
 

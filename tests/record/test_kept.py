@@ -77,7 +77,7 @@ class Recordings(unittest.TestCase):
         watch.prepare(record.main.makes_of(os.environ["PATH"]))
         threading.setprofile(see)
         sys.setprofile(see)
-        status, _ = record.main.run_build(["make"], spool, [os.getcwd()], watch, 0)
+        status, _ = record.main.run_build(["make"], spool, [os.getcwd()], watch, record.main.Processor(0, "6.1"), 0)
         sys.setprofile(None)
         watch.remove()
         Path("acting").write_text(json.dumps(sorted(acting)))

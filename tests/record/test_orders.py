@@ -21,8 +21,8 @@ AB = "a: ; @echo a > a\nb: ; @echo b > b\n"
 CASES: Dict[str, Tuple[str, Dict[str, str], int, Tuple[str, ...]]] = {
     "list of a folder": (LISTS, {"d/k": ""}, 1, ("RACE  list", "  seen where list runs before d/a:", "    list: line 1 is `k`, and `a` after a serial build", "fix: list: d/a")),
     "list that nobody keeps": ("all: a b\na: ; @echo a > a\nb: ; @ls > /dev/null; echo b > b\n", {}, 0, (
-        "0 pairs that conflict are in order; 2 builds in other orders left the same 3 files.", "what it did in these builds (1 of 1 pairs")),
-    "names that a list has shown": ("all: a b\na: ; @echo a > d/a; touch a\nb: ; @ls -s d > /dev/null; echo b > b\n", {"d/k": ""}, 0, ("2 builds in other orders left the same",)),
+        "0 pairs that conflict are in order; 1 build in other orders left the same 3 files.", "what it did in these builds (1 of 1 pairs")),
+    "names that a list has shown": ("all: a b\na: ; @echo a > d/a; touch a\nb: ; @ls -s d > /dev/null; echo b > b\n", {"d/k": ""}, 0, ("1 build in other orders left the same",)),
     "which of two is newer": ("all: c\n" + AB + "c: a b ; @cp -u a b; cat b > c\n", {}, 1, ("  seen where b runs before a:", "    b: line 1 is `a`, and `b` after a serial build")),
     "copy of the same": ("all: c\na b: ; @echo same > $@\nc: a b ; @cp -u a b; cat b > c\n", {}, 0, ("in other orders left the same 4 files",)),
     "user between two makers": ("all: a c b\na b: ; @echo > d/$@; echo > $@\nc: ; @ls d | grep -q . && echo some > c || echo none > c\n", {"d/.k": ""}, 1, (
@@ -104,6 +104,12 @@ class Orders(unittest.TestCase):
             found = project.record(["make", "-j2"], once=False)
         self.assertEqual((2, True), (found.status, "/a otherwise than each build in a copy: record with one job" in found.text()), found.text())
 
+    def test_what_was_there_before_jobs_ran(self) -> None:
+        """It goes by the place of the project."""
+        with support.Project({"Makefile": "all: a b\na b: list ; @sleep 0.3; echo $@ > $@\nlist: ; @stat -c %d . > list\n"}) as project:
+            found = project.record(["make", "-j2"], once=False)
+        self.assertEqual((0, True), (found.status, "note: all builds in copies leave list otherwise than the recorded one" in found.text()), found.text())
+
     def test_make_in_what_comes_before(self) -> None:
         """It has a target of the same name."""
         makefile = "all: ; @$(MAKE) -s x y z\n.PHONY: all\nx: ; @echo x > d/x\ny: ; @ls d > y\nz: ; @echo z > z\n"
@@ -120,11 +126,9 @@ class Orders(unittest.TestCase):
             self.assertEqual(0 if wanted == "SAFE" else 2, found.status)
 
     def test_number_of_builds_is_said_before_they_begin(self) -> None:
-        with support.Project({"Makefile": LISTS, "d/k": ""}) as project:
-            found = project.record(options=("--orders", "3"), once=False)
-        self.assertRegex(found.stderr, rb"race-record: two builds in copies run meanwhile; others may follow\nrace-record: 1 build in copies, of (a second or less|about \d+ seconds); one more for each step")
-        assert found.record is not None
-        self.assertEqual([["001", "d/a", "list"]], [[one["build"], one["first"], one["second"]] for one in found.record["orders"]["shown"]])
+        with support.Project({"Makefile": "all: a b c\na b c: ; @echo $@ > $@\n"}) as project:
+            found = project.record(once=False)
+        self.assertRegex(found.stderr, rb"race-record: two builds in copies run meanwhile; others may follow\nrace-record: 3 builds in copies, of (a second or less|about \d+ seconds) each; one more for each step")
 
     def test_seconds_are_said_where_a_former_record_knows_them(self) -> None:
         with support.Project({"Makefile": "a: ; @sleep 1; touch a\n"}) as project:
@@ -196,7 +200,7 @@ class Orders(unittest.TestCase):
         with support.Project({"Makefile": "all: a b\na b: ; @mkdir d 2> /dev/null; echo > d/$@; echo > $@\n"}) as project:
             found = project.record(once=False)
         assert found.record is not None
-        self.assertEqual((0, 3), (found.status, found.record["orders"]["made"]), found.text())
+        self.assertEqual((0, 2), (found.status, found.record["orders"]["made"]), found.text())
 
     def test_what_differs_once(self) -> None:
         """It is compared no more, and a build that failed gives no yes."""
