@@ -91,10 +91,6 @@ class Record:
         if self.status != 0:
             self.holes.append("the build ended with status %d" % self.status + (": signal %d stopped it" % -self.status if self.status < 0 else ""))  # guard: build-that-failed
 
-    def is_late(self, path: str) -> bool:
-        """Whether something changed a path, or a folder above it, since a make had run several recipes at once."""
-        return any(str(one) in (self.late or ()) for one in (path, *Path(path).parents))  # guard: what-was-there-by-then
-
     def bar(self, kinds: Container[str]) -> None:
         """What is taken for granted of these kinds bars a yes."""
         for one in self.assumptions:
@@ -120,7 +116,7 @@ class Record:
         self.orders = orders
         self.holes += ["a build in another order failed, and did not when it was made again: " + how for how in orders["failed"]]
         if not orders["shown"]:
-            self.holes += [APART % path for path in filter(self.is_late, orders["apart"])][:1]  # guard: what-the-recorded-build-left
+            self.holes += [APART % path for path in orders["doubted"][:1]]  # guard: what-the-recorded-build-left
         self.assumptions = [one for one in self.assumptions if one["kind"] not in TRIED_OUT]  # guard: what-orders-try-out
 
     def text(self) -> str:

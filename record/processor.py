@@ -13,7 +13,7 @@ from record.entry import traced
 from record.orders.processes import below, shown
 
 STEP, OFTEN = 0.05, 5  # seconds between two looks; so many that are crowded, one behind the other, are enough
-WAITS = 0.05  # of that time strace waits where it is crowded
+WAITS = 0.12  # of that time strace waits where it is crowded
 MOST = 64  # processors of which the answer has room, whoever asks
 ANSWERS = (5, 11)  # the first strace that gives one
 RUNS = ("R", "D", "t")  # the states of who runs, or would: strace holds who is `t`

@@ -221,7 +221,7 @@ class Room:
         if plan.ends:
             return Ends(self.place(plan), {}, ends=plan.ends)
         if plan.meets:
-            return Overlap(self.place(plan), plan.places, after, meets=plan.meets)
+            return Overlap(self.place(plan), plan.places, after, at_once=plan.at_once, meets=plan.meets)
         return Gate(self.place(plan), plan.places, after, plan.is_flipped, plan.at_once)
 
     def build_in_place(self, plan: Plan, gate: Gate, listener: socket.socket, output: int) -> int:

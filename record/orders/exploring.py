@@ -88,7 +88,7 @@ def explore(room: Room, record: Record, out: Path, race: str, most: int, running
         running.close()
     graph = Graph(out)
     after = fixes(graph, race, room.top / "tasks")
-    trial = Trial(room, graph, [held_by(Path(top), str(out)) for top in room.tops], after, most, {*record.markers}, record.late is not None, record.is_late)
+    trial = Trial(room, graph, [held_by(Path(top), str(out)) for top in room.tops], after, most, {*record.markers}, record.late is not None, record.late)
     trial.run(running, lambda count: say_how_many(count, record, "; one more for each step where something differs"))
     if graph.pairs() and not (any(trial.turned) or trial.shown or after):  # guard: builds-that-turn-nothing-round
         raise CannotTry("no two recipes change places there, as where a script calls make with -j1")

@@ -179,7 +179,7 @@ class Gate:
         rows = {pid: self.bare(pid) for pid in self.waiting if is_idle or self.is_named(pid)}
         further = [pid for pid, (make, name, _) in rows.items() if (make, name) in self.open]
         free = [pid for pid, (_, _, key) in rows.items() if self.may_begin(key)]  # guard: fixes-hold
-        some = further or free or [*rows] if is_idle else self.beside(rows, free)
+        some = further or (free or [*rows] if is_idle else self.beside(rows, free))
         if some:
             self.begin(max(some, key=lambda one: (self.places.get(rows[one][2], self.unknown), *(at if self.is_flipped else -at for at in self.come_from[one].born))), rows)  # guard: last-that-came
         return bool(some)

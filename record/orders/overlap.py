@@ -77,7 +77,10 @@ class Overlap(Gate):
         return {*self.waiting, *self.held}
 
     def may_begin(self, key: Key) -> bool:
-        beside = [one for meet in self.meets for one in meet[:2] if any(held in meet[:2] for held, _, _ in self.held.values())]
+        held = {own for own, _, _ in self.held.values()}
+        if any(key == meet.second and meet.first not in held | self.over for meet in self.meets):  # guard: second-behind-the-first
+            return False
+        beside = [one for meet in self.meets for one in meet[:2] if not held.isdisjoint(meet[:2])]
         return super().may_begin(key) and (not beside or any(key[:len(one)] == one for one in beside))
 
     def turn(self, root: int) -> bool:

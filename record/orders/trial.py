@@ -3,12 +3,14 @@
 from __future__ import annotations
 
 import os
+import pickle
 import re
 from collections.abc import Callable, Iterator, Sequence
 from dataclasses import dataclass, field, replace
 from pathlib import Path
-from typing import Any
+from typing import Any, cast
 
+from record.folder import Record
 from record.orders.builds import FLIPPED, ONE, SERIAL, Built, Plan, Room, Running, side_by_side
 from record.orders.gate import Key
 from record.orders.graph import Graph, numbers, pairs_of, placed, size, without
@@ -16,7 +18,7 @@ from record.orders.joined import Contest, contested
 from record.orders.overlap import Meet
 from record.orders.trees import CannotTry, difference, differing, passing
 
-AT_ONCE = 6  # builds that run side by side
+AT_ONCE = min(6, (os.cpu_count() or 1) + 2)  # builds that run side by side
 FEW = 4  # so many pairs are turned round one by one
 SHOWN = 5  # differences that are named
 
@@ -42,7 +44,7 @@ class Trial:
     most: int
     markers: set[str]  # files that say that a folder is there: which of the recipes runs that make one depends on the order
     is_parallel: bool = False  # a make of the recorded build ran several recipes at once
-    is_late: Callable[[str], bool] = lambda _: False  # whether something changed a path since then
+    late: set[str] | None = None  # what was changed since then; nothing where nobody knows
     order: list[Key] = field(default_factory=list)  # recipes as they begin in a serial build
     builds: int = 0
     others: int = 0  # builds in other orders that left the same
@@ -72,6 +74,7 @@ class Trial:
         those that cover what is left, as long as they turn round more. `say` takes how many follow."""
         again, flipped = self.begin(running)
         plans = [*self.orders(), *self.covers(without(self.left, self.graph.turned(flipped.began))), *self.overlaps(self.contests(flipped))]
+        self.note_late(flipped)
         chance = [differing(one, other) for one, other in zip(self.recorded, again.held)]  # or as it ran several recipes at once, or the copies are another place
         is_clean = flipped.status == 0 and all(differing(one, other) <= known for one, other, known in zip(again.held, flipped.held, chance))
         more = [replace(SERIAL, name="second")] * any(chance)
@@ -88,7 +91,7 @@ class Trial:
         while size(self.left) != left and self.goes_on:
             left = size(self.left)
             self.try_all(self.covers(self.left))
-        if not self.shown and any(self.is_late(self.whole(*one)) for one in self.names(self.recorded)):
+        if not self.shown and self.doubted():
             self.compare(*side_by_side(self.room, [SERIAL]))
 
     def begin(self, running: Running) -> tuple[Built, Built]:
@@ -119,6 +122,17 @@ class Trial:
         found = [Plan("alone%d" % number, places, after=self.after) for number, places in enumerate(orders)]
         found += [Plan("one", placed(self.order), ONE, self.after)] * self.is_parallel  # guard: jobs-of-the-recorded-build
         return found
+
+    def note_late(self, flipped: Built) -> None:
+        """Takes in what the flipped build changed since recipes could run at once: what is alike in both by then does not go by jobs."""
+        kept = self.room.place(flipped.plan) / "kept"
+        other = cast(Record, pickle.loads(kept.read_bytes())).late if kept.exists() else None
+        self.late = None if self.late is None or other is None else self.late | other  # guard: what-another-order-changes
+
+    def doubted(self) -> list[str]:
+        """What the recorded build left otherwise than copies as it ran recipes at once, for all that is known."""
+        paths = [self.whole(*one) for one in self.names(self.recorded)] if self.is_parallel else []
+        return [path for path in paths if self.late is None or not self.late.isdisjoint(map(str, (path, *Path(path).parents)))]  # guard: what-was-there-by-then
 
     def contests(self, flipped: Built) -> list[Contest]:
         """Which recipes may meet at folders, by the two recorded builds; none where the other one was stopped, as all of it waited."""
@@ -253,18 +267,21 @@ class Trial:
             outer = {at for pair in pairs for at in pair}
             met = [one for one in alike if one[0] in pairs and outer.isdisjoint(at for own in one[0] for at in numbers(self.graph.tasks[own].around))]  # guard: inner-recipes-apart
             meets = [Meet(self.graph.tasks[one].key or (), self.graph.tasks[other].key or (), name, goes) for (one, other), name, goes in met]
-            yield Plan("overlap%d" % number, places, after=self.after, meets=meets)
+            yield Plan("overlap%d" % number, places, after=self.after, at_once=os.cpu_count() or 1, meets=meets)
             left, number = [one for one in left if one not in met], number + 1
 
     def settle_meets(self, built: Built) -> None:
         """Takes in a build in which recipes meet. What differs is of two of them, unless it also differs where these run one behind the other."""
         meets = built.plan.meets
         if built.otherwise and len(meets) > 1:
-            self.try_all([replace(built.plan, name="alone%d" % number, meets=[one]) for number, one in enumerate(meets)])
+            self.try_all([replace(built.plan, name="alone%d" % number, meets=[one], at_once=1) for number, one in enumerate(meets)])
         elif built.otherwise and self.is_apart(meets[0]):
-            self.builds += 1
-            if not self.step(replace(built.plan, after=self.after, meets=()))[0].otherwise:
-                self.shown.append(Shown(sorted(meets[0][:2], key=self.graph.keys.__getitem__), built, True))
+            self.builds += 2
+            both, behind = self.step(*(replace(built.plan, name="again%d" % number, after=self.after, at_once=1, meets=some) for number, some in enumerate((meets, ()))))
+            if not both.otherwise:
+                self.doubt(built)
+            elif not behind.otherwise:
+                self.shown.append(Shown(sorted(meets[0][:2], key=self.graph.keys.__getitem__), both, True))
 
     def is_apart(self, meet: Meet) -> bool:
         """Whether nothing orders two recipes."""
@@ -278,7 +295,7 @@ class Trial:
         return {"builds": self.others, "failed": self.failed, "made": self.builds, "pairs": self.graph.pairs(), "turned": size(self.turned),
                 "untried": bool(self.graph.pairs()) and (not self.is_whole or any(self.left) or not self.graph.leaves().isdisjoint(unstable)),
                 "files": sum(text.startswith("file") for held in self.serial for text in held.values()),
-                "unstable": unstable, "apart": [self.whole(*one) for one in self.names(self.recorded)], "shown": [*map(self.shown_labels, self.shown)]}
+                "unstable": unstable, "apart": [self.whole(*one) for one in self.names(self.recorded)], "doubted": self.doubted(), "shown": [*map(self.shown_labels, self.shown)]}
 
     def shown_labels(self, one: Shown) -> dict[str, Any]:
         """A difference, by the build and the labels of its two recipes."""

@@ -11,6 +11,7 @@ from typing import Callable, Dict, List, Sequence
 import support
 
 from record.orders.gate import Gate, Key
+from record.orders.overlap import Meet, Overlap
 from record.orders.processes import end
 from record.watch.lay import BELOW, BIND, Watch, leave, makes_of, mount
 
@@ -131,6 +132,20 @@ class Gates(unittest.TestCase):
             self.assertFalse(gate.serve(process.pid, listener, lambda: 0.5))
             end(process.pid)
             self.assertEqual(-9, process.wait())
+
+
+class Overlaps(unittest.TestCase):
+    """Recipes that meet at a folder."""
+
+    def test_second_that_waits_for_the_first(self) -> None:
+        one, other, third = ((("/p", name, 1),) for name in "abc")
+        gate = Overlap(Path("nowhere"), {}, meets=[Meet(one, other, "d", False)])
+        self.assertEqual([True, False, True], [*map(gate.may_begin, (one, other, third))])
+        gate.held[7] = one, -1, 1
+        self.assertEqual([True, True, False], [*map(gate.may_begin, (one, other, third))])
+        gate.held.clear()
+        gate.over.add(one)
+        self.assertTrue(gate.may_begin(other))
 
 
 class Places(Dict[Key, float]):

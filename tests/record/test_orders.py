@@ -104,6 +104,13 @@ class Orders(unittest.TestCase):
             found = project.record(["make", "-j2"], once=False)
         self.assertEqual((2, True), (found.status, "/a otherwise than each build in a copy: record with one job" in found.text()), found.text())
 
+    def test_name_that_jobs_alone_leave_out(self) -> None:
+        """Nobody touches it in the recorded build."""
+        makefile = "all: a b\na: ; @echo > d/a; sleep 0.8; test -e d/b || echo > one; rm d/a; touch a\nb: ; @echo > d/b; sleep 1.6; rm d/b; touch b\n"
+        with support.Project({"Makefile": makefile, "d/k": ""}) as project:
+            found = project.record(["make", "-j2"], once=False)
+        self.assertEqual((2, True), (found.status, "/one otherwise than each build in a copy: record with one job" in found.text()), found.text())
+
     def test_what_was_there_before_jobs_ran(self) -> None:
         """It goes by the place of the project."""
         with support.Project({"Makefile": "all: a b\na b: list ; @sleep 0.3; echo $@ > $@\nlist: ; @stat -c %d . > list\n"}) as project:
