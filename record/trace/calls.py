@@ -8,7 +8,6 @@ import re
 from typing import Callable, Dict, Iterable, Tuple
 
 from record.commands.system import SETTINGS
-from record.trace.arguments import TEXT_END, Opening, opening, spelled
 from record.trace.classes import COPIES, DOUBLES, LIMITS, NO_FILES, PAIRS, SHARING, SIGNALLED, SIGNALS, SLEEPS, TIMERS, WAITS, WRITES
 from record.trace.descriptors import CHANGING, OF_KERNEL, READING, requests
 from record.trace.events import (
@@ -19,7 +18,7 @@ from record.trace.names import Found, Inode
 from record.trace.proc import plain_path
 from record.trace.replay import DEVICES
 from record.trace.started import Started
-from record.trace.strace import BARE, MAKES_PROCESS, Call, first_text, folders, texts, unescape
+from record.trace.strace import BARE, MAKES_PROCESS, Call, Spelled, folders, spelled, texts, unescape
 
 # Calls by what they do to the name that is their first path.
 LOOKS = {"stat", "lstat", "access", "getxattr", "lgetxattr", "listxattr", "llistxattr", "statfs", "newfstatat",
@@ -75,29 +74,23 @@ class Calls(Started):
         if "LOCK_UN" not in call.args:
             self.lock(life, call, ok, "LOCK_NB" not in call.args)
 
-    def base_and_path(self, life: Life, call: Call) -> Tuple[str, str]:
-        """The folder that the first path of an *at-call starts from, and the path."""
+    def asked(self, life: Life, call: Call) -> Spelled:
+        """What a call says of its first path; where it says in which folder the process is, that is known from here on."""
         found = spelled(call.args)
-        if found.folder:
-            life.folder = found.folder
-        return found.base, found.path
+        life.folder = found.folder or life.folder
+        return found
 
     def on_look(self, life: Life, call: Call, ok: bool) -> None:
         """A look at a name: at what stands there, or at the link itself."""
-        base, path, folder, is_open, at_link = spelled(call.args)
-        if folder:
-            life.folder = folder
-        if not path or is_open:
-            return
-        if path.startswith("/proc/"):
-            self.note_watcher(life, path)  # guard: looks
-        follow = not at_link and call.name not in NOFOLLOW
-        link = call.name.startswith("readlink") and ok
-        self.look(life, path, ok or call.error == "EINVAL", follow, READ if link else SEEN, base)
+        asked = self.asked(life, call)
+        if asked.path and not asked.is_open:
+            self.note_watcher(life, asked.path)  # guard: looks
+            link = call.name.startswith("readlink") and ok
+            self.look(life, asked.path, ok or call.error == "EINVAL", asked.follow and call.name not in NOFOLLOW, READ if link else SEEN, asked.base)
 
     def on_chdir(self, life: Life, call: Call, ok: bool) -> None:
         """A process looks at a folder and enters it, with its threads."""
-        path = first_text(call.args) or ""
+        path = "".join(texts(call.args)[:1])
         if not path:  # none that the process can read  # guard: folder-without-name
             return
         found = self.look(life, path, ok, True)
@@ -113,9 +106,7 @@ class Calls(Started):
 
     def on_open(self, life: Life, call: Call, ok: bool) -> None:
         """A file or a folder is opened: it is read, or it is written, and perhaps created. A device is none, and what the kernel shows of processes."""
-        base, path, folder, flags, changes, follow = asked = opening(call.args)
-        if folder:
-            life.folder = folder
+        base, path, _, _, flags, follow, changes = asked = self.asked(life, call)
         if ok:
             self.hold(life, call, changes or call.name == "creat")
         if ok and changes and SETTINGS.match(call.opened or path):  # guard: files
@@ -151,7 +142,7 @@ class Calls(Started):
             is_folder = found.inode is not None and found.inode.kind == "d"
             self.put_look(life, found, True, SEEN if is_folder else READ)
 
-    def fail_to_open(self, life: Life, call: Call, asked: Opening) -> None:
+    def fail_to_open(self, life: Life, call: Call, asked: Spelled) -> None:
         """Nothing was opened: the process sees that something has the name, or that nothing has it, and which folder is absent."""
         if call.error == "ENOTDIR" and "O_DIRECTORY" in asked.flags:  # guard: folders-in-pattern-files
             return  # it looks for folders, and finds a file, as a shell does for `*/x`
@@ -198,8 +189,8 @@ class Calls(Started):
 
     def on_mkdir(self, life: Life, call: Call, ok: bool) -> None:
         """A folder is made, or is there already."""
-        base, path = self.base_and_path(life, call)
-        found = self.found(life, path.rstrip("/") or "/", False, base)
+        asked = self.asked(life, call)
+        found = self.found(life, asked.path.rstrip("/") or "/", False, asked.base)
         if ok:
             self.fresh.add(found.path)
             if found.folder is not None and found.inode is None:
@@ -217,8 +208,8 @@ class Calls(Started):
 
     def on_mknod(self, life: Life, call: Call, ok: bool) -> None:
         """A file, a pipe with a name or a device is made: it counts as a file that is written. Who opens such a pipe waits for the other end."""
-        base, path = self.base_and_path(life, call)
-        found = self.found(life, path, False, base)
+        asked = self.asked(life, call)
+        found = self.found(life, asked.path, False, asked.base)
         if ok:
             self.write(life, found)
             if "S_IFIFO" in call.args:
@@ -228,23 +219,22 @@ class Calls(Started):
 
     def on_unlink(self, life: Life, call: Call, ok: bool) -> None:
         """A name or a folder is removed; or it is looked at, and stays."""
-        base, path = self.base_and_path(life, call)
-        found = self.found(life, path.rstrip("/"), False, base)
-        folder = call.name == "rmdir" or "AT_REMOVEDIR" in call.args
+        asked = self.asked(life, call)
+        found = self.found(life, asked.path.rstrip("/"), False, asked.base)
         if not ok:
-            self.look(life, path, call.error != "ENOENT", False, base=base)
+            self.look(life, asked.path, call.error != "ENOENT", False, base=asked.base)
             if call.error == "ENOTEMPTY":
                 self.put(life, FOLDER_FULL, found.path)  # guard: folders-that-are-not-empty
             return
         others = [a for a in self.names.aliases(found.inode) if a != found.path]
         if found.folder is not None:
             self.names.take(found.folder, found.name)
-        self.put(life, FOLDER_REMOVED if folder else REMOVED, found.path)
+        self.put(life, FOLDER_REMOVED if call.name == "rmdir" or "AT_REMOVEDIR" in call.args else REMOVED, found.path)
         self.hard_links += others[:1]  # guard: one-that-is-removed
 
     def on_change(self, life: Life, call: Call, ok: bool) -> None:
         """A file's length, mode, owner, time or attributes change: it is written."""
-        base, path = self.base_and_path(life, call) if call.name not in BY_NUMBER else ("", "")  # guard: number-of-file
+        base, path = self.asked(life, call)[:2] if call.name not in BY_NUMBER else ("", "")  # guard: number-of-file
         path = path or next(iter(folders(call.args)), "")
         if not path or not path.startswith("/") and call.name in BY_NUMBER:
             return
@@ -253,7 +243,7 @@ class Calls(Started):
             return
         found = self.found(life, path, call.name not in NOFOLLOW and "NOFOLLOW" not in call.args, base)
         is_folder = found.inode is not None and found.inode.kind == "d"
-        if call.name in TIMES and (is_folder or GIVEN_TIME.search(TEXT_END.sub("", call.args))):
+        if call.name in TIMES and (is_folder or GIVEN_TIME.search(call.args.rpartition('"')[2])):
             self.put(life, TIME_SET, found.path)  # guard: that-are-set
         if not is_folder:
             self.write(life, found)

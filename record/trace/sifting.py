@@ -8,8 +8,7 @@ from functools import lru_cache
 from pathlib import Path
 from typing import Callable, Dict, Iterable, Iterator, List, Optional, Sequence, Set, Tuple
 
-from record.trace.arguments import read_ahead
-from record.trace.strace import KEPT, unescape
+from record.trace.strace import KEPT, read_ahead, unescape
 
 PIECE, WAIT = 1 << 18, 0.05  # bytes of a piece; seconds until more may be there
 SYSTEM = ["usr", "lib", "lib32", "lib64", "etc", "bin", "sbin"]

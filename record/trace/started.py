@@ -14,7 +14,7 @@ from record.trace.descriptors import Opened
 from record.trace.events import READ
 from record.trace.lives import Life, Program
 from record.trace.names import Found, Names
-from record.trace.strace import Call, first_text, folders, is_cut, texts
+from record.trace.strace import Call, folders, is_cut, texts
 from record.watch.elf import NotElf
 from record.watch.elf import Program as Elf
 
@@ -54,7 +54,7 @@ class Started(Opened):
 
     def on_execve(self, life: Life, call: Call, ok: bool) -> None:
         """A process begins to run another program: it reads the program, with all that the kernel reads for it, and has other words from here on."""
-        program = first_text(call.args) or "".join(folders(call.args)[:1])  # guard: programs-by-their-numbers
+        program = "".join(texts(call.args)[:1]) or "".join(folders(call.args)[:1])  # guard: programs-by-their-numbers
         if not program:
             return
         if not ok:  # where the kernel does not know what kind of file it is, bash reads it itself, as a script

@@ -1,4 +1,5 @@
-"""The reader of strace's lines: one lazy pass that gives calls and ends of processes in the order of the trace."""
+"""The reader of strace's lines: one lazy pass that gives calls and ends of processes in the order of the trace; and what the arguments of a call say. Most lines and
+arguments come again, word for word, so answers are remembered."""
 
 import re
 from dataclasses import dataclass
@@ -16,6 +17,7 @@ ESCAPE = re.compile(r"\\([0-7]{1,3}|x[0-9a-f]{2}|.)", re.S)  # one byte in a tex
 TEXT = re.compile(r'(?<!\\)"((?:[^"\\]|\\.)*)"(\.\.\.)?')  # `"x"`, or `"xx"...` if it is cut; behind a backslash a quote is a sign in the name of a descriptor  # guard: marks-behind-descriptors
 # A descriptor, and what it leads to: `AT_FDCWD</w>`, `3</w/x>`. strace 5.10 writes `AT_FDCWD` alone: the folder of the process.
 FOLDER = re.compile(r"(?:AT_FDCWD|\d+)<((?:[^<>\\]|\\.)*)>|AT_FDCWD(?!<)")  # guard: strace-does-not-name
+WRITING = re.compile(r"O_WRONLY|O_RDWR|O_TRUNC|O_CREAT")
 BARE = re.compile(r"(?:^|, )\d+(?:,|$)")  # a descriptor of which strace knows no name
 PLAIN = {"n": "\n", "t": "\t", "r": "\r", "v": "\v", "f": "\f"}
 
@@ -59,9 +61,6 @@ Event = Union[Call, Begun, Ended, Unread]
 
 def unescape(text: str) -> str:
     """The bytes that strace shows, as a file name."""
-    if "\\" not in text:
-        return text.encode("latin-1", "replace").decode("utf-8", "surrogateescape")
-
     def one(match: "re.Match[str]") -> str:
         word = match.group(1)
         if word[0].isdigit():
@@ -89,12 +88,6 @@ def said(text: str) -> Tuple[str, str, Optional[int], str, str]:
     return name, args, None if result == "?" else int(result, 16 if result.startswith("0x") else 10), error or "", unescape(opened or "")
 
 
-def first_text(args: str) -> Optional[str]:
-    """The first quoted text of a call's arguments."""
-    match = TEXT.search(args)
-    return None if match is None else unescape(match.group(1))
-
-
 def texts(args: str) -> List[str]:
     """The quoted texts of a call's arguments, in order."""
     return [unescape(match.group(1)) for match in TEXT.finditer(args)]
@@ -110,14 +103,32 @@ def folders(args: str) -> List[str]:
     return [unescape(found) for found in FOLDER.findall(re.sub(TEXT, '""', args))]
 
 
+class Spelled(NamedTuple):
+    """The first path of a call's arguments: the folder that it starts from, the path, and the folder that the process is in; whether the call is about an open file; what
+    stands behind the texts, whether a link at the end is followed, and whether an open may change the file."""
+
+    base: str
+    path: str
+    folder: str
+    is_open: bool
+    flags: str
+    follow: bool
+    changes: bool
+
+
+@remembered
+def spelled(args: str) -> Spelled:
+    """What the arguments of an open or of an *at-call say of their first path."""
+    word, base = next(iter(texts(args)), None), next(iter(folders(args.split('"', 1)[0])), "")
+    folder, flags = base if args.startswith("AT_FDCWD") else "", args.rpartition('"')[2]
+    if base and not word and (word is None or "AT_EMPTY_PATH" in args or "NULL" in args):
+        word, base = base, ""
+    follow = "NOFOLLOW" not in flags and not ("O_EXCL" in flags and "O_CREAT" in flags)
+    return Spelled(base, word or "", folder, args[:1].isdigit() and "AT_EMPTY_PATH" in args, flags, follow, bool(WRITING.search(flags)))
+
+
 MAKES_PROCESS = ("clone", "clone3", "fork", "vfork")
 UNFINISHED = "<unfinished ...>"
-
-
-def ends(pid: int, text: str) -> List[Event]:
-    """What a line about the end of a process says: also that the kernel has kept its memory."""
-    kept: List[Event] = [Call(pid, "core", "", 0, "")] if "(core dumped)" in text else []  # guard: memory-that-is-kept
-    return kept + ([] if "superseded" in text else [Ended(pid, "exited with 0" not in text)])
 
 
 def read_trace(lines: Iterable[str]) -> Iterator[Event]:
@@ -149,7 +160,8 @@ def odd(line: str, pid: Optional[int], text: str, begun: Dict[int, str]) -> Tupl
     if pid is None:
         return ([Unread(line.strip())] if line.strip() else []), ""  # guard: no-process-number
     if text.startswith("+++"):
-        return ends(pid, text), ""
+        kept: List[Event] = [Call(pid, "core", "", 0, "")] if "(core dumped)" in text else []  # guard: memory-that-is-kept
+        return kept + ([] if "superseded" in text else [Ended(pid, "exited with 0" not in text)]), ""
     if text.startswith("---"):
         return [], ""
     if text.endswith(UNFINISHED):
@@ -161,3 +173,10 @@ def odd(line: str, pid: Optional[int], text: str, begun: Dict[int, str]) -> Tupl
     if first is None:
         return ([] if " = ?" in text else [Unread(line.strip())]), ""  # guard: end-without-beginning
     return [], first + text[text.index("resumed>") + len("resumed>"):]
+
+
+def read_ahead(lines: Iterable[str]) -> None:
+    """Reads lines of a trace for the answers that are remembered alone: who reads them later is quicker."""
+    for event in read_trace(lines):
+        if isinstance(event, Call) and event.name not in ("execve", *MAKES_PROCESS):  # of these nobody asks for a path
+            spelled(event.args)

@@ -19,7 +19,7 @@ from typing import Any, Callable, Dict, Iterable, List, Optional, Sequence, Tupl
 # also read the kept trace.
 BUILDING = {"main.py", "entry.py", "folder.py", "processor.py", "progress.py", "orders/processes.py", "trace/pipe.py", "trace/unfollowed.py", "trace/classes.py", "trace/sifting.py", "ninja/retry.py", "ninja/clean.py", "fresh.py", "command.py",
             "watch/lay.py", "watch/library.py", "watch/elf.py"}
-READING = {"trace/arguments.py", "trace/strace.py"}  # what reads a trace ahead, too
+READING = {"trace/strace.py"}  # what reads a trace ahead, too
 PREFIXES = ("race-record-", "race-watch-")  # of the folders that the recorder makes for itself
 LEFT_OUT = {"sifted", "sifted.part"}  # what the recorder makes there anew
 MOST = 1 << 22  # bytes of a tree
