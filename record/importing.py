@@ -119,7 +119,7 @@ class Imported:
         holes += replay.holes + self.owners.holes + names.mounted({*mounts_below(*names.tops)}) + names.too_long() + twice(names, self.lives, self.makes)  # guard: paths-that-are-too-long
         holes += ["--fresh copied %s, which has a name outside of the folder too, and the build writes it" % path for path in replay.hard_links if path in names.shared]  # guard: name-outside
         holes += ["nobody knows who started a process: " + one for one in replay.strays()]
-        holes += ["a make ran past the recorder: " + words for words in replay.past]
+        holes += ["a make ran past the recorder: " + words for words in replay.unheard.values()]  # guard: makes-without-library
 
     def add_builds(self) -> None:
         """A build for each round of a make in which something was done, in the order in which they began, beside those of ninjas; their holes too."""

@@ -51,7 +51,7 @@ class Calls(Started):
         handler = HANDLERS.get(name)
         if handler is not None:
             if ok and call.args[:1].isdigit() and name not in NUMBERED and BARE.match(call.args):
-                self.put_bare(life, call)  # guard: descriptors-without
+                self.put_bare(life, call.name)  # guard: descriptors-without
             handler(self, life, call, ok)
         elif name in SHARING and ok:  # guard: memory-said
             self.sockets.append(" ".join(life.argv)[:100])

@@ -223,7 +223,7 @@ def before(first: Segment, second: Segment, by_luck: bool) -> bool:
     """Whether a segment has ended when another one begins; `by_luck`: in the recorded build, else in each."""
     last, number = second
     todo, seen = [first], {id(last): ALWAYS}
-    above = {id(up): forked for up, forked in forks(last, number)}
+    above = {id(last): number, **{id(up.parent): up.forked for up in last.up()}}  # for each of these its last segment that comes before `second`
     while todo:
         course, at = todo.pop()
         if seen.get(id(course), ALWAYS) <= at:
@@ -235,14 +235,6 @@ def before(first: Segment, second: Segment, by_luck: bool) -> bool:
             todo.append(course.waited)
         todo += [(child, child.at) for child in course.others if child.forked >= at and child.waited is not None]
     return False
-
-
-def forks(course: "Course", number: int) -> Iterator[Segment]:
-    """A segment, and for each process above the last segment that comes before it."""
-    yield course, number
-    while course.parent is not None:
-        yield course.parent, course.forked
-        course = course.parent
 
 
 def lucky_waits(course: Course, until: Container[int]) -> Set[Course]:

@@ -18,13 +18,9 @@ class Moves(Replay):
         where = folders(call.args)
         bases = where if len(where) == 2 else [life.folder, life.folder]
         if not call.error and len(where) == 1:  # guard: one-of-two-descriptors
-            self.put_bare(life, call)
+            self.put_bare(life, call.name)
         follow = "AT_SYMLINK_FOLLOW" in call.args
         return (self.found(life, words[0].rstrip("/"), follow, bases[0]), self.found(life, words[1].rstrip("/"), False, bases[1]))
-
-    def put_bare(self, life: Life, call: Call) -> None:
-        """strace knows no name of an open file or folder, as where that is longer than 4096 bytes."""
-        self.holes.append("a file is known by the number of its descriptor alone: %s of %s" % (call.name, " ".join(life.argv)[:100]))
 
     def on_rename(self, life: Life, call: Call, ok: bool) -> None:
         """The old name goes, and the new one has its file. Names below a folder go along."""
@@ -44,17 +40,12 @@ class Moves(Replay):
             return  # two names of one file: nothing happens
         inode = self.names.take(old.folder, old.name) or Inode("f")
         self.names.take(new.folder, new.name)
-        self.put(life, REMOVED, old.path)
-        self.put(life, CREATED, new.path)
-        self.put(life, WRITTEN, new.path)
-        if inode.kind == "d":  # guard: all-below-goes
-            self.move_folder(life, old.path, new.path)  # guard: come-and-go
-            for name, child in self.names.below(inode, ""):
-                self.put(life, REMOVED, old.path + name)
-                self.put(life, CREATED, new.path + name)
-                self.put(life, WRITTEN, new.path + name)
-                if child.kind == "d":
-                    self.move_folder(life, old.path + name, new.path + name)  # guard: those-below
+        for name, child in [("", inode), *self.names.below(inode, "")]:  # guard: all-below-goes
+            self.put(life, REMOVED, old.path + name)
+            self.put(life, CREATED, new.path + name)
+            self.put(life, WRITTEN, new.path + name)
+            if child.kind == "d":  # guard: come-and-go
+                self.move_folder(life, old.path + name, new.path + name)
         self.names.put(new.folder, new.name, inode)  # guard: new-name-holds-file
 
     def move_folder(self, life: Life, old: str, new: str) -> None:
@@ -86,7 +77,7 @@ class Moves(Replay):
             self.put_absent(life, found, SEEN if call.error == "EEXIST" else ABSENT)  # guard: symbolic-links
             return
         if not where and BARE.search(TEXT.sub('""', call.args)):  # guard: folder-of-link
-            self.put_bare(life, call)
+            self.put_bare(life, call.name)
         self.give(life, found, Inode("l", words[0]))
 
     def give(self, life: Life, found: Found, inode: Inode) -> None:

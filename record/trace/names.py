@@ -203,9 +203,10 @@ class Names:
         if changed is not None and changed.kind != "f":
             self.wheres.clear()
 
-    def ask(self, folder: Inode, name: str, path: str) -> Optional[Inode]:
-        """What the disk has under a name, now in the model."""
-        if path in self.absent:  # guard: what
+    def ask(self, folder: Inode, name: str) -> Optional[Inode]:
+        """What the disk has under a name of a folder that was not walked, now in the model."""
+        path = "" if folder.walked else join(folder.path(), name)
+        if not path or path in self.absent:  # guard: what
             return None
         try:
             child = self.made_of(machine.lstat(path), path)
@@ -224,9 +225,7 @@ class Names:
         node, here = where.inode, join(where.path, name)
         if node is None or node.kind != "d":
             return Found(here, None, None, "", where.links, where.missing or where.path)
-        child = node.entries.get(name)
-        if child is None and not node.walked:
-            child = self.ask(node, name, here)
+        child = node.entries.get(name) or self.ask(node, name)
         if child is not None and follow and child.kind == "l":
             return self.walk_along(whole, True)
         return Found(here, child, node, name, where.links, "" if child else here)
@@ -241,17 +240,14 @@ class Names:
 
     def walk_along(self, path: str, follow: bool) -> Found:
         """Follows a path from the root, name by name."""
-        todo = [p for p in path.split("/") if p not in ("", ".")]
-        todo.reverse()
+        todo = [p for p in reversed(path.split("/")) if p not in ("", ".")]
         node, links, hops = self.root, [], 0
         while todo:
             part = todo.pop()
             if part == "..":
                 node = node.parent or self.root
                 continue
-            child = node.entries.get(part)
-            if child is None and not node.walked:
-                child = self.ask(node, part, join(node.path(), part))
+            child = node.entries.get(part) or self.ask(node, part)
             if child is not None and child.kind == "d" and todo:
                 node = child
                 continue
@@ -265,8 +261,7 @@ class Names:
                 continue
             if not todo:
                 return Found(here, child, node, part, links, "" if child else here)
-            rest = "/".join(reversed(todo))
-            return Found(os.path.normpath(join(here, rest)), None, None, "", links, here)
+            return Found(os.path.normpath("/".join((here, *reversed(todo)))), None, None, "", links, here)
         return Found(node.path(), node, node.parent, node.name, links)
 
     def leads_to(self, folders: Iterable[str]) -> bool:
@@ -276,9 +271,7 @@ class Names:
 
     def aliases(self, inode: Optional[Inode]) -> List[str]:
         """All names of a file."""
-        if inode is None or inode.kind == "d":
-            return []
-        return [join(folder.path(), name) for folder, name in inode.names]
+        return [join(folder.path(), name) for folder, name in inode.names] if inode is not None else []
 
     def below(self, inode: Inode, path: str) -> Iterable[Tuple[str, Inode]]:
         """All names below a folder."""

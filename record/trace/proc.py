@@ -14,14 +14,11 @@ CHANGING = TREE_CHANGES + FOLDER_CHANGED + TIME_SET
 def plain_path(life: Life, path: str, lives: Mapping[int, Life]) -> str:
     """A path by way of the folder or the root that /proc shows of a process, or by way of the number that it got last without
     opening a file, without that way; as it is where nobody knows."""
-    if not path.startswith(("/proc/", "/dev/")):
-        return path
     match = FOLDER.match(path)
     if match is not None:
         owner = lives.get(int(match.group(1))) if match.group(1).isdigit() else life  # guard: folders-of-other-processes
-        if owner is None:
-            return path
-        return (owner.folder if match.group(2) == "cwd" else "") + match.group(3) or "/"
+        if owner is not None:
+            return (owner.folder if match.group(2) == "cwd" else "") + match.group(3) or "/"
     match = NUMBER.match(path)
     if match is not None and match.group(1) and life.handle[0] == int(match.group(1)):
         return life.handle[1] + match.group(2)  # guard: numbers-that-stand-for-name

@@ -4,6 +4,7 @@ says which calls each method takes."""
 import re
 import stat
 from functools import lru_cache
+from itertools import takewhile
 
 from record import machine
 from record.trace.lives import Life
@@ -18,12 +19,7 @@ NUMBER = re.compile(r"(?:(?:IOPRIO_WHO|PRIO)_PROCESS, )?-?(\d+)\b")  # of a proc
 
 def first_of(life: Life) -> Life:
     """The process of a recipe that make or ninja started, by one of those below it."""
-    found = life
-    for up in life.up():
-        if up.is_make or up.is_ninja:
-            break
-        found = up
-    return found
+    return [life, *takewhile(lambda up: not (up.is_make or up.is_ninja), life.up())][-1]
 
 
 @lru_cache(None)

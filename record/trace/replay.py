@@ -10,7 +10,7 @@ from record.commands.system import OF_SYSTEM
 from record.trace.events import (
     ABSENT, BY_LIST, CHANGES, CREATED, ENTERED, FOLDER_REMOVED, LISTED, MADE, READ, REFUSED, REMOVED, SEEN, TREE_CHANGES, WRITTEN,
 )
-from record.trace.lives import Act, Course, Life
+from record.trace.lives import Act, Life
 from record.trace.names import Found, Inode, Names
 from record.trace.proc import NUMBER, is_hidden, plain_path
 from record.trace.strace import Begun, Call, Event, Unread
@@ -31,7 +31,7 @@ class Replay:
         self.said = ""  # the one in which each make has a file for what it says
         self.silent: Set[str] = set()  # names of the files of makes that only answer
         self.covered: Set[str] = set()  # the makes over which copies lie that have the library
-        self.unheard: Dict[int, str] = {}  # by id of a life: the words of a make that has not opened its file
+        self.unheard: Dict[int, str] = {}  # by id of a life: the words of a make that has not opened its file, as it has no library
         self.first_folder = folder
         self.lives: Dict[int, Life] = {}
         self.all: List[Life] = []
@@ -55,17 +55,13 @@ class Replay:
         """The life that has a process number now; a new one where it has none, of a parent that has begun to start a process, if that is clear."""
         life = self.lives.get(pid)
         if life is None or life.died <= self.place:  # guard: dead-process-is-another
-            life = Life(pid, born=self.place, folder=self.first_folder)
-            if self.all:
-                parents = [self.lives[p] for p in self.begun if p in self.lives and p != pid]
-                if parents:
-                    self.inherit(life, parents[-1])
-                    life.is_heir = True
-                    life.parent = parents[0] if len(parents) == 1 else None  # guard: what-is-above-one-that-is-seen-first
-            else:
-                life.adopted = True
-            self.lives[pid] = life
+            parents = [self.lives[one] for one in self.begun if one != pid]
+            life = self.lives[pid] = Life(pid, born=self.place, folder=self.first_folder, adopted=not self.all)
             self.all.append(life)
+            if parents:
+                self.inherit(life, parents[-1])
+                life.is_heir = True
+                life.parent = parents[0] if len(parents) == 1 else None  # guard: what-is-above-one-that-is-seen-first
         return life
 
     def strays(self) -> List[str]:
@@ -100,10 +96,10 @@ class Replay:
     def is_unclear(self, pid: int) -> bool:
         """Whether a process is new, and several that differ may have started it, or it may be a thread that does not share its folder yet."""
         life = self.lives.get(pid)
-        if life is not None and life.died > self.place or not self.all:
+        if life is not None and life.died > self.place:
             return False
-        parents = [self.lives[p] for p in self.begun if p in self.lives and p != pid]
-        return not self.sharing.isdisjoint(self.begun) or len({p.folder for p in parents}) > 1  # guard: threads-wait-for-who-starts
+        folders = {self.lives[one].folder for one in self.begun if one != pid}
+        return not self.sharing.isdisjoint(self.begun) or len(folders) > 1  # guard: threads-wait-for-who-starts
 
     def take(self, event: Event) -> None:
         """One event of a process that is known."""
@@ -124,32 +120,28 @@ class Replay:
         """A process has started another, or a thread, which is in one folder with it at all times. `flags`: those of the call."""
         child = self.lives.get(pid)
         if child is None or child.adopted:
-            child = Life(pid, born=self.place)
-            self.lives[pid] = child
+            child = self.lives[pid] = Life(pid, born=self.place)
             self.all.append(child)
         if not child.ran:
             self.inherit(child, parent)
         child.parent, child.adopted = parent, True
         parent.children.append(child)
-        self.place_course(parent.course, child, flags)
+        course = parent.course
+        if "CLONE_THREAD" in flags:  # guard: threads-are-one-process
+            course.lives.append(child)
+            child.course = course
+        else:
+            real = course.waiter if "CLONE_PARENT" in flags and course.waiter else course
+            course.fork(child.course, self.place, "vfork" in flags.lower(), real)  # guard: parent-waits-for-program
         for event in self.waiting.pop(pid, []):
             self.take(event)
-
-    def place_course(self, parent: Course, child: Life, flags: str) -> None:
-        """A thread is in the course of its process; another process has one of its own."""
-        if "CLONE_THREAD" in flags:  # guard: threads-are-one-process
-            parent.lives.append(child)
-            child.course = parent
-        else:
-            is_other = "CLONE_PARENT" in flags and parent.waiter is not None
-            parent.fork(child.course, self.place, "vfork" in flags.lower(), parent.waiter if is_other and parent.waiter else parent)  # guard: parent-waits-for-program
 
     # ---------------------------------------------------------------- events
     def put(self, life: Life, kind: str, path: str) -> None:
         """An event of a life, and an act of a make or ninja. Devices and the recorder's own files have none."""
         if path.startswith(KERNEL) and DEVICES.match(path) and not self.names.is_inside(path):  # guard: devices-are-no-files
             if is_hidden(kind, path):  # guard: numbers-hole
-                self.holes.append("a file is known by the number of its descriptor alone: %s of %s" % (path, " ".join(life.argv)[:100]))
+                self.put_bare(life, path)
             return
         if path.startswith(self.own):
             return
@@ -166,6 +158,10 @@ class Replay:
         if kind in NAME_CHANGES:
             self.changes.append((self.place, kind, path))
 
+    def put_bare(self, life: Life, what: str) -> None:
+        """A file or a folder is known by a number alone, as one whose name is longer than 4096 bytes. `what`: the call, or the path."""
+        self.holes.append("a file is known by the number of its descriptor alone: %s of %s" % (what, " ".join(life.argv)[:100]))
+
     def keep(self, life: Life, kind: str, path: str) -> None:
         """Keeps the first place of an event, and the first one in each segment."""
         key = (kind, path)
@@ -180,7 +176,11 @@ class Replay:
             found = Found(path, None, None, "") if NUMBER.match(path) else self.names.find(base or life.folder, path, follow)  # guard: not-by-recorders-own-numbers
         else:
             found = self.names.find(base or life.folder, path, follow)
-        self.put_links(life, found)
+        for link in found.links:
+            self.put(life, READ, link)  # guard: links-on-way-are-read
+            inode = self.names.find("/", link, False).inode
+            if inode is not None and "/.." in inode.target:  # guard: what-link-says
+                self.put_left(life, inode.target, os.path.dirname(link))
         if "/.." in path and (not OF_SYSTEM.match(path) or self.names.is_inside(os.path.normpath(path))):  # guard: folders-that-path-leaves-again
             self.put_left(life, path, base or life.folder)
         return found
@@ -188,7 +188,7 @@ class Replay:
     def put_left(self, life: Life, path: str, base: str) -> None:
         """Folders that a path enters and leaves again by `..`: `d/../f` is not there without d."""
         if NUMBER.match(path):  # guard: number-of-descriptor
-            self.holes.append("a file is known by the number of its descriptor alone: %s of %s" % (path, " ".join(life.argv)[:100]))
+            self.put_bare(life, path)
             return
         parts = [part for part in path.split("/") if part not in ("", ".")]
         for at, part in enumerate(parts[1:], 1):
@@ -196,14 +196,6 @@ class Replay:
                 left = self.names.find("/" if path.startswith("/") else base, "/".join(parts[:at]), True)
                 if left.inode is not None and left.inode.kind == "d":
                     self.put(life, SEEN if life.is_make or life.is_ninja else ENTERED, left.path)
-
-    def put_links(self, life: Life, found: Found) -> None:
-        """Links on the way are read."""
-        for link in found.links:
-            self.put(life, READ, link)  # guard: links-on-way-are-read
-            inode = self.names.find("/", link, False).inode
-            if inode is not None and "/.." in inode.target:  # guard: what-link-says
-                self.put_left(life, inode.target, os.path.dirname(link))
 
     def look(self, life: Life, path: str, ok: bool, follow: bool, kind: str = SEEN, base: str = "") -> Found:
         """A look at a path, which is an event of this kind where something is there (`ok`); what was found."""

@@ -42,15 +42,10 @@ MODULES = re.compile(rb"(?!.*/lib(?:32|64)?/python[\d.]*/(?!(?:site|dist)-packag
 MARKS = [re.compile(FLAGS.encode()), re.compile((r"\n\d+ +(?:" + NAMES + r"|f?chdir\()").encode())]
 
 
-def line_at(lines: bytes, at: int) -> bytes:
-    """The line around a place."""
-    end = lines.find(b"\n", at)
-    return lines[lines.rfind(b"\n", 0, at) + 1:end if end >= 0 else len(lines)]
-
-
 def has_change(lines: bytes, changes: "re.Pattern[bytes]") -> bool:
-    """Whether one of the lines, each behind a newline, matches `changes`."""
-    return any(changes.match(line_at(lines, mark.end() - 1)) for marks in MARKS for mark in marks.finditer(lines))
+    """Whether one of the lines, each between newlines, matches `changes`."""
+    places = (mark.end() - 1 for marks in MARKS for mark in marks.finditer(lines))
+    return any(changes.match(lines, lines.rindex(b"\n", 0, at) + 1, lines.index(b"\n", at)) for at in places)
 
 
 @lru_cache(KEPT)
@@ -141,7 +136,7 @@ def sift(trace: Path, tops: List[str], to: Path, has_ended: Callable[[float], ob
     with open(part, "wb") as file:
         for piece in pieces(trace, has_ended):
             lines = b"\n" + piece.rstrip(b"\n")
-            if has_change(lines, skip.changes):  # guard: what-somebody-changes-is-read
+            if has_change(lines + b"\n", skip.changes):  # guard: what-somebody-changes-is-read
                 return
             left = ROW.sub(rb"\1", skip.rest(lines))
             file.write(left)

@@ -21,15 +21,12 @@ class Past:
             self.now, self.at = dict(self.before), 0
         self.place = place
         while self.at < len(self.changes) and self.changes[self.at][0] < place:
-            self.take(*self.changes[self.at][1:])
+            _, kind, path = self.changes[self.at]
+            name = path.rstrip("/")
+            found = "d" if name != path else KINDS[kind]
+            if not found:
+                self.now.pop(name, None)  # guard: what-earlier-makes-removed
+            elif found == "d" or name not in self.now:  # guard: folders-that-make-above-made
+                self.now[name] = found
             self.at += 1
         return self.now
-
-    def take(self, kind: str, path: str) -> None:
-        """One change."""
-        name = path.rstrip("/")
-        found = "d" if name != path else KINDS[kind]
-        if not found:
-            self.now.pop(name, None)  # guard: what-earlier-makes-removed
-        elif found == "d" or name not in self.now:  # guard: folders-that-make-above-made
-            self.now[name] = found

@@ -101,11 +101,6 @@ class Started(Opened):
             life.number = int(match[2])
             life.starts.append((life.begun, life.folder))
 
-    @property
-    def past(self) -> List[str]:
-        """The makes that have not opened a file for what they say: they have no library."""
-        return list(self.unheard.values())  # guard: makes-without-library
-
     def look_at_interpreters(self, life: Life, program: str) -> None:
         """The kernel reads the interpreter of a script by itself, and that of an interpreter which is a script; so it does with the loader of a program."""
         for _ in range(SCRIPTS):

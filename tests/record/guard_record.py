@@ -96,6 +96,7 @@ GUARDS: List[Guard] = [
         ("where-it-cannot-be-written", "with suppress():", "progress.Lines.nobody_reads_it"),
     ),
     *guards("importing.py",
+        ("makes-without-library", "pass", "laid.Preloaded.make_without_an_environment"),
         ("when-a-make-began", "self.builds.sort(key=lambda build: build.make.life.born)", "orders.Orders.make_in_what_comes_before"),
         ("byte-code", "for kind, example in ():", "python.Python.modules_and_byte_code", FALSE_RACE),
         ("links-that-lead", 'trace = spool / ("sifted" if (spool / "sifted").exists() else "trace")', "replay.Traces.name_that_leads_to_the_system"),

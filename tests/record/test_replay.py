@@ -139,10 +139,10 @@ class Lives(unittest.TestCase):
     def test_make_without_the_library_is_noted(self) -> None:
         begins = '1 execve("/usr/bin/make", ["/usr/bin/make", "-f", "x"], 0x1 /* 1 var */) = 0'
         opens = '1 openat(AT_FDCWD<%s>, "/said/%d.3.make", O_WRONLY|O_CREAT|O_EXCL|O_APPEND|O_CLOEXEC, 0600) = 3</said/1.3.make>'
-        self.assertEqual(["/usr/bin/make -f x"], played(begins).past)
+        self.assertEqual(["/usr/bin/make -f x"], [*played(begins).unheard.values()])
         heard = played(begins, opens % (TOP, 1), said="/said/")
-        self.assertEqual(([], 3, True), (heard.past, heard.all[0].number, heard.all[0].is_make))
-        self.assertEqual(["/usr/bin/make -f x"], played(begins, opens % (TOP, 2), said="/said/").past)
+        self.assertEqual(([], 3, True), ([*heard.unheard.values()], heard.all[0].number, heard.all[0].is_make))
+        self.assertEqual(["/usr/bin/make -f x"], [*played(begins, opens % (TOP, 2), said="/said/").unheard.values()])
         script = played('1 execve("rules", ["./rules", "all"], 0x1 /* 1 var */) = 0', opens % (TOP, 1), said="/said/")
         self.assertTrue(script.all[0].is_make)
 
