@@ -36,22 +36,19 @@ class Program:
     def __init__(self, data: bytes) -> None:
         if data[:4] != b"\x7fELF" or data[4] not in (1, 2) or data[5] not in (1, 2):
             raise NotElf("it is no program in ELF")
-        self.data, self.is_long, order = data, data[4] == 2, "<" if data[5] == 1 else ">"
-        self.word = order + ("qQ" if self.is_long else "iI")
-        self.header = order + ("IIQQQQQQ" if self.is_long else "IIIIIIII")
-        self.fields = "kind flags offset address physical size memory align" if self.is_long else "kind offset address physical size memory flags align"
-        self.table, = struct.unpack_from(order + ("Q" if self.is_long else "I"), data, 32 if self.is_long else 28)
-        self.step, self.count = struct.unpack_from(order + "HH", data, 54 if self.is_long else 42)
-        self.segments = [self.segment(at) for at in range(self.count)]
+        self.data, is_long, order = data, data[4] == 2, "<" if data[5] == 1 else ">"
+        self.word = order + ("qQ" if is_long else "iI")
+        self.header = order + ("IIQQQQQQ" if is_long else "IIIIIIII")
+        self.fields = ("kind flags offset address physical size memory align" if is_long else "kind offset address physical size memory flags align").split()
+        self.table, = struct.unpack_from(order + ("Q" if is_long else "I"), data, 32 if is_long else 28)
+        step, count = struct.unpack_from(order + "HH", data, 54 if is_long else 42)
+        headers = (struct.unpack_from(self.header, data, self.table + at * step) for at in range(count))
+        self.segments = [Segment(**dict(zip(self.fields, header))) for header in headers]
         self.dynamic = self.read_dynamic()
 
-    def segment(self, at: int) -> Segment:
-        """One program header."""
-        return Segment(**dict(zip(self.fields.split(), struct.unpack_from(self.header, self.data, self.table + at * self.step))))
-
     def packed(self, one: Segment) -> bytes:
-        """The same as bytes."""
-        return struct.pack(self.header, *(getattr(one, name) for name in self.fields.split()))
+        """A program header as bytes."""
+        return struct.pack(self.header, *(getattr(one, name) for name in self.fields))
 
     def read_dynamic(self) -> List[Tuple[int, int]]:
         """The dynamic section: tags and values, without its end."""
@@ -87,9 +84,8 @@ class Program:
         spare = next((at for kind in (NOTE, PROPERTY) for at, one in enumerate(self.segments) if one.kind == kind), None)
         if spare is None:
             raise NotElf("it has no room for one more segment")
-        loads = [one for one in self.segments if one.kind == LOAD]
         offset = -(-len(self.data) // PAGE) * PAGE
-        address = -(-max(one.address + one.memory for one in loads) // PAGE) * PAGE
+        address = -(-max(one.address + one.memory for one in self.segments if one.kind == LOAD) // PAGE) * PAGE
         names = strings + path.encode() + b"\0"
         names += b"\0" * (-len(names) % 16)
         changed = {STRINGS: address, SIZE: len(names)}

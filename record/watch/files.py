@@ -10,7 +10,8 @@ ESCAPED = re.compile(r"\\([n\\])")
 HEAD = ("MAKE", "ARG", "ENV", "CWD", "ASKS", "SAYS")
 PRINTS = ("db_level", "print_data_base_flag")  # flags of a make that prints its own words, and runs recipes all the same
 OWN_WORDS = "a make that prints its own words (-d, -p, --debug, --trace) cannot be seen: make %s"
-PUBLIC = {"PATH", "HOME", "PWD", "OLDPWD", "SHELL", "MAKEFLAGS", "MFLAGS", "GNUMAKEFLAGS", "MAKELEVEL", "MAKEFILES"}  # variables that hold no secrets
+# Variables that hold no secrets: where a build runs, and how make was called.
+PUBLIC = {"PATH", "HOME", "PWD", "OLDPWD", "SHELL", "MAKEFLAGS", "MFLAGS", "GNUMAKEFLAGS", "MAKELEVEL", "MAKEFILES"}
 NAME = re.compile(r"(\d+)\.(\d+)\.make$")
 
 
@@ -67,22 +68,18 @@ def without_values(lines: Iterable[str]) -> Iterator[str]:
         if left:
             left -= 1
             continue
-        if line.startswith("ENV "):
+        is_start = line.startswith("ENV ")
+        if is_start:
             start.take(line.rstrip("\n"))
-        if is_public(line):
+        name = (line[len("ENV "):].partition("=") if is_start else line.partition(" "))[0]
+        if name in PUBLIC:
             pass
         elif is_own and line.startswith("define "):
             left = start.environment.get(line[len("define "):].rstrip("\n"), "").count("\n") + 1  # guard: values-of-several-lines
-        elif is_own or line.startswith("ENV "):
+        elif is_own or is_start:
             line = line.partition("=")[0] + "=\n"  # guard: values-of-environment
         is_own = line.startswith("# environment")
         yield line
-
-
-def is_public(line: str) -> bool:
-    """Whether a line of a variable is about one that says where a build runs, and how make was called."""
-    name = line[len("ENV "):].partition("=")[0] if line.startswith("ENV ") else line.partition(" ")[0]
-    return name in PUBLIC
 
 
 def keep_files(said: Path, to: Path) -> None:

@@ -8,6 +8,7 @@ import ctypes
 import os
 import shutil
 import tempfile
+from contextlib import suppress
 from dataclasses import dataclass, field
 from pathlib import Path
 from typing import IO, Dict, Iterator, List, Optional, Sequence
@@ -93,24 +94,20 @@ class Watch:
         found: Dict[str, Path] = {}
         for one in programs:
             copy = self.room / ("%s-%d" % (os.path.basename(one), len(found)))
-            try:
+            with suppress(NotElf, OSError):
                 program = Program(Path(one).read_bytes())
                 if program.shows(shown):
                     copy.write_bytes(program.with_library(str(self.library)))
                     shutil.copystat(one, copy)
                     copy.chmod(0o755)
                     found[one] = copy
-            except (NotElf, OSError):
-                continue
         return found
 
     def lay(self) -> bool:
         """Gives this process, and all that it starts, mounts of their own, in which the copies lie over the makes; whether they can run."""
-        try:
-            is_done = leave()
-        except OSError:
-            return False
-        return is_done and all(mount(str(copy), make, BIND) and os.access(make, os.X_OK) for make, copy in [*self.covered.items(), *self.ninjas.items()])
+        with suppress(OSError):
+            return leave() and all(mount(str(copy), make, BIND) and os.access(make, os.X_OK) for make, copy in [*self.covered.items(), *self.ninjas.items()])
+        return False
 
     def can_be_laid(self) -> bool:
         """Whether the system lets a process do so."""
@@ -127,22 +124,18 @@ class Watch:
     def note(self, pid: int) -> None:
         """Keeps which mounts the first process of the build has, where they are not those of this process. As long as they are open here, the system gives
         their number to no other process."""
-        try:
+        with suppress(OSError):
             self.held = open("/proc/%d/ns/mnt" % pid, "rb")  # guard: number-that-comes-again
             found = os.readlink("/proc/%d/ns/mnt" % pid)
             self.mounts = found if found != os.readlink("/proc/self/ns/mnt") else ""
-        except OSError:
-            self.mounts = ""
 
     def left(self) -> Iterator[int]:
         """The processes of the build that run: they have its mounts, or its environment."""
         for pid in map(int, filter(str.isdigit, os.listdir("/proc"))):
-            try:
+            with suppress(OSError):  # it has ended, or is of another user
                 is_own = os.readlink("/proc/%d/ns/mnt" % pid) == self.mounts if self.mounts else self.library_word in Path("/proc/%d/environ" % pid).read_bytes()
-            except OSError:  # it has ended, or is of another user
-                continue
-            if is_own:
-                yield pid
+                if is_own:
+                    yield pid
 
     def remove(self) -> None:
         """Takes the folder away, when the build has ended."""

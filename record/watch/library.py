@@ -5,6 +5,7 @@ import os
 import shutil
 import subprocess
 import tempfile
+from contextlib import suppress
 from pathlib import Path
 
 HERE = Path(__file__).resolve().parent
@@ -44,22 +45,14 @@ def build(to: Path) -> None:
         part.replace(to)
 
 
-def is_here(path: Path) -> bool:
-    """Whether a path is below the folder in which the build begins."""
-    return os.path.realpath(path).startswith(os.path.realpath(".").rstrip("/") + "/")
-
-
 def put_library(to: Path) -> None:
     """Puts the library where make will find it: its copy is as new as the recording."""
     found = INSTALLED if INSTALLED.is_file() else kept()
-    try:
-        if is_here(found):  # the build may look around there
-            build(to)
+    with suppress(OSError):  # nothing can be kept there
+        if Path(os.path.realpath(".")) not in Path(os.path.realpath(found)).parents:  # else the build may look around there
+            if not found.is_file():
+                build(found)
+            shutil.copyfile(found, to)
+            to.chmod(0o755)
             return
-        if not found.is_file():
-            build(found)
-        shutil.copyfile(found, to)
-    except OSError:  # nothing can be kept there
-        build(to)
-        return
-    to.chmod(0o755)
+    build(to)
