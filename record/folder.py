@@ -192,7 +192,7 @@ def write_record(folder: Path, record: Record, builds: List[Build], assumed: Ass
     for number, build in enumerate(builds, 1):
         record.builds.append("%03d" % number)
         write_build(folder / "builds" / ("%03d" % number), build, within.get(id(build.make.life)), record)
-    record.assumptions = [{"kind": a.kind, "count": a.count, "example": shown(a.example), "text": a.text()} for a in assumed.all()]
+    record.assumptions = assumed.rows()
     record.lucky = {example: {course.name() for course in waits} for example, waits in assumed.lucky.items()}
     lucky = set().union(*assumed.lucky.values())
     record.apart = apart(lucky)

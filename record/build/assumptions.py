@@ -1,8 +1,9 @@
 """What a verdict takes for granted: counted, with an example each."""
 
-from dataclasses import dataclass
-from typing import Dict, List, Set
+from collections import Counter
+from typing import Any, Dict, List, Set
 
+from record.build.text import shown
 from record.trace.lives import Course
 
 TEXTS = {
@@ -42,44 +43,30 @@ TEXTS = {
     "unstable": "what two later builds leave otherwise than each other, such as a time, does not go by what was there before",
     "later-ring": "a prerequisite that closes a ring in a later build, which make drops, is not needed",
 }
-
-
 UNTRIED = ("luck", "orders")  # what nobody has tried out: with --strict it bars the yes
 # What builds in other orders try out, and the two serial builds among them.
 TRIED_OUT = ("serial", "ninja")
 OF_TREE = ("unasked", "up-to-date", "configured")  # what is said of the goals and of the tree
 
 
-@dataclass
-class Assumption:
-    """One kind, how often it was met, and the first case."""
-
-    kind: str
-    count: int
-    example: str
-
-    def text(self) -> str:
-        """What it says."""
-        return TEXTS[self.kind]
-
-
 class Assumptions:
     """All that was met."""
 
     def __init__(self) -> None:
-        self.known: Dict[str, Assumption] = {}
+        self.counts: "Counter[str]" = Counter()  # how often each kind was met
+        self.examples: Dict[str, str] = {}  # the first case of each kind
         self.lucky: Dict[str, Set[Course]] = {}  # by case of `luck`: the processes for which others have waited so
 
     def add(self, kind: str, example: str, count: int = 1) -> None:
         """Counts one case."""
-        found = self.known.setdefault(kind, Assumption(kind, 0, example))
-        found.count += count
+        self.counts[kind] += count
+        self.examples.setdefault(kind, example)
 
     def add_luck(self, example: str, waits: Set[Course]) -> None:
         """Counts a case of `luck`."""
         self.add("luck", example)
         self.lucky.setdefault(example, set()).update(waits)
 
-    def all(self) -> List[Assumption]:
-        """In the order in which they were met."""
-        return list(self.known.values())
+    def rows(self) -> List[Dict[str, Any]]:
+        """What a record says of them, in the order in which they were met."""
+        return [{"kind": kind, "count": count, "example": shown(self.examples[kind]), "text": TEXTS[kind]} for kind, count in self.counts.items()]

@@ -60,9 +60,8 @@ def write_missing(out: Path, record: Record, builds: List[Build], makes: List[Ma
     for kind, paths in (("not-run", made_elsewhere([build for _, build in rounds], names, changed)), ("called", called(makes, names, lives, changed))):  # guard: what-another-recipe-made
         for path in sorted(paths):
             premises.add(kind, relative(record.folder, path))
-    found = [{"kind": a.kind, "count": a.count, "example": shown(a.example), "text": a.text()} for a in premises.all()]
     otherwise = later.otherwise - kept_by_builder(later.otherwise, lives) - makefiles_of(makes, names)
-    return {"judged": judged, "holes": list(map(shown, holes)), "premises": found,
+    return {"judged": judged, "holes": list(map(shown, holes)), "premises": premises.rows(),
             "otherwise": ["a later build leaves %s otherwise" % relative(record.folder, path) for path in sorted(otherwise)[:SHOWN]]}
 
 

@@ -69,7 +69,7 @@ def golden_of(facts: Path, golden: Path, race: str) -> Path:
     record, found = import_again(facts)
     golden.mkdir()
     lines = ["hole " + hole for hole in record.holes] + ["was there " + shown(name) for name in record.warm]
-    lines += ["assumed %s %d %s" % (one.kind, one.count, shown(one.example)) for one in found.assumed.all()]
+    lines += ["assumed %s %d %s" % (one["kind"], one["count"], one["example"]) for one in found.assumed.rows()]
     for number, build in enumerate(found.builds, 1):
         tasks = golden / ("%03d.tasks" % number)
         with open(tasks, "w", encoding="utf-8", errors="backslashreplace") as file:
