@@ -2,7 +2,7 @@
 
 import os
 import re
-from typing import Dict, List, Tuple
+from typing import List, Tuple
 
 from record import machine
 from record.build.assumptions import Assumptions
@@ -40,8 +40,8 @@ def beside(ninjas: List[Ninja], builds: List[Build], names: Names) -> "Tuple[int
     asked = {(ninja.life.program, ninja.folder, ninja.file): ninja for ninja in reversed(ninjas) if any(stage.jobs for stage in ninja.stages)}
     found = [(ninja, one) for (program, folder, file), ninja in asked.items()
              for one in sorted(set(MISSING.findall(machine.printed(program, "-C", folder, "-f", file, "-t", "missingdeps"))))]
-    said = [(ninja, one) for ninja, one in found for build in builds if isinstance(build, NinjaBuild) and build.folder == ninja.folder and is_race(build, one, names)]
-    more = [(ninja, one) for ninja, one in found if (ninja, one) not in said and not is_of_nobody(ninja, one, builds, names)]  # guard: phony-ones
+    more = [(ninja, one) for ninja, one in found
+            if not is_race(ninja, one, builds, names) and not is_of_nobody(ninja, one, builds, names)]  # guard: phony-ones
     return len(found), [one for ninja, one in more if not is_apart(ninja, one, builds, names)]  # guard: one-ninja-behind-the-other
 
 
@@ -65,9 +65,8 @@ def users_in(build: NinjaBuild, one: Missing) -> List[int]:
     return [at for at in range(len(build.tasks)) if os.path.normpath(one[0]) in build.edge(at).makes()]
 
 
-def is_race(build: NinjaBuild, one: Missing, names: Names) -> bool:
+def is_race(ninja: Ninja, one: Missing, builds: List[Build], names: Names) -> bool:
     """Whether a build has two tasks that nothing orders, one with that output, one that writes the path."""
-    path = names.find(build.folder, one[1], True).path
-    users = users_in(build, one)
-    writers = [at for at, task in enumerate(build.tasks) if path in task.writes]
-    return any(build.unordered(user, writer) for user in users for writer in writers)
+    path = names.find(ninja.folder, one[1], True).path
+    own = [build for build in builds if isinstance(build, NinjaBuild) and build.folder == ninja.folder]
+    return any(path in task.writes and build.unordered(user, at) for build in own for user in users_in(build, one) for at, task in enumerate(build.tasks))

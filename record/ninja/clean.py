@@ -3,7 +3,6 @@
 import os
 import shlex
 import subprocess
-from pathlib import Path
 from typing import Iterator, List
 
 from record import machine

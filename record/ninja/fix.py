@@ -9,21 +9,13 @@ CMAKE_OBJECT = re.compile(r"(?:^|/)CMakeFiles/([^/]+)\.dir/")
 CMAKE_LINK = re.compile(r"[A-Z]+_(?:EXECUTABLE|STATIC_LIBRARY|SHARED_LIBRARY|MODULE_LIBRARY)_LINKER__(.+)_[A-Za-z]*$")
 CMAKE_TARGET = re.compile(r"(?:(?:^|/)CMakeFiles/([^/]+?)(?:\.util)?|cmake_object_order_depends_target_(.+))$")
 MESON_OBJECT = re.compile(r"(?:^|/)([^/]+)\.p/")
-LIBRARY = re.compile(r"lib(.+?)\.(?:a|so|dylib)(?:\.[\d.]+)?$")
-
-
-def generator_of(manifest: Manifest) -> str:
-    """`cmake`, `meson`, or nothing."""
-    if manifest.top.value("cmake_ninja_workdir") or any(name.endswith("CMakeFiles/rules.ninja") for name in manifest.files):
-        return "cmake"
-    return "meson" if "REGENERATE_BUILD" in manifest.top.rules else ""
+LIBRARY = re.compile(r"^lib(.+?)\.(?:a|so|dylib)(?:\.[\d.]+)?$")
 
 
 def cmake_target(edge: Edge, manifest: Manifest) -> str:
     """The target of CMakeLists.txt that a statement belongs to, or the one that was made for what it writes."""
     for path in edge.makes():
-        match = CMAKE_OBJECT.search(path) or CMAKE_TARGET.search(path)
-        if match:
+        if match := CMAKE_OBJECT.search(path) or CMAKE_TARGET.search(path):
             return match.group(1) or match.group(match.lastindex or 1)
     link = CMAKE_LINK.match(edge.rule)
     return link.group(1) if link else next(iter(cmake_users(edge, manifest, 1)), "")  # guard: target-of-cmake-that-was-made-for-file
@@ -37,17 +29,14 @@ def cmake_users(edge: Edge, manifest: Manifest, group: int) -> List[str]:
 
 def meson_target(edge: Edge) -> str:
     """The target of meson.build that a statement belongs to, by the folder of its objects."""
-    for path in edge.makes():
-        match = MESON_OBJECT.search(path)
-        if match:
-            library = LIBRARY.match(match.group(1))
-            return library.group(1) if library else match.group(1)
-    return ""
+    matches = filter(None, map(MESON_OBJECT.search, edge.makes()))
+    return next((LIBRARY.sub(r"\1", match[1]) for match in matches), "")
 
 
 def owner_of(edge: Edge, manifest: Manifest) -> Dict[str, str]:
     """What wrote the manifest, the name of the target there, and where a statement of CMake has none, a target that uses what it writes."""
-    by = generator_of(manifest)
+    is_cmake = manifest.top.value("cmake_ninja_workdir") or any(name.endswith("CMakeFiles/rules.ninja") for name in manifest.files)
+    by = "cmake" if is_cmake else "meson" if "REGENERATE_BUILD" in manifest.top.rules else ""
     target = cmake_target(edge, manifest) if by == "cmake" else meson_target(edge) if by == "meson" else ""
     user = next(iter(cmake_users(edge, manifest, 2)), "") if by == "cmake" and not target else ""
     return {"by": by, "target": target, **({"user": user} if user else {})}

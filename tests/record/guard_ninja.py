@@ -28,7 +28,7 @@ GUARDS: List[Guard] = [
         ("folders-that-were-there-when-it-began", "builder = NinjaBuilder(ninja, number, past.until(ninja.life.starts[-1][0]), removed, names, assumed)",
          "ninja.Ninja.folder_that_a_stage_removed", LOST_RACE),
         ("one-ninja-behind-the-other", "return len(found), [one for _, one in more]", "ninja.Ninja.ninja_behind_another_one"),
-        ("phony-ones", "return len(found), [one for ninja, one in found if (ninja, one) not in said]", "ninja.Ninja.phony_that_nobody_makes"),
+        ("phony-ones", "if not is_race(ninja, one, builds, names)]", "ninja.Ninja.phony_that_nobody_makes"),
         ("phony-ones-that-are-written", "return all(edge is not None and edge.is_phony and not edge.waits() for edge in edges)", "ninja.Ninja.phony_that_somebody_makes", LOST_HOLE),
         ("phony-ones-that-are-written", "return all(edge is not None and edge.is_phony for edge in edges) and not any(path in build.writers for build in builds)",
          "ninja.Ninja.phony_with_an_input", LOST_HOLE),
