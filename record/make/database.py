@@ -9,7 +9,6 @@ PLACE = re.compile(r"^#  recipe to execute \(from '(.*)', line (\d+)\):")
 ORIGIN = re.compile(r"# (makefile|environment(?: under -e)?|command line|default|automatic|'override' directive)(?: private)?(?: \(from '(.*)', line (\d+)\))?$")
 # A macro of which the value counts, also one of single targets or of a pattern, or of several lines.
 VALUE = re.compile(r"(?:.*[\s:])?(SHELL|MAKEFLAGS|MAKECMDGOALS|\.FEATURES)(?: (?:=|:=|::=|:::=|\+=|\?=) ?(.*))?$")
-NO_TARGET = "# Not a target:"
 MARKS = ("# Files", "# files hash-table stats:")  # the lines around its targets
 
 
@@ -44,8 +43,7 @@ class Base:
 
     def note_value(self, text: str) -> None:
         """A line that may say the value of a macro."""
-        found = VALUE.match(text)
-        if found:
+        if found := VALUE.match(text):
             self.values.setdefault(found.group(1), set()).add(found.group(2) or "")
 
     def call(self, name: str, path: str) -> None:
@@ -86,18 +84,17 @@ class _Files:
                 rule = self.base.double[self.name][-1]
                 rule.first_line, rule.is_empty = rule.first_line or text[1:], False
             self.base.recipes.setdefault(self.name, []).append(text if self.goes_on else text[1:])
-        self.goes_on = is_continued(text)
+        self.goes_on = (len(text) - len(text.rstrip("\\"))) % 2 == 1
 
     def remark(self, text: str) -> None:
         """A line such as `#  Phony target (prerequisite of .PHONY).`, about the target above it; or one that says where a macro is from."""
         base = self.base
         self.is_macro = not self.name and bool(ORIGIN.match(text))
-        self.is_other = text == NO_TARGET
+        self.is_other = text == "# Not a target:"
         if not text.startswith("#  "):
             return
         self.is_recipe = self.is_recipe or text.startswith("#  recipe to execute")  # guard: behind-another-mark
-        place = PLACE.match(text)
-        if place and self.name:
+        if self.name and (place := PLACE.match(text)):
             base.places.setdefault(self.name, []).append((place.group(1), int(place.group(2))))
             for rule in base.double.get(self.name, [])[-1:]:
                 rule.place = base.places[self.name][-1]
@@ -127,11 +124,6 @@ class _Files:
         base.order_only.setdefault(self.name, set()).update(cut(second))
         if match.group(2) == "::":
             base.double.setdefault(self.name, []).append(Colons(cut(first), cut(second)))
-
-
-def is_continued(text: str) -> bool:
-    """Whether the next line belongs to a line."""
-    return (len(text) - len(text.rstrip("\\"))) % 2 == 1
 
 
 def read_base(lines: List[str]) -> Base:

@@ -21,19 +21,15 @@ class Graph:
         self.join_grouped()
         self.wait_for_all_rules()  # guard: who-alone-needs-it-waits-for-all-rules
 
-    # ---------------------------------------------------------------- nodes
     def read_nodes(self) -> None:
         """What ran for the targets that make considered, or made without that, and what the data base says of them."""
-        base = self.base
         for job in self.round.jobs:
             if job.target not in self.nodes:
                 self.nodes[job.target] = Node(job.target, job.target, 0, 0)
                 self.round.goals.append(job.target)
             self.nodes[job.target].jobs.append(job)
         for name, node in self.nodes.items():
-            node.must = name in self.round.must
-            node.has_recipe = name in base.recipes
-            node.phony = name in base.phony
+            node.must, node.has_recipe, node.phony = name in self.round.must, name in self.base.recipes, name in self.base.phony
 
     def split_double_colons(self) -> None:
         """The rules of one target run one after the other; who needs the target is only sure to wait for the first."""
@@ -49,9 +45,8 @@ class Graph:
                 label = "%s@rule%d" % (name, at + 1)
                 while label in self.nodes:
                     label += "+"
-                part = replace(node, label=label, prerequisites={}, jobs=[], rule=at)
-                self.nodes[label] = part
-                parts.append(part)
+                self.nodes[label] = replace(node, label=label, prerequisites={}, jobs=[], rule=at)
+                parts.append(self.nodes[label])
             for at, (part, rule) in enumerate(zip(parts, rules)):
                 part.prerequisites = dict.fromkeys([p for p in rule.prerequisites + rule.order_only if p in self.nodes] + loose)
                 if at:
@@ -98,11 +93,9 @@ class Graph:
         """What a later rule alone needs is looked at when the rule before it has ended."""
         for before, part in zip(parts, parts[1:]):
             without = self.reached_from([*self.round.goals, *(node.label for node in self.nodes.values() if node.rule and node is not part)], part)
-            for label in list(part.prerequisites):
-                if label not in without and label != before.label and label in self.nodes:
-                    for one in self.reached_from([label]) - without:
-                        if one not in (before.label, part.label):
-                            self.nodes[one].prerequisites.setdefault(before.label)
+            alone = self.reached_from([label for label in part.prerequisites if label != before.label]) - without
+            for label in alone - {before.label, part.label}:
+                self.nodes[label].prerequisites.setdefault(before.label)
 
     def reached_from(self, starts: List[str], but: Optional[Node] = None) -> Set[str]:
         """All that some targets need, by way of others too; what `but` needs does not count."""

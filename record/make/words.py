@@ -13,7 +13,7 @@ from record.watch.files import OWN_WORDS, Start, files_in, open_file, read_start
 
 KEPT = 1 << 14  # how many lines are remembered: most come again for each target that needs the same
 CHILD = re.compile(r"(Putting child|Live child|Reaping (?:winning|losing) child|Removing child) (0x[0-9a-f]+) (?:\((.*)\) )?PID (\d+)")
-CONSIDERED = re.compile(r"^( *)(Considering target file|Pruning file) '(.*)'\.$|^( *)File '(.*)' was considered already\.$")
+CONSIDERED = re.compile(r"^( *)(?:(?:Considering target file|Pruning file) '(.*)'\.|File '(.*)' was considered already\.)$")
 VPATH = re.compile(r"^ *No need to remake target '(.*)'; using VPATH name '(.*)'\.$")
 FINISHED = re.compile(r"^ *Finished prerequisites of target file '(.*)'\.$")
 MUST = re.compile(r"^ *Must remake target '(.*)'\.$")
@@ -25,6 +25,7 @@ DEFAULTS = ("GNUmakefile", "makefile", "Makefile")  # the makefiles that make lo
 # Lines of which each word counts: one that is none of those above was not read as a whole.
 BROKEN = re.compile(r" *(?:Considering target file|Pruning file|Finished prerequisites of target file|Must remake target|Failed to remake target file|Giving up on target file) '"
                     r"(?!.*'\.$)|(?:Putting|Live|Reaping \w+|Removing) child 0x(?!.*PID \d)|# (?:Files|files hash-table stats:)$")  # the last two: of a data base that has ended
+LAST = "# Finished Make data base"  # how the last line of a data base begins
 READING = re.compile(r"^Reading makefile '(.*)'((?: \([^)]*\))*)\.\.\.$")
 
 
@@ -84,10 +85,7 @@ class Words:
 def considered_in(text: str) -> Optional[Tuple[int, str]]:
     """How deep make was when it considered a target, and which, by a line of its words."""
     match = CONSIDERED.match(text)
-    if match is None:
-        return None
-    shallow, _, name, deep, again = match.groups()
-    return (len(deep), again) if name is None else (len(shallow), name)
+    return (len(match[1]), match[match.lastindex or 1]) if match is not None else None
 
 
 class _Reader:
@@ -144,11 +142,10 @@ class _Reader:
         """One line of make's words, or of the library's."""
         words = self.words
         considered = considered_in(text) if self.round is not None else None
-        child = CHILD.match(text) if considered is None else None
         if considered is not None:  # as nearly all lines are
             self.clock += 1
             self.considered(*considered)
-        elif child:
+        elif child := CHILD.match(text):
             self.child(child.group(1), child.group(2), child.group(3) or "", int(child.group(4)))
         elif BROKEN.match(text):  # guard: not-whole-hole
             words.holes.append("a line of make's words cannot be read: " + text[:200])
@@ -163,8 +160,8 @@ class _Reader:
             pass
         elif text.startswith("Loading symbol "):
             words.loaded.append(text.partition(" from ")[2])
-        elif READING.match(text) and words.read:
-            self.name = READING.match(text).group(1)  # type: ignore[union-attr]
+        elif words.read and (reading := READING.match(text)):
+            self.name = reading[1]
             words.times[self.name] += 1
             is_making = self.round is not None and self.round.start == len(words.read) - 1
             (words.included if is_making else words.read[-1]).append(self.name)
@@ -194,19 +191,18 @@ class _Reader:
         """A line about a target other than that make considers it: it has to be made, is done, has failed, or is found in another folder."""
         assert self.round is not None
         self.clock += 1
-        finished, vpath, must = FINISHED.match(text), VPATH.match(text), MUST.match(text)
-        if finished:
-            seen = self.round.nodes.get(finished.group(1))
+        if match := FINISHED.match(text):
+            seen = self.round.nodes.get(match[1])
             if seen is not None and seen.done < 0:
                 seen.done = self.clock
-        elif vpath:
-            name, path = vpath.groups()
+        elif match := VPATH.match(text):
+            name, path = match.groups()
             self.round.vpath[name] = path
             self.found.update({path: name} if path not in self.round.nodes else {})
-        elif must:
-            self.round.must.add(must.group(1))
-        elif FAILED.match(text):
-            self.round.failed.append(FAILED.match(text).group(1))  # type: ignore[union-attr]
+        elif match := MUST.match(text):
+            self.round.must.add(match[1])
+        elif match := FAILED.match(text):
+            self.round.failed.append(match[1])
 
 
 def base_hole(lines: List[str], found: Base) -> str:
@@ -217,19 +213,13 @@ def base_hole(lines: List[str], found: Base) -> str:
         return "lists no targets"
     if found.is_unclear:  # guard: lines-that-look-like-its-own-are-hole
         return "holds lines of a macro that look like its own"
-    return "" if is_end(lines) else "has no end"
-
-
-def is_end(base: List[str]) -> bool:
-    """Whether a data base has its last line."""
-    return base[-1].startswith("# Finished Make data base")
+    return "" if lines[-1].startswith(LAST) else "has no end"
 
 
 def take_base(words: Words, lines: List[str]) -> None:
     """One data base: that of all rounds since the last."""
     found = read_base(lines)
-    hole = base_hole(lines, found)
-    if hole:  # guard: data-base-that-is-not-whole
+    if hole := base_hole(lines, found):  # guard: data-base-that-is-not-whole
         words.holes.append("the data base of a make %s: make %s" % (hole, words.args))
     for one in words.rounds:
         unread = next((job.target for job in one.jobs if one.base is None and job.target not in found.recipes), None)
@@ -260,7 +250,7 @@ def read_words(pid: int, life: int, lines: Iterable[str], place: str = "", start
         text = raw.rstrip("\n")
         if base:
             base.append(text)
-            if is_end(base):
+            if text.startswith(LAST):
                 take_base(words, base)
                 base = []
         elif text.startswith("# Make data base"):
