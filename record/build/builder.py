@@ -36,8 +36,7 @@ class Builder:
             tasks += [Task("%s&%d" % (task.label, number), node, "part", part=part) for number, part in enumerate(others, 1)]
 
     def put_in_order(self, after: List[Set[int]], keys: List[Tuple[int, int]]) -> int:
-        """Orders the tasks, each part of a recipe behind all that the recipe waits for; the number of edges that closed a cycle. `after`, `keys`: by the
-        number of a task."""
+        """Orders the tasks, each part of a recipe behind all that the recipe waits for; how many edges closed a cycle. `after`, `keys`: by the number of a task."""
         tasks = self.build.tasks
         for at, task in enumerate(tasks):
             row, earlier = [*task.parts, at], after[at]
@@ -57,35 +56,23 @@ class Builder:
         self.of_node = {label: number[at] for label, at in self.of_node.items()}
 
     # ---------------------------------------------------------------- footprints
-    def fill(self, kept: Collection[str] = ()) -> None:
-        """What each task reads and writes. `kept`: paths that count though one task alone touches them."""
+    def note_events(self) -> None:
+        """What each task reads and writes, and which folders it lists, by its events."""
+        writers = self.build.writers
+        for at, task in enumerate(self.build.tasks):
+            task.writes = {path for kind, path, _ in task.events() if kind in CHANGES and not path.endswith("/")}
+            task.lists = {path for kind, path, _ in task.events() if kind == LISTED}  # guard: listings-count
+            for path in task.writes:
+                writers.setdefault(path, set()).add(at)
         for task in self.build.tasks:
-            self.add_events(task)
-        self.add_asked()
+            task.reads = {path for kind, path, _ in task.events() if kind in LOOKS and path in writers}  # guard: failed-looks-are-reads
+
+    def fill(self, kept: Collection[str] = ()) -> None:
+        """What each task reads and writes, when all are in order. `kept`: paths that count though one task alone touches them."""
         add_folders(self.build, self.names, self.before)
         pass_locks(self.build)
         drop_lonely(self.build.tasks, kept)
         self.note_late()
-
-    def note_writers(self) -> None:
-        """Which task writes, creates or removes which name."""
-        for at, task in enumerate(self.build.tasks):
-            for kind, path, _ in task.events():
-                if kind in CHANGES and not path.endswith("/"):
-                    self.build.writers.setdefault(path, set()).add(at)
-
-    def add_events(self, task: Task) -> None:
-        """What a task reads and writes, and which folders it lists, by its events."""
-        for kind, path, _ in task.events():
-            if kind in CHANGES and not path.endswith("/"):
-                task.writes.add(path)
-            elif kind in LOOKS and path in self.build.writers:  # guard: failed-looks-are-reads
-                task.reads.add(path)
-            elif kind == LISTED:
-                task.lists.add(path)  # guard: listings-count
-
-    def add_asked(self) -> None:
-        """What make itself asks for."""
 
     def note_late(self) -> None:
         """Files on which recipes meet that wait for a process by luck alone: it may still run beside what comes later."""

@@ -26,7 +26,11 @@ def add_folders(build: Build, names: Names, before: Dict[str, str]) -> None:
     for at, task in enumerate(build.tasks) if makers else ():
         for path in used(task, makers):
             if at not in makers[path] and not any(build.is_before(maker, at) for maker in makers[path]):  # guard: user-needs-maker
-                apart(build, path + "/~seen", "that the folder %s is there" % path, at, makers[path])
+                for maker in (maker for maker in makers[path] if build.unordered(at, maker)):  # one sees what the other changes
+                    name = "%s/~seen/%d/%d" % (path, at, maker)
+                    task.reads.add(name)
+                    build.tasks[maker].writes.add(name)
+                    build.meanings[name] = "that the folder %s is there" % path
 
 
 def used(task: Task, makers: Dict[str, Set[int]]) -> List[str]:
@@ -39,13 +43,3 @@ def used(task: Task, makers: Dict[str, Set[int]]) -> List[str]:
         elif kind in CREATED + ENTERED + LISTED + ABSENT:
             uses.append((os.path.dirname(path.rstrip("/")) if kind == CREATED else path, place))
     return sorted({path for path, place in uses if path in makers and not looks.get(path, place) < place})  # guard: who-looks-for-the-folder
-
-
-def apart(build: Build, name: str, meaning: str, at: int, others: Set[int]) -> None:
-    """A name for a task and each other that nothing orders: one sees what the other changes."""
-    for other in sorted(others):
-        if build.unordered(at, other):
-            own = "%s/%d/%d" % (name, at, other)
-            build.tasks[at].reads.add(own)
-            build.tasks[other].writes.add(own)
-            build.meanings[own] = meaning

@@ -12,7 +12,12 @@ from record.trace.events import CREATED, LISTED, LOCKED, REMOVED, WRITTEN
 
 def pass_locks(build: Build) -> None:
     """Tasks that only lock a file do not write it, where each task that asks for it comes behind one of them."""
-    for path, done in gather(build).items():
+    found: Dict[str, Set[Tuple[int, str]]] = {path: set() for task in build.tasks for kind, path, _ in task.events() if kind == LOCKED}  # which task did what to each
+    for at, task in enumerate(build.tasks) if found else ():
+        for kind, path, _ in task.events():
+            if path in found and kind not in CREATED + LISTED:  # guard: what-is-under-the-lock
+                found[path].add((at, kind))
+    for path, done in found.items():
         makers, askers = {at for at, kind in done if kind == LOCKED}, {at for at, kind in done if kind != LOCKED}
         others = {at for at, task in enumerate(build.tasks) if path in task.writes} - makers
         is_changed = any(kind in WRITTEN + REMOVED for _, kind in done)
@@ -20,13 +25,3 @@ def pass_locks(build: Build) -> None:
         if not (is_changed or is_seen or others):  # guard: who-changes
             for at in makers:
                 build.tasks[at].writes.discard(path)  # guard: who-makes-one-first
-
-
-def gather(build: Build) -> Dict[str, Set[Tuple[int, str]]]:
-    """All files that recipes lock so: which task did what to each."""
-    found: Dict[str, Set[Tuple[int, str]]] = {path: set() for task in build.tasks for kind, path, _ in task.events() if kind == LOCKED}
-    for at, task in enumerate(build.tasks) if found else ():
-        for kind, path, _ in task.events():
-            if path in found and kind not in CREATED + LISTED:  # guard: what-is-under-the-lock
-                found[path].add((at, kind))
-    return found

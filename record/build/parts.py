@@ -12,10 +12,9 @@ from typing import Container, Dict, List, Optional, Set, Tuple, cast
 from record.build.segments import Conflict, conflicts_in, courses_of, fork_of, owner
 from record.build.work import Part, Work
 from record.trace.events import CHANGES, LOOKS, MADE, OUTPUT, WRITTEN
-from record.trace.lives import Course, Key, Life, Segment, lucky_waits
+from record.trace.lives import Course, Key, Segment, lucky_waits
 
 WORDS = 60  # signs of a command
-WHOLE = [0]  # the pieces of a process that is not cut: itself with all below it
 
 
 class Parts:
@@ -27,10 +26,12 @@ class Parts:
         self.roots = {id(course) for course in self.courses if id(course.parent) not in self.inside}  # those of its lines, for which make waits
         self.conflicts: List[Conflict] = conflicts_in(work.lives)
         self.cuts: Dict[int, Set[int]] = {}  # by process: the last segments of its pieces
-        self.ends: Dict[int, List[int]] = {}  # the same, sorted
+        self.ends: Dict[int, List[int]] = {}  # the same, sorted; of a process that is not cut its last segment alone
         self.left: Set[int] = set()
         for course in self.courses:
-            if not self.is_waited(course) and any(matters(life, written) for life in course.lives):  # guard: processes-that-are-left
+            # Others may see that a process is left: it changes something, or looks at what somebody changes.
+            matters = (kind in CHANGES + MADE or path in written for life in course.lives for kind, path in life.events)
+            if not self.is_waited(course) and any(matters):  # guard: processes-that-are-left
                 self.left.add(id(course))
                 self.cut_above(course)
         for one in self.conflicts:
@@ -72,13 +73,9 @@ class Parts:
                 cuts.add(course.waited[1] - 1)
             course = course.parent
 
-    def pieces(self, course: Course) -> List[int]:
-        """The last segments of the pieces of a process."""
-        return self.ends.get(id(course), WHOLE)
-
     def piece(self, course: Course, number: int) -> int:
         """The piece of a process that has a segment."""
-        return bisect_left(self.pieces(course), number) if id(course) in self.cuts else 0
+        return bisect_left(self.ends.get(id(course), ()), number)
 
     def is_merged(self, course: Course) -> bool:
         """Whether a process that is not cut begins and ends in one piece of the one that started it."""
@@ -97,11 +94,11 @@ class Parts:
     # ---------------------------------------------------------------- parts
     def make(self) -> None:
         """All parts."""
-        self.ends = {id(course): sorted({*self.cuts[id(course)], course.at}) for course in self.courses if id(course) in self.cuts}
+        self.ends = {id(course): sorted({*self.cuts.get(id(course), ()), course.at}) for course in self.courses}
         heads = [course for course in self.courses if id(course) in self.cuts or id(course) in self.roots or id(course.parent) in self.cuts and not self.is_merged(course)]
         for course in heads:
             words = command(course)
-            for number in range(len(self.pieces(course))):
+            for number in range(len(self.ends[id(course)])):
                 self.of[id(course), number] = len(self.parts)
                 self.parts.append(Part(words=words, is_left=id(course) in self.left))
         for course in self.courses:
@@ -115,12 +112,12 @@ class Parts:
             work = self.parts[self.part_of((course, number))].work
             for (kind, path), place in events.items():
                 work.add(WRITTEN if kind == OUTPUT else kind, path, place)
-        for last in self.pieces(course) if id(course) in self.cuts else [course.at]:
+        for last in self.ends[id(course)]:
             self.parts[self.part_of((course, last))].work.lives += course.lives
 
     def connect(self, course: Course) -> None:
         """Which part comes after which."""
-        row = [self.of[id(course), number] for number in range(len(self.pieces(course)))]
+        row = [self.of[id(course), number] for number in range(len(self.ends[id(course)]))]
         for first, second in zip(row, row[1:]):
             self.parts[second].after.add(first)
         if id(course) in self.roots:
@@ -140,11 +137,6 @@ class Parts:
         for part in self.parts:
             part.after = {number[at] for at in part.after}
         return [self.parts[at] for at in order]
-
-
-def matters(life: Life, written: Container[str]) -> bool:
-    """Whether others may see that a process is left: it changes something, or looks at what somebody changes."""
-    return any(kind in CHANGES + MADE or path in written for kind, path in life.events)
 
 
 def command(course: Course) -> str:

@@ -69,13 +69,14 @@ def owner(course: Course, number: int) -> Segment:
     return course, number
 
 
-def done_by(courses: List[Course]) -> Iterator[Tuple[Course, int, int, str, str]]:
-    """All that they did: the process, its segment, the place, the kind and the path."""
+def done_by(courses: List[Course]) -> Iterator[Did]:
+    """All that they did that counts here."""
     for course in courses:
         for number, events in enumerate(course.events_by_segment()):
             who = owner(course, number)
             for (kind, path), place in events.items():
-                yield (*who, place, kind, path)
+                if kind in KINDS or kind in HELD + LOCKED:
+                    yield Did(place, *who, MAKE if path.endswith("/") else KINDS.get(kind, kind), path.rstrip("/"))
 
 
 def conflicts_in(lives: List[Life]) -> List[Conflict]:
@@ -84,7 +85,7 @@ def conflicts_in(lives: List[Life]) -> List[Conflict]:
     if len(courses) < 2 or not any(course.marks for course in courses):
         return []
     changed = {path.rstrip("/") for life in lives for kind, path in life.events if KINDS.get(kind, SEEN) in GIVES}
-    return [*Frontier(courses, changed).found.values()] if changed else []
+    return [*Frontier(courses, changed).found] if changed else []
 
 
 class Frontier:
@@ -92,15 +93,13 @@ class Frontier:
 
     def __init__(self, courses: List[Course], changed: Set[str]) -> None:
         self.changed, self.inside = changed, {id(course) for course in courses}
-        rows = (Did(place, course, number, MAKE if path.endswith("/") else KINDS.get(kind, kind), path.rstrip("/"))
-                for course, number, place, kind, path in done_by(courses) if kind in KINDS or kind in HELD + LOCKED)
-        self.rows = sorted(rows, key=lambda row: row.place)
-        self.made = {row.path for row in self.rows if row.kind in MAKE + REMOVED}
-        self.held = {row.path for row in self.rows if row.kind in HELD + LOCKED}  # guard: files-of-locks-inside
+        rows = sorted(done_by(courses), key=lambda row: row.place)
+        self.made = {row.path for row in rows if row.kind in MAKE + REMOVED}
+        self.held = {row.path for row in rows if row.kind in HELD + LOCKED}  # guard: files-of-locks-inside
         self.table: Dict[str, Dict[Tuple[int, int, str], Did]] = {}
         self.asked: Set[Tuple[int, str]] = set()  # who has looked for which folder, or tried to make it
-        self.found: Dict[Tuple[str, int, int, int, int], Conflict] = {}
-        for row in self.rows:
+        self.found: Dict[Conflict, None] = {}
+        for row in rows:
             if row.kind not in HELD + LOCKED:
                 self.take(row)
 
@@ -136,8 +135,7 @@ class Frontier:
                 if before(first, second, False):
                     gone += [key] if old.kind == row.kind or row.kind in GIVES else []
                 elif is_pair and not self.is_of_make(fork_of(first, second)):
-                    key_of = (row.path, id(old.course), old.number, id(row.course), row.number)
-                    self.found.setdefault(key_of, Conflict(row.path, first, second, before(first, second, True)))
+                    self.found[Conflict(row.path, first, second, before(first, second, True))] = None
         for key in gone:
             del rows[key]
         rows[id(row.course), row.number, row.kind] = row

@@ -1,12 +1,14 @@
 """Tasks: what each reads and writes, what it waits for, and the order of them."""
 
 import heapq
+from collections import Counter
 from dataclasses import dataclass, field
 from typing import Any, Callable, Collection, Dict, Iterable, Iterator, List, Optional, Set, Tuple, TypeVar
 
 from record.build.work import Part, Tool, Work
 
 One = TypeVar("One")
+Other = TypeVar("Other")
 
 
 def reached(starts: Iterable[One], then: Callable[[One], Iterable[One]]) -> Set[One]:
@@ -18,6 +20,14 @@ def reached(starts: Iterable[One], then: Callable[[One], Iterable[One]]) -> Set[
         if one not in found:
             found.add(one)
             todo.extend(then(one))
+    return found
+
+
+def grouped(pairs: Iterable[Tuple[One, Other]]) -> Dict[One, List[Other]]:
+    """For each first one of some pairs all that come second, in order."""
+    found: Dict[One, List[Other]] = {}
+    for first, second in pairs:
+        found.setdefault(first, []).append(second)
     return found
 
 
@@ -104,10 +114,7 @@ class Build:
 
 def order_tasks(tasks: List[Task], after: List[Set[int]], keys: List[Tuple[int, int]]) -> Tuple[List[int], int]:
     """A serial order of tasks; edges that close a cycle are dropped and counted."""
-    users: List[List[int]] = [[] for _ in tasks]
-    for at, earlier in enumerate(after):
-        for one in earlier:
-            users[one].append(at)
+    users = grouped((one, at) for at, earlier in enumerate(after) for one in earlier)
     left = {at: len(earlier) for at, earlier in enumerate(after)}  # of those that are not in order yet: for so many each waits
     heap = [(keys[at], at) for at, count in left.items() if not count]
     heapq.heapify(heap)
@@ -122,7 +129,7 @@ def order_tasks(tasks: List[Task], after: List[Set[int]], keys: List[Tuple[int, 
         _, at = heapq.heappop(heap)
         order.append(at)
         del left[at]
-        for user in users[at]:
+        for user in users.get(at, ()):
             if user in left and at in after[user]:
                 left[user] -= 1
                 if left[user] == 0:
@@ -151,12 +158,8 @@ def befores(tasks: List[Task]) -> List[int]:
 
 def drop_lonely(tasks: List[Task], kept: Collection[str]) -> None:
     """Paths that one task alone touches say nothing, except those to keep; nor do reads of what nobody writes."""
-    count: Dict[str, int] = {}
-    written: Set[str] = set()
-    for task in tasks:
-        written |= task.writes
-        for path in task.reads | task.writes:
-            count[path] = count.get(path, 0) + 1
+    count = Counter(path for task in tasks for path in task.reads | task.writes)
+    written = set().union(*(task.writes for task in tasks))
     for task in tasks:
         task.reads = {p for p in task.reads if p in written and count[p] > 1 and p not in task.writes}
         task.leaves = {p for p in task.writes if count[p] == 1 and p not in kept}

@@ -2,6 +2,7 @@
 
 import json
 import re
+from collections import Counter
 from typing import TYPE_CHECKING, Any, Dict, Iterator, List, Mapping, Sequence, Set, Tuple
 
 if TYPE_CHECKING:
@@ -24,9 +25,7 @@ def file_of(path: str) -> str:
 
 def relative(root: str, path: str) -> str:
     """A path below the root without it."""
-    if path.startswith(root.rstrip("/") + "/"):
-        path = path[len(root.rstrip("/")) + 1:]
-    return shown(path)
+    return shown(path.removeprefix(root.rstrip("/") + "/"))
 
 
 def labels_of(tasks: "List[Task]") -> List[str]:
@@ -46,16 +45,12 @@ def labels_of(tasks: "List[Task]") -> List[str]:
 
 def lines_of(tasks: "Sequence[Task]", root: str, labels: List[str], more: Mapping[int, Dict[str, Any]] = {}) -> Iterator[Tuple[str, str]]:
     """Labels and lines of the text; long lists of prerequisites that many share stand once. `more` are keys of some tasks."""
-    share: Dict[Tuple[int, ...], int] = {}
-    for task in tasks:
-        key = tuple(sorted(task.after))
-        if len(key) > 3:
-            share[key] = share.get(key, 0) + 1
+    keys = [tuple(sorted(task.after)) for task in tasks]
+    share = Counter(key for key in keys if len(key) > 3)
     sets: Dict[Tuple[int, ...], str] = {}
-    for at, (task, label) in enumerate(zip(tasks, labels)):
-        key = tuple(sorted(task.after))
+    for at, (task, label, key) in enumerate(zip(tasks, labels, keys)):
         after = [labels[a] for a in key]
-        if share.get(key, 0) > 1:
+        if share[key] > 1:
             if key not in sets:
                 sets[key] = "set@%d" % len(sets)
                 while sets[key] in labels:

@@ -36,6 +36,7 @@ class Part:
     is_left: bool = False
 
 
+@dataclass(eq=False)
 class Tool:
     """A process that builds: a make or a ninja."""
 
@@ -49,7 +50,7 @@ def settle_parts(work: Work) -> None:
     for part in work.parts:
         own = {id(life) for life in part.work.lives}
         part.work.makes, part.work.ninjas = ([tool for tool in tools if id(tool.life) in own] for tools in (work.makes, work.ninjas))
-    for (kind, path), place in work.events.items() if work.parts else ():
+    for (kind, path), place in work.events.items():
         if (kind, path) not in done:
             work.parts[-1].work.add(kind, path, place)
 

@@ -5,7 +5,7 @@ from typing import Dict, List, Set
 
 from record.build.assumptions import Assumptions
 from record.build.builder import Builder
-from record.build.tasks import Build, Node, Task, reached
+from record.build.tasks import Build, Node, Task, grouped, reached
 from record.make.database import Base
 from record.make.graph import Graph, MakeBuild
 from record.make.owners import Make
@@ -25,19 +25,15 @@ class MakeBuilder(Builder):
     def run(self) -> Build:
         """All steps."""
         for node in self.graph.nodes.values():
-            node.path = self.path_of(node.name)
+            spelled = re.sub(r"\([^(]*\)$", "", self.graph.round.vpath.get(node.name, node.name))  # of a member of an archive the archive
+            node.path = self.names.find(self.make.folder, spelled, True).path  # as it was before the build or is now
         self.make_recipes()
-        self.note_writers()
+        self.note_events()
         self.make_questions()  # guard: targets-that-others-make
         self.connect()
+        self.add_asked()
         self.fill({self.names.find(self.make.folder, name, True).path for name in makefiles(self.make.words)})  # the next build reads those that this one looked for
         return self.build
-
-    def path_of(self, name: str) -> str:
-        """The real path of a target, as it was before the build or is now."""
-        spelled = self.graph.round.vpath.get(name, name)
-        archive = re.match(r"(.*)\((.*)\)$", spelled)
-        return self.names.find(self.make.folder, archive.group(1) if archive else spelled, True).path
 
     # ---------------------------------------------------------------- tasks
     def make_recipes(self) -> None:
@@ -49,8 +45,7 @@ class MakeBuilder(Builder):
             self.build.tasks.append(Task(CALLED, Node(CALLED, CALLED, 0, 0), "part", part=part))
 
     def make_questions(self) -> None:
-        """A task for each target whose recipe did not run, or that has none, and that a recipe writes: make has asked whether it is there. For a plain file it
-        asks before it starts what it considers later."""
+        """A task for each target that only recipes of others write: make has asked whether it is there, and for a plain file before it starts what comes later."""
         for node in self.graph.nodes.values():
             makers = self.build.writers.get(node.path, ()) if node.label not in self.of_node and not node.phony else ()
             if any(node.prerequisites or self.build.tasks[at].node.first < node.first for at in makers):  # guard: targets-that-others-make-first
@@ -58,8 +53,10 @@ class MakeBuilder(Builder):
 
     # ---------------------------------------------------------------- order
     def connect(self) -> None:
-        """Edges between tasks: what was asked for."""
-        for label in sorted(self.kept(), key=lambda n: self.graph.nodes[n].first):
+        """Edges between tasks: what was asked for. Targets that stand above a task, and that others need, become tasks too."""
+        users = grouped((one, node.label) for node in self.graph.nodes.values() for one in node.prerequisites)
+        kept = (reached(self.of_node, lambda label: users.get(label, ())) & users.keys()) - self.of_node.keys()
+        for label in sorted(kept, key=lambda n: self.graph.nodes[n].first):
             self.add(self.graph.nodes[label], "group")
         after: List[Set[int]] = [set() for _ in self.build.tasks]
         for label, at in self.of_node.items():
@@ -68,29 +65,17 @@ class MakeBuilder(Builder):
         jobs = {label: place for place, label in enumerate(dict.fromkeys(of_job[id(job)] for job in self.graph.round.jobs))}
         self.put_in_order(after, [(task.node.done, jobs.get(task.node.label, 0)) for task in self.build.tasks])
 
-    def is_serial(self) -> bool:
-        """Whether this make runs one recipe at a time whatever the user says."""
-        return is_row(self.graph.base, self.make.words) or self.make.has_one_slot()  # guard: notparallel
-
-    def kept(self) -> Set[str]:
-        """Targets without a task of their own that stand above one, and that others need."""
-        users: Dict[str, List[str]] = {}
-        for node in self.graph.nodes.values():
-            for one in node.prerequisites:
-                users.setdefault(one, []).append(node.label)
-        return (reached(self.of_node, lambda label: users.get(label, ())) & users.keys()) - self.of_node.keys()
-
     def arrange(self, order: List[int], after: List[Set[int]]) -> None:
-        """Recipes that make runs one at a time come one after the other."""
-        row = [at for at in order if self.build.tasks[at].kind != "part"] if self.is_serial() else []
+        """Recipes that make runs one at a time, whatever the user says, come one after the other."""
+        is_serial = is_row(self.graph.base, self.make.words) or self.make.has_one_slot()  # guard: notparallel
+        row = [at for at in order if self.build.tasks[at].kind != "part"] if is_serial else []
         for first, second in zip(row, row[1:]):
             for at in (second, *self.build.tasks[second].parts):
                 after[at].add(first)
         super().arrange(order, after)
 
     def add_asked(self) -> None:
-        """Make asks whether a target is there, and how old it is. What comes of that is tried out in other orders; where it is not, the target meets who writes
-        the file beside its own recipe."""
+        """Make asks whether a target is there, and how old it is: where that is not tried out in other orders, it meets who writes the file beside its recipe."""
         for label, at in self.of_node.items():
             task, node = self.build.tasks[at], self.graph.nodes[label]
             if not (node.phony or node.path in task.reads | task.writes) and self.build.writers.get(node.path, set()) - {at}:  # guard: names-for-which-make-asks

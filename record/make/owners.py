@@ -7,7 +7,7 @@ import re
 from bisect import bisect
 from dataclasses import dataclass, field
 from functools import cached_property
-from typing import Dict, Iterable, Iterator, List, Optional, Set, Tuple
+from typing import Dict, Iterable, Iterator, List, Optional, Set
 
 from record import machine
 from record.build.parts import divide
@@ -15,7 +15,7 @@ from record.build.tasks import Job
 from record.build.work import Part, Tool, Work, written_by
 from record.make.words import Words, makefiles
 from record.trace.events import CHANGES, ENTERED, INSIDE, MAKES, READ
-from record.trace.lives import Key, Life
+from record.trace.lives import Life
 
 MAGIC = re.compile(r"[*?\[]")
 LOOSE = re.compile(r"\\.|\[[!^]?\]?[^\]/]*\]|\[")  # what stands for one sign in a pattern of `glob`: more names fit `?`
@@ -35,8 +35,6 @@ class Make(Tool):
     """A make process: its words, its life, its folder, and what each of its jobs did."""
 
     words: Words
-    life: Life
-    folder: str
     work: Dict[int, Work] = field(default_factory=dict)  # by id of the job
     left: List[Part] = field(default_factory=list)  # processes that its own calls leave running, as `$(shell a &)`
 
@@ -77,7 +75,6 @@ class Owners:
     def __init__(self, lives: List[Life], words: List[Words]) -> None:
         self.lives = lives
         self.holes: List[str] = []
-        self.makes: List[Make] = []
         self.of_life: Dict[int, Make] = {}
         self.written = written_by(lives)
         self.has_waits = any(life.course.waited is not None for life in lives)  # a trace that was kept before waits were traced has none: then a recipe is one task
@@ -89,9 +86,11 @@ class Owners:
                 if found is None:
                     self.holes.append("a make has no words: " + " ".join(life.argv)[:100])  # guard: make-without-words
                 else:
-                    self.add_make(life, found)
+                    self.of_life[id(life)] = Make(life, self.folder_of(life, found), found)
+                    self.holes += ["a make did not end: make " + found.args] if found.status is None else []  # guard: make-that-did-not-end
         for (pid, _), found in by_key.items():
             self.holes.append("a make has no process in the trace: %d %s" % (pid, found.args))  # guard: words-without-make
+        self.makes = [*self.of_life.values()]
         for make in self.makes:
             self.holes.extend(make.words.holes)
             self.match_jobs(make)
@@ -101,13 +100,6 @@ class Owners:
             for work in make.work.values():
                 self.divide(work)
             make.left = [part for work in self.called(make) for part in self.divide(work) if part.is_left]
-
-    def add_make(self, life: Life, words: Words) -> None:
-        """One more make, with what it said; that it did not end, or failed, is a hole."""
-        make = Make(words, life, self.folder_of(life, words))
-        self.makes.append(make)
-        self.of_life[id(life)] = make
-        self.holes += ["a make did not end: make " + words.args] if words.status is None else []  # guard: make-that-did-not-end
 
     @staticmethod
     def folder_of(life: Life, words: Words) -> str:
@@ -157,8 +149,7 @@ class Owners:
                     work.add(*key, place)
 
     def collect(self, make: Make) -> None:
-        """The work of all jobs of a make. What it and its calls change while it expands a recipe is of that recipe, which it starts next. What they read is tried out in
-        other orders."""
+        """The work of all jobs of a make. What it and its calls change while it expands a recipe is of that recipe, which it starts next."""
         first: Dict[int, int] = {}  # by id of a job, in order: where it begins
         for life in sorted(make.life.children, key=lambda life: life.born):
             job = self.jobs.get(id(life))
@@ -166,17 +157,11 @@ class Owners:
                 first.setdefault(id(job), life.born)
                 self.take(make.work.setdefault(id(job), Work()), life)
         jobs, begun = [*first], [*first.values()]
-        for (kind, path), place in self.expanding(make):
+        expanding = [make.life, *(one for life in make.life.children if id(life) not in self.jobs for one in self.below(life))]
+        for (kind, path), place in (event for life in expanding for event in life.events.items()):
             at = bisect(begun, place)
             if kind in CHANGES + MAKES and 0 < at < len(jobs):  # guard: what-make-expands
                 make.work[jobs[at]].add(kind, path, place)
-
-    def expanding(self, make: Make) -> Iterator[Tuple[Key, int]]:
-        """What a make and its calls do."""
-        yield from make.life.events.items()
-        for life in make.life.children:
-            for one in self.below(life) if id(life) not in self.jobs else ():
-                yield from one.events.items()
 
     def divide(self, work: Work) -> List[Part]:
         """The parts of a recipe."""

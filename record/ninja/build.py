@@ -52,17 +52,16 @@ class NinjaBuilder(Builder):
     build: NinjaBuild
 
     def __init__(self, ninja: Ninja, number: int, before: Dict[str, str], removed: Set[str], names: Names, assumed: Assumptions) -> None:
-        self.ninja, self.number, self.stage = ninja, number, ninja.stages[number]
+        self.ninja, self.number, self.stage, self.removed = ninja, number, ninja.stages[number], removed
         is_last = number == len(ninja.stages) - 1
         super().__init__(names, assumed, NinjaBuild(ninja, self.stage, "goals" if is_last else "manifest"), before)
-        self.removed = removed
 
     def run(self) -> Build:
         """All steps."""
         self.make_tasks()
         self.check_order()
         self.check_folders()
-        self.note_writers()
+        self.note_events()
         self.fill()
         self.put_makers_first()
         return self.build
@@ -133,20 +132,16 @@ class NinjaBuilder(Builder):
             self.add_folder(work, folder, begin)  # guard: folders-of-outputs
             if edge.is_restat or edge.is_generator or edge.value("deps"):  # guard: looks-after-restat
                 work.add("S", join(folder, os.path.basename(path)), end)
-        response, found = edge.path("rspfile"), edge.path("depfile")
+        response, found, dyndep = edge.path("rspfile"), edge.path("depfile"), edge.path("dyndep")
         folder = self.full(os.path.dirname(found) or ".")
         if found and ("M", folder) in self.ninja.life.events:  # later ninjas make it too
             self.add_folder(work, folder, begin)
-        if response:  # guard: response-files
-            for kind in "CWRD":
-                work.add(kind, self.full(response), begin)
-        if found and edge.value("deps") == "gcc":  # guard: depfiles
-            for kind in "RD":
-                work.add(kind, self.full(found), end)
-        dyndep = edge.path("dyndep")
-        if dyndep:
-            for path in [dyndep] + edge.waits() + edge.makes():
-                work.add("S", self.full(path), begin)
+        for kind in "CWRD" if response else "":  # guard: response-files
+            work.add(kind, self.full(response), begin)
+        for kind in "RD" if found and edge.value("deps") == "gcc" else "":  # guard: depfiles
+            work.add(kind, self.full(found), end)
+        for path in [dyndep, *edge.waits(), *edge.makes()] if dyndep else ():
+            work.add("S", self.full(path), begin)
 
     def add_folder(self, work: Work, folder: str, place: int) -> None:
         """Ninja makes a folder, and those above it, if they are not there."""

@@ -12,7 +12,7 @@ from dataclasses import dataclass, field
 from functools import cached_property
 from typing import Callable, Dict, Iterator, List, Optional, Set, Tuple
 
-from record.build.tasks import reached
+from record.build.tasks import grouped, reached
 
 VARIABLE = re.compile(r"\$(?:\{([A-Za-z0-9_.-]+)\}|([A-Za-z0-9_-]+)|(.?))", re.S)
 TOKEN = re.compile(r"(\|\||\|@|\||:)|((?:\$.|[^ :|$])+)")
@@ -75,7 +75,7 @@ class Edge:
     @property
     def label(self) -> str:
         """The first output."""
-        return (self.outputs + self.implicit_outputs)[0]
+        return self.makes()[0]
 
     def makes(self) -> List[str]:
         """All outputs."""
@@ -168,11 +168,7 @@ class Manifest:
     @cached_property
     def users(self) -> Dict[str, List[Edge]]:
         """For each path the statements that wait for it. Asked when all is read."""
-        found: Dict[str, List[Edge]] = {}
-        for edge in self.edges:
-            for path in edge.waits():
-                found.setdefault(path, []).append(edge)
-        return found
+        return grouped((path, edge) for edge in self.edges for path in edge.waits())
 
     def users_of(self, edge: Edge) -> List[Edge]:
         """The statements that wait for a statement."""
@@ -180,13 +176,9 @@ class Manifest:
 
     def goals(self, names: List[str]) -> Optional[List[Edge]]:
         """The statements that words of the command line name; without words the default; None where a word is not known."""
-        asked = [canonical(n) for n in names] or self.defaults or self.roots()
+        needed = {path for edge in self.edges for path in edge.waits() + edge.validations}
+        asked = [canonical(n) for n in names] or self.defaults or [path for path in self.makers if path not in needed]
         return [self.makers[name] for name in asked] if self.makers.keys() >= {*asked} else None
-
-    def roots(self) -> List[str]:
-        """Outputs that no statement needs."""
-        asked = {path for edge in self.edges for path in edge.waits() + edge.validations}
-        return [path for path in self.makers if path not in asked]
 
     def below(self, goals: List[Edge]) -> Set[int]:
         """The numbers of all statements that goals need, validations with them."""
@@ -205,8 +197,7 @@ class Reader:
         self.manifest.files.append(name)
         statements: List[Tuple[int, str, Dict[str, str]]] = []
         for number, text in logical_lines(self.text_of(os.path.join(self.manifest.folder, name))):
-            binding = LET.fullmatch(text)
-            if binding is not None and text.startswith(" "):
+            if text.startswith(" ") and (binding := LET.fullmatch(text)):
                 statements[-1][2][binding[1]] = binding[2]
             elif text.strip(" "):
                 statements.append((number, text, {}))
@@ -216,8 +207,7 @@ class Reader:
     def statement(self, file: str, number: int, text: str, block: Dict[str, str], scope: Scope) -> None:
         """One statement, and what it is."""
         word, _, rest = text.partition(" ")
-        binding = LET.fullmatch(text)
-        if binding is not None:
+        if binding := LET.fullmatch(text):
             scope.values[binding[1]] = evaluate(binding[2], scope.value)
         elif word == "rule":
             scope.rules[rest.strip(" ")] = block

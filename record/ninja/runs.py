@@ -8,6 +8,7 @@ from functools import partial
 from typing import Dict, List, Optional, Set, Tuple
 
 from record import machine
+from record.build.tasks import grouped
 from record.build.work import Tool, Work
 from record.commands import shelltext
 from record.make.owners import Owners
@@ -50,8 +51,6 @@ class Stage:
 class Ninja(Tool):
     """One ninja process."""
 
-    life: Life
-    folder: str
     file: str
     goals: List[str]
     stages: List[Stage] = field(default_factory=list)
@@ -85,9 +84,7 @@ def options_of(argv: List[str]) -> "Optional[Tuple[Dict[str, str], List[str]]]":
     except getopt.GetoptError:
         return None
     options = dict(found)
-    if any(name in options for name in ("-n", "-t", "-h", "--help", "--version")):
-        return None
-    return options, goals
+    return (options, goals) if options.keys().isdisjoint(("-n", "-t", "-h", "--help", "--version")) else None
 
 
 def is_unknown(life: Life) -> bool:
@@ -219,10 +216,7 @@ class Runs:
 
     def attribute_stage(self, stage: Stage) -> None:
         """Each command is that of one statement, and ran once."""
-        by_text: Dict[str, List[Edge]] = {}
-        for edge in stage.manifest.edges:
-            if not edge.is_phony:
-                by_text.setdefault(edge.command, []).append(edge)
+        by_text = grouped((edge.command, edge) for edge in stage.manifest.edges if not edge.is_phony)
         for job in stage.jobs:
             edges = by_text.get(job.text, [])
             if not edges or job.life.cut:  # guard: command-that-is-cut

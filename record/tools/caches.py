@@ -25,8 +25,6 @@ class Keeper:
 
 
 GIT_ASKS = r"\S+ (?:-[Cc] \S+ |--[\w-]+(?:=\S+)? |-p )*(?:describe|diff|diff-files|diff-index|log|ls-files|name-rev|rev-list|rev-parse|show|status)(?: |$)"
-
-
 KEEPERS = (
     Keeper(re.compile(r"ccache"), re.compile(r"(/.+?)/(?:tmp/\.cleaned|(?:[0-9a-f]/){1,2}(?:stats|CACHEDIR\.TAG))"), re.compile("(?!ccache -)")),  # guard: ccache-that-says-what-it-keeps
     Keeper(re.compile(r"cargo"), re.compile(r"(/.+/\.(?:global-cache(?:-journal)?|package-cache(?:-mutate)?))")),

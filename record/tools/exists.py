@@ -8,6 +8,7 @@ import os
 import re
 from typing import Dict, Iterable, List, Set, Tuple
 
+from record.build.tasks import grouped
 from record.build.work import Work
 from record.make.database import Base
 from record.make.owners import Owners
@@ -22,9 +23,7 @@ Looks = Dict[Tuple[int, str], int]  # when a make looked at such a file, by id o
 
 def settle_exists(lives: List[Life], logs: Iterable[Words]) -> Tuple[Set[str], Looks]:
     """Leaves out such files, and says which they are, and when each make looked at one."""
-    users: Dict[str, List[Life]] = {}
-    for life, path in ((life, path) for life in lives for _, path in life.events if path.endswith("/" + NAME)):
-        users.setdefault(path, []).append(life)
+    users = grouped((path, life) for life in lives for _, path in life.events if path.endswith("/" + NAME))
     bases = [one.base for words in logs for one in words.rounds if one.base is not None] if users else []
     listed = {os.path.dirname(path) for path in users} & {path for life in lives if users for kind, path in life.events if kind == LISTED}
     plain = {path for path in users if os.path.dirname(path) not in listed and all(is_plain(base, path) for base in bases)}  # guard: folders-that-are-listed

@@ -19,8 +19,7 @@ def is_python(life: Life) -> bool:
 
 
 def settle(lives: List[Life], tops: Sequence[str] = ()) -> Iterator[Tuple[str, str]]:
-    """Puts the source in the place of byte code that Python keeps; what that assumes, with its words. Where another program looks into a folder of byte
-    code, all of that stays as it is."""
+    """Puts the source in the place of byte code that Python keeps, except in a folder into which another program looks; what that assumes, with its words."""
     known = [life for life in lives if is_python(life)]
     others = {cache_of(path) for life in lives if not is_python(life) for _, path in life.events if CACHE in path}
     for life in known:

@@ -7,7 +7,7 @@ from guard import FALSE_RACE, UNSAID, YES, Guard, guards
 GUARDS: List[Guard] = [
     *guards("build/builder.py",
         ("listings-count", "pass", "orders.Orders.case_user_between_two_makers_beside_others", UNSAID),
-        ("failed-looks-are-reads", 'elif kind in "RS" and path in self.build.writers:', "small.Makefiles.absent_file", YES),
+        ("failed-looks-are-reads", 'task.reads = {path for kind, path, _ in task.events() if kind in "RS" and path in writers}', "small.Makefiles.absent_file", YES),
     ),
     *guards("build/folders.py",
         ("there-before-build", "if kind in MAKES:", "folders.Folders.folder_that_was_there"),

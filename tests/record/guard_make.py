@@ -10,7 +10,7 @@ GUARDS: List[Guard] = [
         ("targets-that-others-make-first", "if makers:", "make_build.Makefiles.file_that_a_recipe_makes_when_make_has_asked", FALSE_RACE),
         ("names-for-which-make-asks", "if False:", "make_build.Makefiles.target_that_another_recipe_makes", YES),
         ("rows-of-some-targets", "return base.serial and not base.prerequisites.get(\".NOTPARALLEL\")", "make_build.Builds.a_row_of_some_targets"),
-        ("notparallel", "return self.make.has_one_slot()", "cases.Cases.not_parallel", FALSE_RACE),
+        ("notparallel", "is_serial = self.make.has_one_slot()", "cases.Cases.not_parallel", FALSE_RACE),
     ),
     *guards("make/database.py",
         ("words-of-data-base", "return text.split()", "strace.Marks.words_of_the_data_base"),

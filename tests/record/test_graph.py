@@ -24,7 +24,7 @@ def graph_of(considered: str, base: str, jobs: List[str]) -> Graph:
     lines += ["Putting child 0x%d (%s) PID %d on the chain." % (n, job, n + 10) for n, job in enumerate(jobs)]
     text = ["# Make data base, printed on Monday", "# Files", "", *base.split("\n"), "# files hash-table stats:", "# Finished Make data base on Monday"]
     words = read_words(7, 0, lines + text + ["EXIT 0"])
-    return Graph(Make(words, Life(7), "/w"), 0)
+    return Graph(Make(Life(7), "/w", words), 0)
 
 
 RECIPE = "#  recipe to execute (from 'Makefile', line 1):\n\ttouch $@\n"

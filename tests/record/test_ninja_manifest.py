@@ -114,7 +114,8 @@ class Texts(unittest.TestCase):
         self.assertEqual(({0, 1, 2}, None), (manifest.below(goals), manifest.goals(["nobody"])))
 
     def test_defaults_are_what_nobody_asks_for(self) -> None:
-        self.assertEqual(["a", "d"], self.read("rule r\n  command = t\nbuild a: r b\nbuild b: r\nbuild d: r\n").roots())
+        manifest = self.read("rule r\n  command = t\nbuild a: r b\nbuild b: r\nbuild d: r\n")
+        self.assertEqual([manifest.makers["a"], manifest.makers["d"]], manifest.goals([]))
 
     def test_dyndep_file(self) -> None:
         (one,) = self.read("ninja_dyndep_version = 1\nbuild a | b c: dyndep | d $\n  e\n  restat = 1\n").edges

@@ -137,5 +137,5 @@ class Texts(unittest.TestCase):
     def test_makefile_that_is_written_again(self) -> None:
         with support.Project({"M": "new\n", "copy": "old\n"}) as project:
             words = Words(7, 0, read=[["M"]], copies={"M": [str(project.folder / "copy")]}, times=Counter({"M": 1}))
-            make = Make(words, Life(7), str(project.folder))
+            make = Make(Life(7), str(project.folder), words)
             self.assertEqual("old\n", make.known_text("M"))

@@ -40,12 +40,12 @@ class Patterns(unittest.TestCase):
     def test_make_that_nobody_hears(self) -> None:
         for lines, found in (([], []), (["DEAF "], ["*"])):
             words = read_words(7, 0, [*HEAD[:4], *lines, *HEAD[4:], *BASE, "EXIT 0"], "")
-            self.assertEqual(found, [*Make(words, Life(7), "/w").patterns])
+            self.assertEqual(found, [*Make(Life(7), "/w", words).patterns])
 
     def test_parts_of_patterns(self) -> None:
         lines = ["GLOB " + pattern for pattern in ("*.c", "/w/e/*", "{a,b}/?", "d/[!a]*/x", "k.c")]
         words = read_words(7, 0, [*HEAD[:4], *lines, *HEAD[4:], *BASE, "EXIT 0"], "")
-        self.assertEqual({"*.c", "*", "?", "?*"}, Make(words, Life(7), "/w").patterns)
+        self.assertEqual({"*.c", "*", "?", "?*"}, Make(Life(7), "/w", words).patterns)
 
 
 class Holes(unittest.TestCase):
