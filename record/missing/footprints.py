@@ -9,7 +9,7 @@ from record.commands.shelltext import is_removal
 from record.commands.system import is_below
 from record.make.graph import MakeBuild
 from record.tools.python import BYTE_CODE
-from record.trace.events import ABSENT, LISTED
+from record.trace.events import ABSENT, LISTED, MAKES
 from record.trace.names import Names
 
 CHANGES = "WCD"
@@ -58,16 +58,14 @@ class Footprints:
         name = path.rstrip("/")
         if kind == "t" and not os.path.isdir(name):
             self.set_back.add(name)
-        if kind not in "RSlNLWCDMTE":
-            return
         code = BYTE_CODE.match(name)
-        if code and kind != "R":
-            return  # Python keeps what it has compiled, and holds it against the source
+        if kind not in "RSlNLWCDME" or code and kind != "R":  # Python keeps what it has compiled, and holds it against the source
+            return
         name = code.group(1) + code.group(2) + ".py" if code else name
         if not self.names.is_inside(name):
             if kind == "R":
                 self.outside.add(name)
-        elif kind in "MTE" or path.endswith("/"):
+        elif kind in MAKES or path.endswith("/"):
             self.folders[at].add(name)
         elif kind in CHANGES:
             self.writes[at].add(name)
@@ -90,12 +88,10 @@ class Footprints:
     def drop_temporaries(self) -> None:
         """Names that are gone before and after the build, where each recipe that touches them makes and removes them itself."""
         gone = {path for path in self.written if path not in self.names.before and not os.path.lexists(path)}
-        for at, (reads, writes) in enumerate(zip(self.reads, self.writes)):
-            gone -= (reads | writes) - self.removes[at]  # guard: temporaries
-        for at in range(len(self.reads)):
-            self.reads[at] -= gone
-            self.writes[at] -= gone
-        self.written -= gone
+        for reads, writes, removes in zip(self.reads, self.writes, self.removes):
+            gone -= (reads | writes) - removes  # guard: temporaries
+        for paths in (*self.reads, *self.writes, self.written):
+            paths.difference_update(gone)
 
     def inputs(self, paths: Set[str]) -> Set[str]:
         """The names of some that are read that can change and matter: files that are written here, or that are there."""

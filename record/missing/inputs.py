@@ -8,7 +8,7 @@ import os
 import re
 from dataclasses import dataclass, field, replace
 from pathlib import Path
-from typing import Any, Dict, Iterator, List, Sequence, Set, Tuple
+from typing import Any, Dict, List, Sequence, Set, Tuple
 
 from record.build.assumptions import Assumptions
 from record.build.tasks import Build
@@ -36,10 +36,8 @@ COUNTS = ("missing", "late", "shared", "present", "tree", "races")
 def write_missing(out: Path, record: Record, builds: List[Build], makes: List[Make], names: Names, lives: List[Life]) -> Dict[str, Any]:
     """The tasks of old trees beside those of each build; what they take for granted, and why there may be no answer."""
     premises = Assumptions()
-    premises.add("later", "")
-    premises.add("traces", "")
-    for name in record.warm + record.configured:
-        premises.add("not-run", relative(record.folder, name))
+    for kind, example in (("later", ""), ("traces", ""), *(("not-run", relative(record.folder, name)) for name in record.warm + record.configured)):
+        premises.add(kind, example)
     begun = lives[0].begun if record.first is not None and record.first.setup else 0  # what comes before that is no part of a later build
     makes, lives = [make for make in makes if make.life.died > begun], [life for life in lives if life.died > begun]
     rounds = [(number, build) for number, build in zip(record.builds, builds) if isinstance(build, MakeBuild) and build.make in makes]
@@ -55,9 +53,8 @@ def write_missing(out: Path, record: Record, builds: List[Build], makes: List[Ma
             tree = OldTree(build, names, later, knows, premises)
             holes += ["the recipe of %s does not run where all sources have a new time" % name for name in tree.silent]  # guard: recipes-that-do-not-run-again
             judged += write_old_tree(out / "builds" / number, tree)
-    for path in sorted(later.unstable):
-        premises.add("unstable", relative(record.folder, path))
-    for kind, paths in (("not-run", made_elsewhere([build for _, build in rounds], names, changed)), ("called", called(makes, names, lives, changed))):  # guard: what-another-recipe-made
+    elsewhere = made_elsewhere([build for _, build in rounds], names, changed)  # guard: what-another-recipe-made
+    for kind, paths in (("unstable", later.unstable), ("not-run", elsewhere), ("called", called(makes, names, lives, changed))):
         for path in sorted(paths):
             premises.add(kind, relative(record.folder, path))
     otherwise = later.otherwise - kept_by_builder(later.otherwise, lives) - makefiles_of(makes, names)
@@ -96,9 +93,8 @@ def called(makes: Sequence[Make], names: Names, lives: Sequence[Life], changed: 
 
 def write_old_tree(folder: Path, tree: OldTree) -> int:
     """Both texts; how many recipes they judge."""
-    with open(folder / TASKS, "w", encoding="utf-8", errors="backslashreplace") as file:
-        file.writelines(line + "\n" for line in tree.lines())
-    (folder / LISTING).write_text("".join(line + "\n" for line in tree.listing() if "\n" not in line), encoding="utf-8", errors="backslashreplace")
+    for name, lines in ((TASKS, tree.lines()), (LISTING, tree.listing())):
+        (folder / name).write_text("".join(line + "\n" for line in lines), encoding="utf-8", errors="backslashreplace")
     return sum(1 for at in tree.makes if tree.tasks[at].kind == "recipe")
 
 
@@ -125,35 +121,24 @@ class Answer:
 
 def labels_in(tasks: Path) -> Tuple[Dict[str, str], Set[str]]:
     """The label of each name by which a report calls a task: the file that it makes, or the label itself. And the files that have no rule."""
-    found: Dict[str, str] = {}
-    loose: Set[str] = set()
     with open(tasks, encoding="utf-8", errors="surrogateescape") as lines:
-        for one in map(json.loads, lines):
-            label = one.get("of", one["task"])
-            found.setdefault(one["task"], label)
-            if "makes" in one:
-                found[one["makes"]] = label
-            loose.update(one.get("loose", ()))
-    return found, loose
+        found = [*map(json.loads, lines)]
+    labels = {one[key]: one.get("of", one["task"]) for key in ("task", "makes") for one in found if key in one}
+    return labels, {name for one in found for name in one.get("loose", ())}
 
 
-def read_answer(lines: List[str], labels: Dict[str, str], loose: Set[str]) -> Iterator[Found]:
+def read_answer(lines: List[str], labels: Dict[str, str], loose: Set[str]) -> List[Found]:
     """The violations of a report; a line to add belongs to the one before it, unless it names a file that has no rule."""
-
-    def called(name: str) -> str:
-        return labels.get(unshown(name), unshown(name))
-
-    last: List[Found] = []
+    found: List[Found] = []
     for text in lines:
-        found, add = FOUND.match(text), ADD.match(text)
-        if found:
-            kind, path, reader, _, writer = found.groups()
-            yield from last
-            last = [Found(kind, unshown(path), called(reader), called(writer) if writer else "")]
-        elif add and last:
-            file = last[0].path if add.group(2).startswith(KEPT + "/") else unshown(add.group(2))
-            last = [replace(last[0], add="" if file in loose else file)]  # guard: lines-that-do-not-help
-    yield from last
+        match, add = FOUND.match(text), ADD.match(text)
+        if match:
+            kind, path, reader, _, writer = map(unshown, match.groups(""))
+            found.append(Found(kind, path, labels.get(reader, reader), labels.get(writer, writer)))
+        elif add and found:
+            file = found[-1].path if add.group(2).startswith(KEPT + "/") else unshown(add.group(2))
+            found[-1] = replace(found[-1], add="" if file in loose else file)  # guard: lines-that-do-not-help
+    return found
 
 
 def judge_missing(race: str, folder: Path, root: str) -> Answer:
@@ -164,7 +149,7 @@ def judge_missing(race: str, folder: Path, root: str) -> Answer:
     lines = ran.stdout.split("\n")
     head = next((at for at, text in enumerate(lines) if text.startswith("waits ")), -1) + 1
     counts = {word: int(number) for word, _, number in (text.partition(" ") for text in lines[:head]) if number.isdigit()}
-    answer = Answer(list(read_answer(lines[head:], *labels_in(folder / TASKS))), counts.get("races", 0))
+    answer = Answer(read_answer(lines[head:], *labels_in(folder / TASKS)), counts.get("races", 0))
     is_whole = all(word in counts for word in COUNTS) and sum(counts[word] for word in COUNTS[:-1]) == len(answer.found)  # guard: reports-that-are-cut
     if not is_whole or ran.returncode != int(any(counts[word] for word in COUNTS)):
         answer.refused = " ".join((ran.stdout + ran.stderr).split())[:300] or "race missing " + ended(ran.returncode)

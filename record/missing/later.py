@@ -42,20 +42,17 @@ class Knows:
     nodes: Set[str] = field(default_factory=set)  # targets that they considered
     ran: Set[str] = field(default_factory=set)  # targets whose recipes ran
 
-    def take(self, words: Words) -> None:
-        """One more make."""
-        for one in words.rounds:
-            self.base = one.base or self.base
-            self.vpath.update(one.vpath)
-            self.nodes.update(one.nodes)
-            self.ran.update(job.target for job in one.jobs)
-
 
 def known(logs: Iterable[Words]) -> Dict[Call, Knows]:
     """What all makes of a build know."""
     found: Dict[Call, Knows] = {}
     for words in logs:
-        found.setdefault(call_of(words), Knows()).take(words)
+        knows = found.setdefault(call_of(words), Knows())
+        for one in words.rounds:
+            knows.base = one.base or knows.base
+            knows.vpath.update(one.vpath)
+            knows.nodes.update(one.nodes)
+            knows.ran.update(job.target for job in one.jobs)
     return found
 
 
@@ -155,10 +152,9 @@ def callers_of(makes: Sequence[Make]) -> Dict[int, Tuple[Make, Job]]:
 def look_ahead(record: Record, makes: Sequence[Make], names: Names, changed: Set[str], out: Path) -> Later:
     """Makes these builds. Where they cannot be made, nothing is known of them."""
     later = Later(makes, changed)
-    rooms = room_of_programs(names.tops)
     try:
-        if makes and rooms and record.status == 0:
-            with new_room(names.tops, (), record.words, os.path.realpath(out), rooms, lambda place, plan: 1) as room:
+        if makes and record.status == 0:
+            with new_room(names.tops, (), record.words, os.path.realpath(out), room_of_programs(names.tops), lambda place, plan: 1) as room:
                 room.bound(record.seconds)
                 later.run(room)
     except CannotTry as fault:

@@ -33,7 +33,6 @@ class OldTree:
         self.needs: Dict[int, List[str]] = {}
         self.paths: Dict[str, List[str]] = {}  # by prerequisite
         self.owners: Dict[int, str] = {}  # of a task that stands for an output: the label of the recipe
-        self.kept: Set[int] = set()  # recipes that may leave their target alone where nothing has changed
         self.choose()
         touched = (self.tasks[at].node for at, needs in self.needs.items() if not later.sources.isdisjoint(needs))
         self.silent = [node.name for node in touched if node.jobs and not self.runs(self.again, node)]  # they do not run again though a source has a new time
@@ -59,9 +58,7 @@ class OldTree:
                     self.premises.add(why, task.node.name)
                 else:
                     self.needs[at] = [one for one in needs or () if one != path]
-                    self.note_run(at, path)
-                    stand_in = self.stand_in(KEPT, relative(self.build.folder, path))
-                    found.setdefault(stand_in if at in self.kept else path, []).append(at)
+                    found.setdefault(self.made(at, path), []).append(at)
         for path, who in found.items():
             if len(who) == 1:
                 self.makes[who[0]] = path
@@ -92,16 +89,16 @@ class OldTree:
         """A name that no file has, in the place of another."""
         return "%s/%s/%s" % (self.build.folder.rstrip("/"), kind, name.strip("/") or "root")
 
-    def note_run(self, at: int, path: str) -> None:
-        """Notes whether a recipe leaves its target alone in a build of an old tree, or makes it anew in each build. One that runs there for no file that
-        is newer, and does nothing, asks which are (`$?`)."""
+    def made(self, at: int, path: str) -> str:
+        """What a recipe makes: its target, or, where it may leave that alone in a build of an old tree, what stands for its run. One that runs there for no
+        file that is newer, and does nothing, asks which are (`$?`)."""
         task, later, never = self.build.tasks[at], self.later, self.stand_in(NEVER, "/")[: -len("root")]
         is_forced = any(one in later.remade or one.startswith(never) for one in self.needs[at])
         is_done = path in (later.remade if is_forced else later.renewed) or not os.path.lexists(path) or not (is_forced or self.runs(self.again, task.node))
         if is_forced and not is_done and not self.runs(self.knows, task.node):  # guard: what-is-newer
             self.needs[at] = [one for one in self.needs[at] if not one.startswith(never)]
-        if not is_done or any(work.makes or work.ninjas for work in task.works):  # guard: targets-that-are-left-alone
-            self.kept.add(at)
+        is_kept = not is_done or any(work.makes or work.ninjas for work in task.works)  # guard: targets-that-are-left-alone
+        return self.stand_in(KEPT, relative(self.build.folder, path)) if is_kept else path
 
     def runs(self, knows: Optional[Knows], node: Node) -> bool:
         """Whether a recipe ran in a later build, as far as its make was called there."""
@@ -109,17 +106,14 @@ class OldTree:
 
     def paths_needed(self, node: Node) -> Optional[List[str]]:
         """The files that make a target run, those of all targets of its recipe. None where a name is none of the data base: blanks in names cut them."""
-        found: Dict[str, None] = {}
-        base = self.knows.base
-        for name in (node.name, *self.first.also.get(node.name, [])):
-            needs = base.prerequisites.get(name, [])  # guard: what-make-knows-later
-            if any(one not in base.prerequisites for one in needs):  # guard: names-with-blanks
-                return None
-            for one in needs:
-                if one not in self.paths:
-                    self.paths[one] = list(self.paths_of(one))
-                found.update(dict.fromkeys(self.paths[one]))
-        return list(found)
+        base, names = self.knows.base, (node.name, *self.first.also.get(node.name, ()))
+        needs = [one for name in names for one in base.prerequisites.get(name, ())]  # guard: what-make-knows-later
+        if any(one not in base.prerequisites for one in needs):  # guard: names-with-blanks
+            return None
+        for one in needs:
+            if one not in self.paths:
+                self.paths[one] = list(self.paths_of(one))
+        return list(dict.fromkeys(path for one in needs for path in self.paths[one]))
 
     def paths_of(self, name: str) -> Iterator[str]:
         """The names on whose ages a prerequisite comes down: its own, and what it leads to. None of them is outside of the project."""
@@ -148,7 +142,7 @@ class OldTree:
     def lend_names(self) -> None:
         """What is needed and is another output of a recipe gets a task of its own behind that recipe; each target has one writer."""
         makers, writing = {path: at for at, path in self.makes.items()}, self.writing()
-        for path in sorted({*makers, *(one for needs in self.needs.values() for one in needs)}):
+        for path in sorted({*makers}.union(*self.needs.values())):
             writers = [at for at in writing.get(path, ()) if makers.get(path) != at]
             for at in writers:
                 self.tasks[at].writes.discard(path)
@@ -179,16 +173,16 @@ class OldTree:
         while label in self.labels:
             label += "+"
         self.labels.append(label)
-        self.makes[at], self.needs[at] = path, [self.makes[one] for one in writers if one in self.makes and one not in self.kept]
+        self.makes[at], self.needs[at] = path, [self.makes[one] for one in writers if KEPT not in self.makes.get(one, KEPT)]
         self.owners[at] = self.labels[writers[-1]]
         self.premises.add("outputs", relative(self.build.folder, path))
 
     def drop_named(self) -> None:
         """Leaves out the sources that each of their readers names: nobody misses them, and they wake nobody else."""
-        written = {*self.makes.values(), *(path for task in self.tasks for path in task.writes)}
+        written = set().union(*(task.writes for task in self.tasks))
         unnamed = {path for at, task in enumerate(self.tasks) for path in task.reads.difference(self.needs.get(at, ())) if at in self.makes}
-        needed = {one for needs in self.needs.values() for one in needs if os.path.lexists(one)}
-        named = {*needed, *(path for task in self.tasks for path in task.reads)} - written - unnamed
+        needed = filter(os.path.lexists, set().union(*self.needs.values()))
+        named = set().union(needed, *(task.reads for task in self.tasks)) - written - unnamed
         for task in self.tasks:
             task.reads -= named
         self.needs = {at: [one for one in needs if one not in named] for at, needs in self.needs.items()}
@@ -214,7 +208,7 @@ class OldTree:
             if names:
                 example = min(names, key=lambda path: (os.path.isdir(path) and not os.path.islink(path), not os.path.lexists(path), path))
                 self.premises.add(kind, relative(self.build.folder, example), len(names))
-        goals = {*self.makes.values(), *(one for needs in self.needs.values() for one in needs)}
+        goals = {*self.makes.values()}.union(*self.needs.values())
         for path in sorted(self.foot.set_back):
             if not goals.isdisjoint({path, self.stand_in(KEPT, relative(self.build.folder, path))}):  # guard: times-of-goals
                 self.premises.add("times", relative(self.build.folder, path))
@@ -225,14 +219,13 @@ class OldTree:
         more: Dict[int, Dict[str, Any]] = {}
         for at, path in self.makes.items():
             more[at] = {"makes": relative(root, path), "needs": list(dict.fromkeys(relative(root, one) for one in self.needs[at]))}
-            more[at].update({"of": self.owners[at]} if at in self.owners else {})
             outputs = {relative(root, one): one for one in (self.tasks[at].writes if at in self.owners or KEPT in path else ()) if KEPT not in one}
             loose = sorted(name for name, one in outputs.items() if not self.is_behind(name, one))
-            more[at].update({"loose": loose} if loose else {})
+            more[at].update((key, value) for key, value in (("of", self.owners.get(at)), ("loose", loose)) if value)
         return (line for _, line in lines_of(self.tasks, root, self.labels, more))
 
     def listing(self) -> List[str]:
-        """The files that tasks read or need, are there, and are made by none of them."""
-        made = {*self.makes.values(), *(path for task in self.tasks for path in task.writes)}
-        named = {*(path for task in self.tasks for path in task.reads), *(one for needs in self.needs.values() for one in needs)} - made
-        return sorted(relative(self.build.folder, path) for path in named if path in self.names.before or path in self.foot.gone or os.path.lexists(path))
+        """The files that tasks read or need, are there, and are made by none of them, a line each."""
+        named = set().union(*(task.reads for task in self.tasks), *self.needs.values()).difference(*(task.writes for task in self.tasks))
+        there = (relative(self.build.folder, path) for path in named if path in self.names.before or path in self.foot.gone or os.path.lexists(path))
+        return sorted(name for name in there if "\n" not in name)
