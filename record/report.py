@@ -7,7 +7,7 @@ import textwrap
 from dataclasses import dataclass
 from functools import partial
 from pathlib import Path
-from typing import Any, Callable, Dict, Iterable, List, Sequence, Tuple, TypeVar
+from typing import Any, Callable, Dict, Iterable, List, Sequence, Tuple, TypeVar, cast
 
 from record.fixes import Remedy, is_needed, merged, remedy
 from record.judge import Race, Verdict, explained
@@ -46,22 +46,21 @@ class Colours:
 
 def colours() -> Colours:
     """For standard output."""
-    if sys.stdout.isatty() and not os.environ.get("NO_COLOR"):
-        return Colours("\x1b[1;31m", "\x1b[1;32m", "\x1b[0m")
-    return Colours()
+    has_colours = sys.stdout.isatty() and not os.environ.get("NO_COLOR")
+    return Colours("\x1b[1;31m", "\x1b[1;32m", "\x1b[0m") if has_colours else Colours()
 
 
 def place(about: Dict[str, Any], label: str) -> str:
     """`Makefile:26`, from the folder of the recorded command; a dash where no place is known."""
-    file, line = spot(about, label)
-    return "%s:%d" % (near(about, file, about.get("project", about.get("folder", "/"))), line) if file else "-"
+    file, line = spot(about, label, about.get("project", about.get("folder", "/")))
+    return "%s:%d" % (file, line) if file else "-"
 
 
-def spot(about: Dict[str, Any], label: str) -> Tuple[str, int]:
-    """The file and the line that a person edits; nothing where no place is known."""
+def spot(about: Dict[str, Any], label: str, base: str) -> Tuple[str, int]:
+    """The file, from a folder on, and the line that a person edits; nothing where no place is known."""
     found = about["labels"].get(label, {})
     file, line = found.get("place") or (found.get("file", ""), found.get("line", 0))
-    return file, line
+    return (near(about, file, base), line) if file else ("", 0)
 
 
 def near(about: Dict[str, Any], path: str, base: str) -> str:
@@ -95,8 +94,8 @@ def who(about: Dict[str, Any], race: Race, label: str) -> str:
 
 def rows(about: Dict[str, Any], race: Race) -> List[str]:
     """The two recipes of a race with their places and what they do, in columns."""
-    found = [(who(about, race, race.first), place(about, race.first), verb(about, race.first, race.first_does, race.path)),
-             (who(about, race, race.second), place(about, race.second), verb(about, race.second, race.second_does, race.path) + ", and nothing orders the two")]
+    sides = ((race.first, race.first_does, ""), (race.second, race.second_does, ", and nothing orders the two"))
+    found = [(who(about, race, label), place(about, label), verb(about, label, does, race.path) + more) for label, does, more in sides]
     wide = [max(len(row[at]) for row in found) for at in (0, 1)]
     pool = pool_text(about["labels"], race.first, race.second)
     return ["  %s  %s  %s" % (row[0].ljust(wide[0]), row[1].ljust(wide[1]), row[2]) for row in found] + (["  " + pool] if pool else [])
@@ -222,12 +221,11 @@ def listed(holes: List[str], out: Path) -> List[str]:
     return ["  - " + hole for hole in holes[:SHOWN_HOLES]] + (more if len(holes) > SHOWN_HOLES else [])
 
 
-def no_verdict(record: Dict[str, Any], judged: List[Judged], out: Path) -> List[str]:
+def no_verdict(record: Dict[str, Any], judged: List[Judged], out: Path, colour: Colours) -> List[str]:
     """Why there is no verdict, and which page says what to do; nothing where there is one."""
     refused = ["  - no verdict on build %s: %s" % (one.number, explained(one.verdict.refused)) for one in judged if one.verdict.refused]
     if not refused and not record["holes"]:
         return []
-    colour = colours()
     why = "the record has holes:" if record["holes"] else "race did not judge all builds:"
     return [colour.bad + "NO VERDICT" + colour.end + "  " + why, *refused, *listed(record["holes"], out), after_no_verdict()]
 
@@ -238,7 +236,7 @@ def report(record: Dict[str, Any], judged: List[Judged], out: Path) -> List[str]
     racing, orders = [one for one in judged if one.verdict.races], record.get("orders")
     whatever = result.whatever(orders)
     is_safe = not racing and not whatever and not record["holes"] and not any(one.verdict.refused for one in judged)
-    lines = warm_text(record, colour) + no_verdict(record, judged, out)
+    lines = warm_text(record, colour) + no_verdict(record, judged, out, colour)
     lines += ["HINT  " + hint for hint in record.get("hints", [])] + ["note: " + note for note in record.get("notes", []) + result.uncompared(orders, record["folder"], SHOWN_FILES)]
     lines += [colour.bad + "RACE" + colour.end + "  with several jobs, whatever the order of recipes is:", *("  " + line for line in whatever), ""] * bool(whatever)
     lines += ([""] if lines and racing else []) + races_text(judged, colour)
@@ -266,5 +264,4 @@ def warm_text(record: Dict[str, Any], colour: Colours) -> List[str]:
 
 def read_json(path: Path) -> Dict[str, Any]:
     """One file of the record."""
-    found: Dict[str, Any] = json.loads(path.read_text(encoding="utf-8"))
-    return found
+    return cast(Dict[str, Any], json.loads(path.read_text(encoding="utf-8")))

@@ -19,7 +19,7 @@ from record.judge import Race as Found
 from record.judge import Verdict
 from record.kinds import Kind, Meeting
 from record.missing.report import Question
-from record.report import group_of, name_of, near, rows, spot, verb
+from record.report import group_of, name_of, rows, spot, verb
 
 # What a path ends with that stands for something else than a file, and for two tasks by their numbers.
 NUMBERS = re.compile(r"(/\d+)+$")
@@ -250,8 +250,8 @@ class Build:
     first: tuple[str, int] = ("", 0)  # where a recipe stands whose place is not known
 
     def __post_init__(self) -> None:
-        files = [spot(self.about, label)[0] for label in self.about["labels"]]
-        self.first = next(((near(self.about, it, self.top), 1) for it in files if it), self.first)
+        files = (spot(self.about, label, self.top)[0] for label in self.about["labels"])
+        self.first = next(((it, 1) for it in files if it), self.first)
         for label, after in self.after.items():
             for it in after:
                 self.users.setdefault(it, []).append(label)
@@ -263,8 +263,8 @@ class Build:
     def recipe(self, label: str) -> Recipe:
         """What a label stands for; its place counts from the project's top on."""
         found = self.about["labels"].get(label, {})
-        file, line = spot(self.about, label)
-        file, line = (near(self.about, file, self.top), line) if file else self.first
+        place = spot(self.about, label, self.top)
+        file, line = place if place[0] else self.first
         spelled = found.get("target") or label
         return Recipe(label, spelled, self.name(spelled), file, line, found.get("recipe", "").strip(), found.get("kind") == "group")
 

@@ -4,18 +4,21 @@ import hashlib
 import os
 from dataclasses import dataclass
 from pathlib import Path
-from typing import Any, Dict, Iterator, List, Tuple
+from typing import Any, Dict, List, Tuple
 
 from record.folder import name_from
 from record.judge import explained
 from record.kinds import target
 from record.messages import after_no_verdict, plural
 from record.missing.inputs import Answer, Found, judge_missing
-from record.report import Colours, example_text, grouped, listed, near, place, read_json, spot, wrapped
+from record.report import Colours, example_text, grouped, listed, place, read_json, spot, wrapped
 from record.build.text import shown
 
 SHOWN_FILES, SHOWN_TARGETS = 40, 5
 HEADERS = (".h", ".hh", ".hpp", ".hxx", ".inc", ".def")
+# What who reads a path does, and who writes it, by the kind of a violation.
+DOES = {"missing": ("reads it, and is not made again", "makes it"), "late": ("reads it", "writes it, and need not come first"),
+        "shared": ("writes it", "writes it too, later, and may not run then")}
 ADVICE = "advice: let the compiler name headers itself: -MMD in its words, and -include of the .d files that it writes"
 
 
@@ -34,8 +37,7 @@ class Judged:
 
     def rule(self, label: str) -> Tuple[str, int]:
         """The makefile and the line of a recipe."""
-        file, line = spot(self.about, label)
-        return (near(self.about, file, self.top), line) if file else ("", 0)
+        return spot(self.about, label, self.top)
 
     def target(self, label: str) -> str:
         """The target of a task."""
@@ -86,13 +88,13 @@ class Question:
         own = list(self.record["missing"]["holes"])
         own += ["build %s: %s" % (one.number, explained(one.answer.refused)) for one in self.judged if one.answer.refused]
         warm = self.record["warm"]["count"] and not any(one["kind"] == "up-to-date" for one in self.record["assumptions"])
-        own += [] if any(True for _ in self.all()) else self.record["missing"]["otherwise"]  # guard: what-later-builds-leave
+        own += [] if self.all() else self.record["missing"]["otherwise"]  # guard: what-later-builds-leave
         own += ["the record has holes"] if self.record["holes"] else ["what was up to date did not run (WARM)"] if warm else []
         return own
 
-    def all(self) -> Iterator[Tuple[Judged, Found]]:
+    def all(self) -> List[Tuple[Judged, Found]]:
         """All violations."""
-        return ((judged, one) for judged in self.judged for one in judged.answer.found)
+        return [(judged, one) for judged in self.judged for one in judged.answer.found]
 
     def races(self) -> int:
         """How many pairs of recipes race in old trees: without one of them nothing that is missing is an answer about all builds."""
@@ -100,7 +102,7 @@ class Question:
 
     def verdict(self) -> str:
         """`nothing` is missing, `missing` where something is, `none` where there is no verdict."""
-        return "none" if self.holes() else "missing" if any(True for _ in self.all()) else "nothing"
+        return "none" if self.holes() else "missing" if self.all() else "nothing"
 
     def status(self) -> int:
         """0 nothing is missing and no recipes race, 1 something is missing, or they do, 2 no verdict."""
@@ -109,17 +111,13 @@ class Question:
 
 def rows_of(judged: Judged, found: List[Found]) -> List[str]:
     """The recipes that a group of violations is about, with their places; the writer last."""
-    about = judged.about
-    verb = {"missing": "reads it, and is not made again", "late": "reads it", "shared": "writes it"}
-    rows = [(judged.target(one.reader), place(about, one.reader), verb[one.kind]) for one in found[:SHOWN_TARGETS]]
-    writer, kind = found[0].writer, found[0].kind
-    if writer:
-        last = {"missing": "makes it", "late": "writes it, and need not come first", "shared": "writes it too, later, and may not run then"}
-        rows.append((judged.target(writer), place(about, writer), last[kind]))
+    (reads, writes), writer, more = DOES[found[0].kind], found[0].writer, len(found) - SHOWN_TARGETS
+    recipes = [(one.reader, reads) for one in found[:SHOWN_TARGETS]] + [(writer, writes)] * bool(writer)
+    rows = [(judged.target(label), place(judged.about, label), does) for label, does in recipes]
     wide = [max(len(row[at]) for row in rows) for at in (0, 1)]
     lines = ["  %s  %s  %s" % (row[0].ljust(wide[0]), row[1].ljust(wide[1]), row[2]) for row in rows]
-    if len(found) > SHOWN_TARGETS:
-        lines.insert(SHOWN_TARGETS, "  and %d more read it" % (len(found) - SHOWN_TARGETS) if kind != "shared" else "  and %d more" % (len(found) - SHOWN_TARGETS))
+    if more > 0:
+        lines.insert(SHOWN_TARGETS, "  and %d more%s" % (more, "" if found[0].kind == "shared" else " read it"))
     return lines
 
 
@@ -145,18 +143,9 @@ def build_text(judged: Judged, is_alone: bool, colour: Colours) -> List[str]:
     return lines
 
 
-def premises_text(question: Question) -> List[str]:
-    """What the answer takes for granted."""
-    racing = "when no recipes race, " if question.races() else ""
-    lines = [racing + "no `make clean` is needed after an edit, if:" if question.verdict() == "nothing" else "Assumed:"]
-    for one in question.record["missing"]["premises"]:
-        lines += wrapped(one["text"] + example_text(one, question.record["folder"]), "  - ", "    ")
-    return lines
-
-
 def missing_text(question: Question, colour: Colours) -> List[str]:
-    """The whole section."""
-    holes, found = question.holes(), list(question.all())
+    """The whole section, and what the answer takes for granted."""
+    holes, found = question.holes(), question.all()
     lines = ["Missing inputs", ""]
     for one in question.judged:
         lines += build_text(one, len(question.judged) == 1, colour)
@@ -170,4 +159,8 @@ def missing_text(question: Question, colour: Colours) -> List[str]:
         lines += [ADVICE] if any(one.kind == "missing" and one.path.endswith(HEADERS) for _, one in found) else []
     elif not holes:
         lines.append(colour.good + "NOTHING MISSING" + colour.end + "  " + looked)
-    return lines + premises_text(question)
+    racing = "when no recipes race, " if question.races() else ""
+    lines.append("Assumed:" if holes or found else racing + "no `make clean` is needed after an edit, if:")
+    for premise in question.record["missing"]["premises"]:
+        lines += wrapped(premise["text"] + example_text(premise, question.record["folder"]), "  - ", "    ")
+    return lines
