@@ -3,6 +3,7 @@
 import json
 import os
 import re
+from contextlib import suppress
 from pathlib import Path
 from typing import List
 
@@ -52,10 +53,6 @@ def cached(folder: str, name: str) -> str:
 def source_of(folder: str) -> str:
     """The sources of a folder that CMake or Meson configured; nothing where neither did."""
     source = cached(folder, "CMAKE_HOME_DIRECTORY")
-    if source:
-        return source
-    try:
-        found = json.loads(Path(folder, "meson-info", "meson-info.json").read_text())["directories"]["source"]
-        return found if isinstance(found, str) else ""
-    except (OSError, ValueError, KeyError, TypeError):
-        return ""
+    with suppress(OSError, ValueError, KeyError, TypeError):
+        source = source or json.loads(Path(folder, "meson-info", "meson-info.json").read_text())["directories"]["source"]
+    return source if isinstance(source, str) else ""

@@ -7,6 +7,7 @@ as `./configure && make` does, all of it is there and up to date when make begin
 
 import os
 import re
+from contextlib import suppress
 from typing import Iterator, Set, Tuple
 
 from record import machine
@@ -68,7 +69,5 @@ def made_by(status: str) -> Tuple[Set[str], Set[str]]:
 
 def stamps_in(folder: str) -> Iterator[str]:
     """The stamps of headers in a folder."""
-    try:
+    with suppress(OSError):
         yield from (os.path.join(folder, name) for name in machine.listdir(folder) if STAMP.fullmatch(name))
-    except OSError:
-        return

@@ -24,11 +24,8 @@ def failure(make: Make) -> Tuple[str, Work]:
 
 def failed(makes: Sequence[Make]) -> List[Make]:
     """The make by which a build failed, the one inside of its recipe by which that failed, and so on: what others failed at was ignored."""
-    failing = [make for make in makes if make.words.has_failed]
-    if not failing:
-        return []
-    last = max(failing, key=lambda make: make.life.died)
-    return [last, *failed(makes_of(failure(last)[1]))]
+    last = max((make for make in makes if make.words.has_failed), key=lambda make: make.life.died, default=None)
+    return [last, *failed(makes_of(failure(last)[1]))] if last is not None else []
 
 
 def unmade(make: Make, names: Names) -> Dict[str, str]:

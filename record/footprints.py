@@ -6,21 +6,17 @@ from pathlib import Path
 from typing import Dict, Iterator, List, Set
 
 from record import machine
-from record.build.tasks import Build, Task
+from record.build.tasks import Task
 from record.build.text import relative, shown
 from record.make.graph import MakeBuild
 from record.trace.events import CREATED, LOOKS, REMOVED, WRITTEN
 from record.trace.names import Names
 
 
-def listing(build: Build, names: Names) -> List[str]:
+def listing(build: MakeBuild, names: Names) -> List[str]:
     """The files, folders and links from before the build, and what make found elsewhere."""
-    root = build.make.folder
-    found = names.before.keys() - {root}
-    for node in build.graph.nodes.values() if isinstance(build, MakeBuild) else ():
-        if not (names.is_inside(node.path) or node.jobs or node.phony) and machine.lexists(node.path):
-            found.add(node.path)
-    return sorted(relative(root, path) for path in found)
+    outside = (node.path for node in build.graph.nodes.values() if not (names.is_inside(node.path) or node.jobs or node.phony))
+    return sorted(relative(build.folder, path) for path in (names.before.keys() - {build.folder}).union(filter(machine.lexists, outside)))
 
 
 def touched(task: Task, kinds: str, names: Names) -> Set[str]:
@@ -28,10 +24,10 @@ def touched(task: Task, kinds: str, names: Names) -> Set[str]:
     return {path for work in task.works for kind, path in work.events if kind in kinds and not path.endswith("/") and names.is_inside(path)}
 
 
-def footprints(build: Build, names: Names) -> Iterator[Dict[str, object]]:
+def footprints(build: MakeBuild, names: Names) -> Iterator[Dict[str, object]]:
     """A line for each recipe that ran. Who lists a folder reads each name that comes or goes there. Names of folders that it makes stand for something else, as
     in the tasks."""
-    root = build.make.folder
+    root = build.folder
     inside: Dict[str, Set[str]] = {}
     for path in (path for task in build.tasks for path in touched(task, CREATED + REMOVED, names)):
         inside.setdefault(os.path.dirname(path), set()).add(path)
@@ -44,7 +40,7 @@ def footprints(build: Build, names: Names) -> Iterator[Dict[str, object]]:
                    "writes": sorted(relative(root, p) for p in writes)}
 
 
-def write_footprints(folder: Path, build: Build, names: Names) -> None:
+def write_footprints(folder: Path, build: MakeBuild, names: Names) -> None:
     """Both texts of one build."""
     (folder / "listing").write_text("".join(line + "\n" for line in listing(build, names)), encoding="utf-8", errors="surrogateescape")
     with open(folder / "footprints", "w", encoding="utf-8", errors="backslashreplace") as file:

@@ -99,14 +99,12 @@ def fresh_tree(options: argparse.Namespace, copy: str, left: Set[str]) -> FirstT
         return of_archive(options.archive, folder, copy, options.setup)
     tree = replace(tree_of(folder), left=tuple(sorted(left)), setup=options.setup, ninja="" if options.setup else ninja_folder(options.words))
     if tree.top and not tree.ninja:
-        tree = replace(tree, new=tuple(name for name in copy_work_tree(tree.top, copy) if os.path.join(tree.top, name) not in left | tree.tracked))
-    elif not tree.ninja and not shutil.which("git") and any((up / ".git").exists() for up in Path(folder, ".git").parents):  # guard: git-that-is-missing
+        return replace(tree, new=tuple(name for name in copy_work_tree(tree.top, copy) if os.path.join(tree.top, name) not in left | tree.tracked))
+    if not tree.ninja and not shutil.which("git") and any((up / ".git").exists() for up in Path(folder, ".git").parents):  # guard: git-that-is-missing
         raise CannotClean("git is missing (Debian: apt-get install git): --fresh builds what it tracks here")
-    else:
-        place = ninja.place_of(tree.ninja, copy) if tree.ninja else folder
-        copy_tree(Path(place), Path(copy))
-        tree = replace(tree, folder=place, linked=tuple(linked(place, copy)))
-    return tree
+    place = ninja.place_of(tree.ninja, copy) if tree.ninja else folder
+    copy_tree(Path(place), Path(copy))
+    return replace(tree, folder=place, linked=tuple(linked(place, copy)))
 
 
 def linked(place: str, copy: str) -> Iterator[str]:

@@ -19,6 +19,7 @@ from record.first_tree import came_with, left_behind
 from record.folder import Record, write_record
 from record.footprints import write_footprints
 from record.make.build import MakeBuilder as Builder
+from record.make.graph import MakeBuild
 from record.make.owners import Owners, beginning
 from record.make.spellings import twice
 from record.make.words import makefiles, read_logs
@@ -39,7 +40,6 @@ from record.trace.snapshots import Past
 from record.trace.strace import read_trace
 from record.watch.files import OWN_WORDS, PRINTS, files_in, open_file, read_start
 from record.warm import did_nothing, is_gone, is_inside, made_unseen, moves_of, stand_alone, start_of, warm_names
-
 
 IDLE = "nothing was to be done, so nothing was seen: record a clean tree (--fresh)"
 
@@ -76,7 +76,7 @@ class Imported:
         runs = Runs(self.lives, self.owners, self.names, facts.kept, record.status == 0)
         self.ninjas = runs.ninjas
         add_granted_by_ninjas(self.ninjas, self.owners, self.assumed)
-        self.builds, more = import_ninjas(self.ninjas, self.lives, self.names, self.assumed, self.past())
+        self.builds, more = import_ninjas(self.ninjas, self.lives, self.names, self.assumed, Past(self.names.before, self.replay.changes))
         record.holes += runs.holes + more
         note_failure(record, self.lives, self.makes, self.ninjas, self.names)
         for name in unasked(self.makes, self.ninjas):
@@ -90,10 +90,6 @@ class Imported:
             record.holes.append(IDLE)  # guard: nothing
         since = min((place for make in self.makes for place in self.owners.at_once(make)), default=None)
         record.late = None if since is None else {path.rstrip("/") for life in self.lives if life.died > since for kind, path in life.events if kind in CHANGES + OUTPUT + MADE + FOLDER_CHANGED}
-
-    def past(self) -> Past:
-        """The names that are there at each place of the trace."""
-        return Past(self.names.before, self.replay.changes)
 
     def settle(self) -> Owners:
         """Puts what is meant in the place of what known programs did; who did what."""
@@ -123,7 +119,7 @@ class Imported:
 
     def add_builds(self) -> None:
         """A build for each round of a make in which something was done, in the order in which they began, beside those of ninjas; their holes too."""
-        past, names = self.past(), self.names
+        past, names = Past(self.names.before, self.replay.changes), self.names
         for place, make, number in sorted(((beginning(m, n), m, n) for m in self.makes for n in range(len(m.words.rounds))), key=lambda found: found[0]):
             if make.words.rounds[number].jobs:
                 builder = Builder(make, number, names, self.assumed, past.until(place))
@@ -181,7 +177,7 @@ def complete(record: Record, facts: Facts, out: Path, options: argparse.Namespac
     record.known = known_of(found.lives[0].course, options.held) if options.held else set()
     write_record(out, record, found.builds, found.assumed)
     for number, build in zip(record.builds, found.builds if options.footprints else ()):
-        if build.tool == "make":
+        if isinstance(build, MakeBuild):
             write_footprints(out / "builds" / number, build, facts.names)
     if options.missing:
         from record.missing.inputs import write_missing  # it builds in copies, and nothing else of an import does

@@ -45,19 +45,11 @@ def unshown(text: str) -> str:
     return SHOWN.sub(lambda m: chr(int(m.group(1), 16)) if m.group(1) else "\\", text)
 
 
-def can_run(path: Path) -> bool:
-    """Whether a file is there that can be run."""
-    return path.is_file() and os.access(path, os.X_OK)
-
-
 def find_race(option: Optional[str]) -> Optional[str]:
     """The program: `--race`, `$RACE`, beside the script, in the checkout, on PATH. A name that leads nowhere is not passed over."""
     name = option or os.environ.get("RACE", "")
-    if name:
-        found = shutil.which(name) or (name if can_run(Path(name)) else None)
-        return os.path.abspath(found) if found else None
-    there = next((str(path) for path in PLACES if can_run(path)), None) or shutil.which("race")
-    return os.path.abspath(there) if there else None
+    places = [shutil.which(name), name] if name else [*map(str, PLACES), shutil.which("race")]
+    return next((os.path.abspath(path) for path in places if path and os.path.isfile(path) and os.access(path, os.X_OK)), None)
 
 
 def no_race(option: Optional[str]) -> str:
@@ -97,8 +89,7 @@ def judge(race: str, tasks: Path, root: str) -> Verdict:
     for text in listed.stdout.split("\n"):  # guard: lines-of-race
         match = RACE_LINE.match(text)
         if match:
-            path, first, does, second, also = match.groups()
-            verdict.races.append(Race(unshown(path), unshown(first), does, unshown(second), also))
+            verdict.races.append(Race(*map(unshown, match.groups())))
         elif text.startswith("pairs "):
             verdict.pairs = int(text[6:])
     is_whole = "races %d" % len(verdict.races) in listed.stdout.split("\n")

@@ -30,10 +30,8 @@ TEMPORARY = Kind("shared-temporary", "a temporary of a fixed name (`y.tab.c`)", 
 LOG = Kind("shared-log", "a log to which both append", "give each recipe a log of its own, and let one recipe join them")
 OUTPUT = Kind("second-output", "a second output of a recipe", "let the reader need the target of the writer, such as a stamp file")
 ARCHIVE = Kind("archive", "`ar -r` in two recipes", "one recipe that makes it of all its members")
-FOLDER = Kind(
-    "folder", "a folder that one makes or fills, and the other makes, fills or reads",
-    "let the reader need the target of the writer, or give each a folder of its own",
-)
+FOLDER = Kind("folder", "a folder that one makes or fills, and the other makes, fills or reads",
+              "let the reader need the target of the writer, or give each a folder of its own")
 AT_ONCE = Kind("one-recipe", "two processes of one recipe that run at once", "write `wait` between the two, or let one end before the other begins (`&&`)")
 LEFT = Kind("left-running", "a process that its recipe does not wait for", "let the recipe wait for it (`wait`), or start it in a recipe of its own that does")
 WIDE = Kind("wide-footprint", "a footprint that is too wide: a tree where a few files were meant", "write down the single files")
@@ -54,8 +52,7 @@ def whole(about: Dict[str, Any], name: str) -> str:
 
 def target(about: Dict[str, Any], label: str) -> str:
     """The target of a label."""
-    found: str = about["labels"].get(label, {}).get("target", "")
-    return found or label
+    return str(about["labels"].get(label, {}).get("target") or label)
 
 
 class Meeting:

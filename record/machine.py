@@ -73,10 +73,8 @@ def packed(found: Any) -> Any:
 
 def unpacked(found: Any) -> Any:
     """The answer itself; an error is raised."""
-    if isinstance(found, list):
-        return list(found)
     if not isinstance(found, dict):
-        return found
+        return [*found] if isinstance(found, list) else found
     if "error" in found:
         raise OSError(found["error"], os.strerror(found["error"]))
     return found["bytes"].encode("utf-8", "surrogateescape") if "bytes" in found else os.stat_result((*found["stat"], 0, 0, 0))
@@ -105,7 +103,7 @@ def answering(answers: Optional[Answers]) -> Iterator[None]:
 
 isfile, isdir, islink = asked(os.path.isfile), asked(os.path.isdir), asked(os.path.islink)
 exists, lexists, realpath = asked(os.path.exists), asked(os.path.lexists), asked(os.path.realpath)
-stat, lstat, readlink, listdir = asked(os.stat), asked(os.lstat), asked(os.readlink), asked(os.listdir)
+stat, lstat, readlink, listdir, geteuid = asked(os.stat), asked(os.lstat), asked(os.readlink), asked(os.listdir), asked(os.geteuid)
 
 
 @asked
@@ -129,12 +127,6 @@ def found(folder: str, pattern: str) -> List[str]:
 def mtime(path: str) -> float:
     """When a file was written last."""
     return os.path.getmtime(path)
-
-
-@asked
-def geteuid() -> int:
-    """Whose rights it has."""
-    return os.geteuid()
 
 
 @asked

@@ -1,7 +1,7 @@
 """What a whole build takes for granted, found when the words of its makes and the lives of its processes are known."""
 
 import re
-from typing import Dict, Iterable, Iterator, List, Optional, Set, Tuple
+from typing import Dict, Iterator, List, Optional, Set, Tuple
 
 from record.build.assumptions import Assumptions
 from record.build.work import Work
@@ -31,8 +31,9 @@ def add_granted(owners: Owners, assumed: Assumptions) -> None:
 
 
 def add_granted_by_ninjas(ninjas: List[Ninja], owners: Owners, assumed: Assumptions) -> None:
-    """What ninjas and their commands take for granted, whatever their tasks are; and makes and ninjas that run at once."""
-    for life in at_once(tool.life for tool in (*ninjas, *owners.makes)):
+    """What ninjas and their commands take for granted, whatever their tasks are; and makes and ninjas that no other one started, and that run at once."""
+    tops = sorted((tool.life for tool in (*ninjas, *owners.makes) if not is_inside(tool.life)), key=lambda life: life.born)
+    for life in (second for first, second in zip(tops, tops[1:]) if second.born < first.died):
         assumed.add("tops", shown(life))  # guard: two-beside-each-other
     for job in (j for ninja in ninjas for stage in ninja.stages for j in stage.jobs):
         lucky(job.work, job.edge.label if job.edge is not None else job.text[:WIDTH], assumed)
@@ -53,12 +54,6 @@ def add_seen(replay: Calls, assumed: Assumptions) -> None:
 def shown(life: Life) -> str:
     """The words of a process, or the first of them."""
     return " ".join(life.argv)[:WIDTH]
-
-
-def at_once(lives: Iterable[Life]) -> Iterator[Life]:
-    """Of makes and ninjas that no other one started those that begin before another one has ended."""
-    tops = sorted((life for life in lives if not is_inside(life)), key=lambda life: life.born)
-    return (second for first, second in zip(tops, tops[1:]) if second.born < first.died)
 
 
 def lucky(work: Optional[Work], target: str, assumed: Assumptions) -> None:
@@ -86,11 +81,10 @@ def unasked(makes: List[Make], ninjas: List[Ninja]) -> List[str]:
     that no goal needs. A record says nothing about them."""
     there: Dict[Key, None] = {}
     asked: Set[Key] = set()
-    for make in makes:
-        for one in make.words.rounds:
-            there.update(((make.folder, name), None) for name in written(one.base or Base()))
-            asked.update((make.folder, name) for name in (*one.nodes, *one.vpath.values()))
-            asked.update((make.folder, other) for name in one.nodes for other in (one.base or Base()).also.get(name, ()))
+    for make, one, base in ((make, one, one.base or Base()) for make in makes for one in make.words.rounds):
+        there.update(((make.folder, name), None) for name in written(base))
+        also = (other for name in one.nodes for other in base.also.get(name, ()))
+        asked.update((make.folder, name) for name in (*one.nodes, *one.vpath.values(), *also))
     for ninja in ninjas:
         if ninja.stages:
             there.update(((ninja.folder, edge.label), None) for edge in ninja.stages[-1].manifest.edges if not edge.is_phony and not edge.is_generator)  # guard: statements-that-nothing-asked

@@ -18,7 +18,7 @@ from record.trace.lives import Life
 from record.trace.names import Names
 from record.trace.snapshots import Change
 
-CHANGES = "WCDMTX"  # kinds of events of a file or a folder
+CHANGES = "WCDMX"  # kinds of events of a file or a folder
 NOTHING = ("", ":", "true")  # lines of a recipe
 Moves = Dict[str, List[Tuple[int, bool]]]  # by name: the places, in order, where it goes or comes, and whether it is there behind that
 
@@ -67,10 +67,6 @@ class Target:
         first = [name for start in self.make.words.read[:1] for name in start[:1]]
         return self.name in first and self.name in DEFAULTS and not is_inside(self.make.life)  # guard: makefile-that-words-name
 
-    def was_there(self, names: Names) -> bool:
-        """Whether its file was there before the build."""
-        return names.before.get(self.own) in ("f", "l") or self.is_idle and is_beyond(self.own, names)  # guard: targets-outside-of-project
-
 
 def targets_of(makes: List[Make], names: Names) -> Iterator[Target]:
     """All targets with a recipe that makes considered. The file of a member of an archive is that archive. Where no recipe of a round ran, those of targets
@@ -102,7 +98,8 @@ def warm_names(makes: List[Make], builds: List[Build], ninjas: List[Ninja], name
     for target in targets_of(makes, names):
         is_kept = target.is_idle and target.path not in written and (target.does_nothing() or target.is_beginning())  # guard: recipes-that-do-nothing
         is_out = is_gone(moves, target.own, start_of(target.make.life))  # guard: what-make-finds-removed
-        if target.stage == "goals" and target.name not in target.base.phony and target.path not in read and not (is_kept or is_out) and target.was_there(names):
+        was_there = names.before.get(target.own) in ("f", "l") or target.is_idle and is_beyond(target.own, names)  # guard: targets-outside-of-project
+        if target.stage == "goals" and target.name not in target.base.phony and target.path not in read and was_there and not (is_kept or is_out):
             found.add(target.path)
     return sorted(found)
 
@@ -123,9 +120,7 @@ def did_nothing(builds: List[Build], makes: List[Make]) -> bool:
 def made_unseen(makes: List[Make], ninjas: List[Ninja], names: Names, now: Dict[str, str]) -> List[str]:
     """Targets that are there, and that nobody made in this build, though they were absent before: something else builds in the same
     folder, and their recipes did not run. `now` are the names that are there as the trace has it."""
-    found = {target.path for target in targets_of(makes, names) if target.is_idle}
-    for ninja in ninjas:
-        found |= outputs_of(ninja, names) - made_by(ninja, names)
+    found = {target.path for target in targets_of(makes, names) if target.is_idle}.union(*(outputs_of(ninja, names) - made_by(ninja, names) for ninja in ninjas))
     return sorted(path for path in found if path not in now and machine.isfile(path) and names.is_inside(path))  # guard: target-that-something-else-makes
 
 
