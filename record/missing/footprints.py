@@ -9,7 +9,7 @@ from record.commands.shelltext import is_removal
 from record.commands.system import is_below
 from record.make.graph import MakeBuild
 from record.tools.python import BYTE_CODE
-from record.trace.events import ABSENT, LISTED, MAKES
+from record.trace.events import ABSENT, LISTED, MAKES, REMOVED
 from record.trace.names import Names
 
 CHANGES = "WCD"
@@ -23,7 +23,6 @@ class Footprints:
         self.build, self.names = build, names
         self.reads: List[Set[str]] = [set() for _ in build.tasks]
         self.writes: List[Set[str]] = [set() for _ in build.tasks]
-        self.removes: List[Set[str]] = [set() for _ in build.tasks]
         self.folders: List[Set[str]] = [set() for _ in build.tasks]  # that it makes, or finds made
         self.own_looks: List[Set[str]] = [set() for _ in build.tasks]
         # What is looked at and no task holds: it is taken that it stays as it is.
@@ -40,7 +39,11 @@ class Footprints:
             self.writes[at] |= self.removed_later(at, task)  # guard: what-recipe-removes-later
         self.drop_temporaries()
         self.changes = [reads & writes for reads, writes in zip(self.reads, self.writes)]
-        inputs = self.inputs(set().union(*self.reads, self.written))
+        # What can change and matter: files that are written here, or that are there and are no links.
+        read = set().union(*self.reads) - self.written
+        self.looks |= {path for path in read if names.before.get(path) == "l"}
+        self.gone |= {path for path in read if path not in names.before and not os.path.lexists(path)}  # guard: temporaries-of-others
+        inputs = self.written | {path for path in read - self.looks if not os.path.isdir(path) and not FIXED.search(path)}
         for at, task in enumerate(build.tasks):
             # Names for which it looks, and that it finds otherwise in a later build: there, or gone.
             found = {path for kind, path in self.events(task) if kind in "NSl" and os.path.lexists(path) == (kind == "N")} & self.written  # guard: what-later-recipes-make
@@ -69,8 +72,6 @@ class Footprints:
             self.folders[at].add(name)
         elif kind in CHANGES:
             self.writes[at].add(name)
-            if kind == "D":
-                self.removes[at].add(name)
         elif kind == "R":
             self.reads[at].add(name)
         else:
@@ -88,14 +89,7 @@ class Footprints:
     def drop_temporaries(self) -> None:
         """Names that are gone before and after the build, where each recipe that touches them makes and removes them itself."""
         gone = {path for path in self.written if path not in self.names.before and not os.path.lexists(path)}
-        for reads, writes, removes in zip(self.reads, self.writes, self.removes):
-            gone -= (reads | writes) - removes  # guard: temporaries
+        for task, reads, writes in zip(self.build.tasks, self.reads, self.writes):
+            gone -= (reads | writes) - {path for kind, path in self.events(task) if kind == REMOVED}  # guard: temporaries
         for paths in (*self.reads, *self.writes, self.written):
             paths.difference_update(gone)
-
-    def inputs(self, paths: Set[str]) -> Set[str]:
-        """The names of some that are read that can change and matter: files that are written here, or that are there."""
-        links = {path for path in paths - self.written if self.names.before.get(path) == "l"}
-        self.looks |= links
-        self.gone |= {path for path in paths - self.written if path not in self.names.before and not os.path.lexists(path)}  # guard: temporaries-of-others
-        return {path for path in paths - links if path in self.written or not os.path.isdir(path) and not FIXED.search(path)}

@@ -19,7 +19,7 @@ from record.judge import ask, ended, unshown
 from record.make.graph import MakeBuild
 from record.make.owners import Make
 from record.make.words import makefiles
-from record.missing.later import ANOTHER, another, look_ahead
+from record.missing.later import ANOTHER, another, call_of, look_ahead
 from record.missing.old_tree import KEPT, OldTree
 from record.trace.events import READ
 from record.trace.lives import Life
@@ -45,14 +45,17 @@ def write_missing(out: Path, record: Record, builds: List[Build], makes: List[Ma
     later, judged = look_ahead(record, makes, names, changed, out), 0
     holes = later.holes + ["statements of ninja are not looked at: %s in %s" % (build.words or "ninja", build.folder) for build in builds if not isinstance(build, MakeBuild)]
     for number, build in rounds:
-        knows = later.of(build.make)
-        if knows is None:
+        call = call_of(build.make.words)
+        knows = later.idle.get(call, later.busy.get(call))
+        if knows is None:  # no later build calls it
             premises.add("unjudged", build.words)
-        else:
-            holes += [ANOTHER + why for why in another(build, knows, names)]
-            tree = OldTree(build, names, later, knows, premises)
-            holes += ["the recipe of %s does not run where all sources have a new time" % name for name in tree.silent]  # guard: recipes-that-do-not-run-again
-            judged += write_old_tree(out / "builds" / number, tree)
+            continue
+        holes += [ANOTHER + why for why in another(build, knows, names)]
+        tree = OldTree(build, names, later, knows, premises)
+        holes += ["the recipe of %s does not run where all sources have a new time" % name for name in tree.silent]  # guard: recipes-that-do-not-run-again
+        for name, lines in ((TASKS, tree.lines()), (LISTING, tree.listing())):
+            (out / "builds" / number / name).write_text("".join(line + "\n" for line in lines), encoding="utf-8", errors="backslashreplace")
+        judged += sum(tree.tasks[at].kind == "recipe" for at in tree.makes)
     elsewhere = made_elsewhere([build for _, build in rounds], names, changed)  # guard: what-another-recipe-made
     for kind, paths in (("unstable", later.unstable), ("not-run", elsewhere), ("called", called(makes, names, lives, changed))):
         for path in sorted(paths):
@@ -89,13 +92,6 @@ def called(makes: Sequence[Make], names: Names, lives: Sequence[Life], changed: 
     found = {path for life in lives if id(life) not in apart and not life.is_make for kind, path in life.events if kind == READ}  # guard: files-of-who-calls-make
     found.update(path for make in makes for kind, path in make.life.events if kind == READ and path not in files)  # guard: files-that-make-reads
     return {path for path in found | files & changed if os.path.isfile(path) and names.is_inside(path)}
-
-
-def write_old_tree(folder: Path, tree: OldTree) -> int:
-    """Both texts; how many recipes they judge."""
-    for name, lines in ((TASKS, tree.lines()), (LISTING, tree.listing())):
-        (folder / name).write_text("".join(line + "\n" for line in lines), encoding="utf-8", errors="backslashreplace")
-    return sum(1 for at in tree.makes if tree.tasks[at].kind == "recipe")
 
 
 # ---------------------------------------------------------------- what race says

@@ -9,7 +9,7 @@ import re
 import time
 from dataclasses import dataclass, field
 from pathlib import Path
-from typing import Dict, Iterable, Iterator, List, Optional, Sequence, Set, Tuple
+from typing import Dict, Iterable, Iterator, List, Sequence, Set, Tuple
 
 from record.build.tasks import Job
 from record.folder import Record, room_of_programs
@@ -71,10 +71,6 @@ class Later:
         self.otherwise: Set[str] = set()  # names that are left in another way
         self.unstable: Set[str] = set()  # names that two such builds leave in two ways
         self.holes: List[str] = []
-
-    def of(self, make: Make) -> Optional[Knows]:
-        """What a make knows in a later build; None where none calls it."""
-        return self.idle.get(call_of(make.words), self.busy.get(call_of(make.words)))
 
     def run(self, room: Room) -> None:
         """Both builds; a third one where they leave something in another way."""

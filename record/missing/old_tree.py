@@ -4,7 +4,7 @@ A task that makes a file and whose prerequisites are known says both. Each other
 """
 
 import os
-from typing import Any, Dict, Iterator, List, Optional, Set
+from typing import Any, Dict, Iterator, List, Optional
 
 from record.build.assumptions import Assumptions
 from record.build.tasks import Node, Task, order_tasks, renumber
@@ -27,12 +27,11 @@ class OldTree:
         self.phony = self.first.phony | self.knows.base.phony
         self.foot = Footprints(build, names)
         self.tasks = [Task(t.label, t.node, t.kind, set(t.after), r, w) for t, r, w in zip(build.tasks, self.foot.reads, self.foot.writes)]
-        self.labels = labels_of(build.tasks)
         self.writers = self.writing()  # before any name is lent
         self.makes: Dict[int, str] = {}
         self.needs: Dict[int, List[str]] = {}
         self.paths: Dict[str, List[str]] = {}  # by prerequisite
-        self.owners: Dict[int, str] = {}  # of a task that stands for an output: the label of the recipe
+        self.owners: Dict[int, int] = {}  # of a task that stands for an output: the recipe
         self.choose()
         touched = (self.tasks[at].node for at, needs in self.needs.items() if not later.sources.isdisjoint(needs))
         self.silent = [node.name for node in touched if node.jobs and not self.runs(self.again, node)]  # they do not run again though a source has a new time
@@ -110,18 +109,15 @@ class OldTree:
         needs = [one for name in names for one in base.prerequisites.get(name, ())]  # guard: what-make-knows-later
         if any(one not in base.prerequisites for one in needs):  # guard: names-with-blanks
             return None
-        for one in needs:
-            if one not in self.paths:
-                self.paths[one] = list(self.paths_of(one))
+        self.paths.update((one, self.paths_of(one)) for one in needs if one not in self.paths)
         return list(dict.fromkeys(path for one in needs for path in self.paths[one]))
 
-    def paths_of(self, name: str) -> Iterator[str]:
+    def paths_of(self, name: str) -> List[str]:
         """The names on whose ages a prerequisite comes down: its own, and what it leads to. None of them is outside of the project."""
         paths = [self.names.find(self.build.folder, self.spelled(name), follow).path for follow in (False, True)]
         if name in self.phony or not self.is_there(name, paths[0]):  # guard: phony-prerequisites
-            yield self.stand_in(NEVER, name)
-        else:
-            yield from (path for path in dict.fromkeys(paths) if self.names.is_inside(path) and self.is_behind(name, path))
+            return [self.stand_in(NEVER, name)]
+        return [path for path in dict.fromkeys(paths) if self.names.is_inside(path) and self.is_behind(name, path)]
 
     def is_behind(self, name: str, path: str) -> bool:
         """Whether make looks at a path by this name when a recipe that writes it has ended: the name is the target of that recipe, or
@@ -168,13 +164,10 @@ class OldTree:
         for user, task in enumerate(self.tasks[: len(self.build.tasks)]):
             if (path in task.reads or path in self.needs.get(user, ())) and all(is_before(one, user) for one in writers):
                 task.after.add(at)
-        label = self.tasks[writers[-1]].label + "@also"
-        self.tasks.append(Task(label, self.tasks[writers[-1]].node, "file", set(writers), set(), {path}))
-        while label in self.labels:
-            label += "+"
-        self.labels.append(label)
+        recipe = self.tasks[writers[-1]]
+        self.tasks.append(Task(recipe.label + "@also", recipe.node, "file", set(writers), set(), {path}))
         self.makes[at], self.needs[at] = path, [self.makes[one] for one in writers if KEPT not in self.makes.get(one, KEPT)]
-        self.owners[at] = self.labels[writers[-1]]
+        self.owners[at] = writers[-1]
         self.premises.add("outputs", relative(self.build.folder, path))
 
     def drop_named(self) -> None:
@@ -195,11 +188,12 @@ class OldTree:
         order, dropped = order_tasks(self.tasks, edges, keys)
         if dropped:
             self.premises.add("later-ring", "make %s" % self.build.words, dropped)
+        labels = labels_of(self.tasks)
         self.tasks, place = renumber(self.tasks, order, edges)
         self.needs = {place[at]: [one for one in needs if one not in makers or place[makers[one]] < place[at]] for at, needs in self.needs.items()}
         self.makes = {place[at]: path for at, path in self.makes.items()}
-        self.owners = {place[at]: label for at, label in self.owners.items()}
-        self.labels = [self.labels[at] for at in order]
+        self.owners = {place[at]: place[recipe] for at, recipe in self.owners.items()}
+        self.labels = [labels[at] for at in order]
 
     # ---------------------------------------------------------------- what comes out
     def count(self) -> None:
@@ -221,7 +215,7 @@ class OldTree:
             more[at] = {"makes": relative(root, path), "needs": list(dict.fromkeys(relative(root, one) for one in self.needs[at]))}
             outputs = {relative(root, one): one for one in (self.tasks[at].writes if at in self.owners or KEPT in path else ()) if KEPT not in one}
             loose = sorted(name for name, one in outputs.items() if not self.is_behind(name, one))
-            more[at].update((key, value) for key, value in (("of", self.owners.get(at)), ("loose", loose)) if value)
+            more[at].update({"of": self.labels[self.owners[at]]} if at in self.owners else {}, **({"loose": loose} if loose else {}))
         return (line for _, line in lines_of(self.tasks, root, self.labels, more))
 
     def listing(self) -> List[str]:
