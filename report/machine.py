@@ -13,6 +13,7 @@ from record.missing.inputs import Found
 from record.missing.report import Judged, Question
 from record.build.text import shown
 from record.kinds import KINDS
+from record.report import spot
 from report.model import Race, Recipe, Report, Side
 from report.plain import summary
 
@@ -47,7 +48,7 @@ def race_object(race: Race, report: Report) -> dict[str, Any]:
 
 def input_object(judged: Judged, it: Found, report: Report) -> dict[str, Any]:
     """A missing input as the schema has it."""
-    file, line = judged.rule(it.reader)
+    file, line = spot(judged.about, it.reader, judged.top)
     target, maker = judged.target(it.reader), judged.target(it.writer) if it.writer else ""
     return {
         **standing(judged.fingerprint(it), report), "kind": it.kind, "build": judged.number,

@@ -7,7 +7,7 @@ from textwrap import wrap
 
 from record.messages import after_no_verdict
 from record.missing.report import missing_text
-from record.report import Colours
+from record.report import Colours, spot
 from report.model import Race, Report
 
 MISSING = {
@@ -134,7 +134,7 @@ def missing_annotations(report: Report) -> list[str]:
         add = f"\nAdd: {judged.late(it)}: {judged.early(it)}" if judged.early(it) else ""
         message = f"{MISSING[it.kind].format(judged.target(it.reader), judged.name(it.path))}, so make may leave an old file behind.{add}"
         level = LEVELS[report.state(judged.fingerprint(it))]
-        lines.append(annotation(level, f"missing input {judged.name(it.path)}", message, *judged.rule(it.reader)))
+        lines.append(annotation(level, f"missing input {judged.name(it.path)}", message, *spot(judged.about, it.reader, judged.top)))
     return lines + [annotation("error", "race: no verdict on missing inputs", it) for it in (report.missing.holes() if report.missing else ())]
 
 

@@ -11,7 +11,7 @@ from record.judge import explained
 from record.kinds import target
 from record.messages import after_no_verdict, plural
 from record.missing.inputs import Answer, Found, judge_missing
-from record.report import Colours, example_text, grouped, listed, place, read_json, spot, wrapped
+from record.report import Colours, example_text, grouped, listed, place, read_json, wrapped
 from record.build.text import shown
 
 SHOWN_FILES, SHOWN_TARGETS = 40, 5
@@ -34,10 +34,6 @@ class Judged:
     def from_top(self, path: str) -> str:
         """A path or a target from the project's top on."""
         return name_from(self.top, os.path.normpath(os.path.join(self.about["folder"], path)))
-
-    def rule(self, label: str) -> Tuple[str, int]:
-        """The makefile and the line of a recipe."""
-        return spot(self.about, label, self.top)
 
     def target(self, label: str) -> str:
         """The target of a task."""
