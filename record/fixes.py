@@ -37,12 +37,11 @@ class Remedy:
 def remedy(about: Dict[str, Any], race: Race) -> Remedy:
     """What ends a race of a build."""
     it = Meeting(about, race)
-    kind = it.kind
-    if kind in (AT_ONCE, LEFT, TWO):  # guard: no-line-orders-processes
-        return Remedy(is_edge=False, advice=kind.advice)
+    advice = better(it, it.kind)
+    if it.kind in (AT_ONCE, LEFT, TWO):  # guard: no-line-orders-processes
+        return Remedy(is_edge=False, advice=advice)
     if it.first.get("colons", 0) > 1:  # guard: later-rule-with-two
         return Remedy(is_edge=False, advice="write the rules of %s as one: what needs it is only sure to wait for the first of them" % it.first["target"])
-    advice = better(it, kind)
     if it.tool == "ninja":
         return in_ninja(it, advice)
     early, late = cmake_target(it.first), cmake_target(it.second)
@@ -61,7 +60,7 @@ def better(it: Meeting, kind: Kind) -> str:
     if kind is TEMPORARY and it.tool != "ninja":
         return "give each recipe a name of its own for this file, such as %s.$@" % os.path.basename(race.path)
     if kind not in (FORGOTTEN, OUTPUT):
-        return kind.advice
+        return kind.fix.replace("`", "")
     if race.second_does != "writes" or race.first_does != "reads" or it.tool == "ninja" or it.first.get("kind") != "recipe" or race.path in it.first.get("lists", ()):
         return ""
     return "with one job %s comes first, and sees none of %s; if it is to see it, write %s: %s instead" % (it.early, it.late, in_makefile(it.early), in_makefile(it.late))
@@ -97,15 +96,13 @@ def is_needed(verdict: Verdict, race: Race) -> bool:
 
 def merged(remedies: Iterable[Remedy]) -> List[str]:
     """The lines of some races, each once; targets that have to name the same stand in one line."""
-    targets: Dict[str, Dict[str, None]] = {}
-    found: Dict[str, List[str]] = {}
+    found: Dict[Tuple[str, bool], Dict[str, None]] = {}  # what has to be named, with the targets that have to; or a line of other words, with none
     for one in remedies:
+        found.update(((line, False), {}) for line in one.words)
         if one.rule:
-            targets.setdefault(one.rule[1], {})[one.rule[0]] = None
-            found.setdefault("\0" + one.rule[1], [])
-        for line in one.words:
-            found.setdefault(line, [line])
-    for needed, names in targets.items():
-        late = list(names)
-        found["\0" + needed] = ["%s: %s" % (" ".join(late[at:at + TOGETHER]), needed) for at in range(0, len(late), TOGETHER)]
-    return [line for lines in found.values() for line in lines]
+            found.setdefault((one.rule[1], True), {})[one.rule[0]] = None
+    lines: List[str] = []
+    for (text, _), targets in found.items():
+        late = [*targets]
+        lines += ["%s: %s" % (" ".join(late[at:at + TOGETHER]), text) for at in range(0, len(late), TOGETHER)] or [text]
+    return lines

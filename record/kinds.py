@@ -18,11 +18,6 @@ class Kind:
     title: str
     fix: str
 
-    @property
-    def advice(self) -> str:
-        """What to do, as plain text."""
-        return self.fix.replace("`", "")
-
 
 FORGOTTEN = Kind("forgotten-prerequisite", "a prerequisite that was forgotten", "name it: `lex.o: words.h`")
 TWO = Kind("two-outputs", "one rule with two outputs, which make takes for two rules", "write it as `a b &: c` (GNU make 4.3), or as `a: c` with its recipe, and `b: a ;`")
