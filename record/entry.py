@@ -37,8 +37,7 @@ def stop(number: int, _: object) -> None:
 
 
 def hear() -> None:
-    """Lets signals end the program in order, except those that are ignored for it (`nohup`). Where the end of a child is ignored, its status is
-    lost."""
+    """Lets signals end the program in order, except those that are ignored for it (`nohup`). Where the end of a child is ignored, its status is lost."""
     if signal.signal(signal.SIGCHLD, signal.SIG_DFL) is signal.SIG_IGN:  # guard: end-of-child
         UNHEARD.append(signal.SIGCHLD)  # guard: end-of-child-as-caller
     for one in STOPPING:

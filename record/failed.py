@@ -36,8 +36,7 @@ def unmade(make: Make, names: Names) -> Dict[str, str]:
 
 
 def lacked(makes: Sequence[Make], names: Names) -> List[str]:
-    """What the recipe that failed looked for and did not find, where its make, or else one around that, makes it: had it waited, the file would have been
-    there."""
+    """What the recipe that failed looked for and did not find, where its make, or else one around that, makes it: had it waited, it would be there."""
     chain = failed(makes)
     missed = {path for kind, path in failure(chain[-1])[1].events if kind == "N"} if chain else set()  # guard: it-lacks-no-file
     for make in reversed(chain):

@@ -15,6 +15,7 @@ used such a name:
 """
 
 import os
+import re
 import shlex
 import subprocess
 import sys
@@ -35,6 +36,7 @@ from record.trace.names import Names
 GIT = ["git", "--no-optional-locks", "-c", "safe.directory=*"]
 CONFIGURED_BY = ("CMakeCache.txt", "meson-info")  # what stands at the top of a folder that CMake or Meson configured
 FOLDER_USED = SEEN + ENTERED + LISTED + CREATED
+RULE = re.compile(r"^[ \t]*[^ \t\n#]", re.M)  # a line of a makefile that is no comment
 NAMED = 3  # so many new files are named
 
 
@@ -70,7 +72,7 @@ class FirstTree:
     @cached_property
     def new_names(self) -> Set[str]:
         """The new files, and the folders that they are in."""
-        return {*with_folders(self.new, "")}
+        return with_folders(self.new, "")
 
 
 def first_names(names: Sequence[str]) -> str:
@@ -106,21 +108,14 @@ def in_clone(top: str) -> Iterator[str]:
         yield from (os.path.join(top, os.path.relpath(folder, room), name) for folder, _, files in os.walk(room) for name in files)  # guard: what-a-clone-has
 
 
-def with_folders(files: Iterable[str], top: str) -> Iterator[str]:
-    """Files, and the folders that they are in, below a top."""
+def with_folders(files: Iterable[str], top: str) -> Set[str]:
+    """Files below a top, and the folders there that they are in."""
     found: Set[str] = set()
     for path in files:
-        yield path
-        path = os.path.dirname(path)
         while len(path) > len(top) and path not in found:
             found.add(path)
-            yield path
             path = os.path.dirname(path)
-
-
-def has_rules(text: str) -> bool:
-    """Whether a makefile says more than comments."""
-    return any(line.strip(" \t")[:1] not in ("", "#") for line in text.split("\n"))
+    return found
 
 
 def left_behind(tree: FirstTree, before: Dict[str, str], lives: List[Life], builds: Sequence[Build], kept: str, texts: Dict[str, str],
@@ -132,14 +127,14 @@ def left_behind(tree: FirstTree, before: Dict[str, str], lives: List[Life], buil
     recipes = [task for build in builds for task in build.tasks if task.kind == "recipe"]
     shared = {path for task in recipes for path in task.writes}
     changed = {path for task in recipes for work in task.works for kind, path in work.events if kind in CHANGES + REFUSED} - locks(lives)  # guard: names-that-could-not-be-made
-    by_any, by_recipes = used(before, lives), {*used(before, [life for life in lives if not (life.is_make or life.is_ninja)]), *listed(before, builds)}
+    by_any, by_recipes = used(before, lives), used(before, [life for life in lives if not (life.is_make or life.is_ninja)]) | listed(before, builds)
     early, made = early_folders(before, builds, lives)
     early = {path for path in early if path not in names.tops and not (path + "/").startswith(tops)}  # guard: folders-that-were-configured
     written = by_any & shared | by_recipes & changed | early & made  # guard: what-one-recipe-changes
     written |= {path for path in changed & before.keys() if tree.new and os.path.relpath(path, tree.top) in tree.new_names}  # guard: new-files-that-recipes-write
     own = {path for path in by_any | by_recipes | early if tree.is_own(path) and not (path + "/").startswith(tops)}
     found = (written | own) - tree.tracked - kept_by_git(lives)
-    return {path for path in found if not (path + "/").startswith(kept + "/") and (path not in texts or has_rules(texts[path]))}  # guard: what-earlier-build-left
+    return {path for path in found if not (path + "/").startswith(kept + "/") and (path not in texts or RULE.search(texts[path]))}  # guard: what-earlier-build-left
 
 
 def kept_by_git(lives: Iterable[Life]) -> Set[str]:
@@ -201,27 +196,24 @@ def folders_of(build: Build, before: Dict[str, str]) -> Dict[str, Folder]:
 def early_folders(before: Dict[str, str], builds: Sequence[Build], lives: Iterable[Life]) -> Tuple[Set[str], Set[str]]:
     """The folders that were there and that a recipe uses or makes too early; and those that recipes make."""
     inside = {id(make) for build in builds for task in build.tasks for work in task.works for make in work.makes}
-    early: Set[str] = set()
+    found = [(build, path, folder) for build in builds for path, folder in folders_of(build, before).items()]
+    early = {path for build, path, one in found if (one.makers or id(build.make) not in inside) and one.is_early(build)}  # guard: folders-that-outer-recipe-makes
     first: Dict[str, int] = {}  # where a recipe makes it
-    for build in builds:
-        for path, folder in folders_of(build, before).items():
-            first[path] = min([first.get(path, sys.maxsize), *folder.makers.values()])
-            if (folder.makers or id(build.make) not in inside) and folder.is_early(build):  # guard: folders-that-outer-recipe-makes
-                early.add(path)
+    for _, path, folder in found:
+        first[path] = min([first.get(path, sys.maxsize), *folder.makers.values()])
     sooner = {path for life in lives for (kind, path), place in life.events.items() if kind in MAKES and place < first.get(path, 0)}
     return early - sooner, {path for path, place in first.items() if place < sys.maxsize}  # guard: folders-that-nobody-waits-for
 
 
-def listed(before: Dict[str, str], builds: Iterable[Build]) -> Iterator[str]:
+def listed(before: Dict[str, str], builds: Iterable[Build]) -> Set[str]:
     """What was there and a recipe, or make itself, may have met as it listed the folder: what comes later has no place in the list."""
     lives = (life for build in builds for task in build.tasks for work in task.works for life in work.lives if not life.is_make)
     inside = {path: ["*"] for life in lives for kind, path in life.events if kind == LISTED}
     for make in {id(build.make): build.make for build in builds if isinstance(build.make, Make)}.values():
         for folder in (path for kind, path in make.life.events if kind == LISTED):
             inside.setdefault(folder, []).extend(make.patterns)  # guard: what-make-lists
-    for path, kind in before.items():
-        if kind in ("f", "d") and any(fnmatchcase(os.path.basename(path), pattern) for pattern in inside.get(os.path.dirname(path), ())):
-            yield path  # guard: what-lists-show
+    there = (os.path.split(path) for path, kind in before.items() if kind in ("f", "d"))
+    return {os.path.join(folder, name) for folder, name in there if any(fnmatchcase(name, pattern) for pattern in inside.get(folder, ()))}  # guard: what-lists-show
 
 
 def came_with(tree: FirstTree, paths: Iterable[str], statuses: Iterable[str], written: Container[str]) -> Set[str]:

@@ -43,6 +43,5 @@ def footprints(build: MakeBuild, names: Names) -> Iterator[Dict[str, object]]:
 def write_footprints(folder: Path, build: MakeBuild, names: Names) -> None:
     """Both texts of one build."""
     (folder / "listing").write_text("".join(line + "\n" for line in listing(build, names)), encoding="utf-8", errors="surrogateescape")
-    with open(folder / "footprints", "w", encoding="utf-8", errors="backslashreplace") as file:
-        for line in footprints(build, names):
-            file.write(json.dumps(line, ensure_ascii=False, separators=(",", ":")) + "\n")
+    lines = (json.dumps(line, ensure_ascii=False, separators=(",", ":")) + "\n" for line in footprints(build, names))
+    (folder / "footprints").write_text("".join(lines), encoding="utf-8", errors="backslashreplace")

@@ -93,7 +93,7 @@ def refuse_left_over(words: List[str]) -> None:
 
 
 def fresh_tree(options: argparse.Namespace, copy: str, left: Set[str]) -> FirstTree:
-    """Makes a copy that holds the tree. `left`: what an earlier build left, and is no part of it."""
+    """Makes a copy that holds the tree. `left`: what an earlier build left, and is no part of it. Files that have names elsewhere have fewer in a copy."""
     folder = os.path.realpath(".")
     if options.archive:
         return of_archive(options.archive, folder, copy, options.setup)
@@ -104,14 +104,9 @@ def fresh_tree(options: argparse.Namespace, copy: str, left: Set[str]) -> FirstT
         raise CannotClean("git is missing (Debian: apt-get install git): --fresh builds what it tracks here")
     place = ninja.place_of(tree.ninja, copy) if tree.ninja else folder
     copy_tree(Path(place), Path(copy))
-    return replace(tree, folder=place, linked=tuple(linked(place, copy)))
-
-
-def linked(place: str, copy: str) -> Iterator[str]:
-    """The files of a folder that have names outside of it too, as those of its copy have fewer."""
-    for path in (os.path.join(at, name) for at, _, names in os.walk(place) for name in names):
-        if os.lstat(path).st_nlink > os.lstat(copy + path[len(place):]).st_nlink:  # guard: names-outside-of-folder
-            yield path
+    files = (os.path.join(at, name) for at, _, names in os.walk(place) for name in names)
+    linked = tuple(path for path in files if os.lstat(path).st_nlink > os.lstat(copy + path[len(place):]).st_nlink)  # guard: names-outside-of-folder
+    return replace(tree, folder=place, linked=linked)
 
 
 def of_archive(archive: str, folder: str, copy: str, setup: str) -> FirstTree:

@@ -55,10 +55,8 @@ def find_race(option: Optional[str]) -> Optional[str]:
 def no_race(option: Optional[str]) -> str:
     """What to say where `find_race` finds none: what is missing, where it was looked for, and how to get it."""
     name = option or os.environ.get("RACE", "")
-    if name:
-        looked = "%s names %s, which is no program that can be run" % ("--race" if option else "$RACE", name)
-    else:
-        looked = "looked for: --race PROGRAM (not given), $RACE (not set), %s, and race on PATH" % ", ".join(map(str, PLACES))
+    looked = ("%s names %s, which is no program that can be run" % ("--race" if option else "$RACE", name) if name else
+              "looked for: --race PROGRAM (not given), $RACE (not set), %s, and race on PATH" % ", ".join(map(str, PLACES)))
     script = TOP / "install"
     command = "%s --prefix ~/.local --unproved" % (script if script.is_file() else "in a checkout of race: ./install")
     to_get = "to get it: %s, about 2 minutes; put ~/.local/bin on PATH (%s says more)" % (command, page("INSTALL.md"))

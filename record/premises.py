@@ -77,12 +77,14 @@ def changes_beside(life: Life, top: Life) -> bool:
 
 
 def unasked(makes: List[Make], ninjas: List[Ninja]) -> List[str]:
-    """Targets with a recipe that no make of their folder considered, also no other target of a rule that is grouped; and outputs of statements with a command
-    that no goal needs. A record says nothing about them."""
+    """Targets with a recipe in a makefile, but no special ones and no inference rules, that no make of their folder considered, also no other target of a rule
+    that is grouped; and outputs of statements with a command that no goal needs. A record says nothing about them."""
     there: Dict[Key, None] = {}
     asked: Set[Key] = set()
     for make, one, base in ((make, one, one.base or Base()) for make in makes for one in make.words.rounds):
-        there.update(((make.folder, name), None) for name in written(base))
+        suffixes = base.prerequisites.get(".SUFFIXES", [])
+        inference = {first + second for first in suffixes for second in ["", *suffixes]}
+        there.update(((make.folder, name), None) for name in base.places if not SPECIAL.match(name) and name not in inference)
         also = (other for name in one.nodes for other in base.also.get(name, ()))
         asked.update((make.folder, name) for name in (*one.nodes, *one.vpath.values(), *also))
     for ninja in ninjas:
@@ -90,10 +92,3 @@ def unasked(makes: List[Make], ninjas: List[Ninja]) -> List[str]:
             there.update(((ninja.folder, edge.label), None) for edge in ninja.stages[-1].manifest.edges if not edge.is_phony and not edge.is_generator)  # guard: statements-that-nothing-asked
             asked.update((ninja.folder, edge.label) for edge in ninja.wanted())
     return [name for folder, name in there if (folder, name) not in asked]
-
-
-def written(base: Base) -> Iterator[str]:
-    """The targets whose recipes stand in makefiles; special targets and inference rules are none."""
-    suffixes = base.prerequisites.get(".SUFFIXES", [])
-    inference = {first + second for first in suffixes for second in ["", *suffixes]}
-    return (name for name in base.places if not SPECIAL.match(name) and name not in inference)

@@ -79,8 +79,7 @@ def verb(about: Dict[str, Any], label: str, does: str, path: str) -> str:
 
 
 def name_of(about: Dict[str, Any], path: str) -> str:
-    """A path as people know it: of one that stands for something else the file that it is about, and what is in the project as its makefile
-    spells it."""
+    """A path as people know it: the file that it is about, which is spelled as in its makefile where it is in the project."""
     name = file_of(path) if path in about.get("meanings", {}) else path
     return near(about, name, about.get("folder", "/")) + "/" * name.endswith("/") if name.startswith("/") else name
 
