@@ -26,7 +26,7 @@ ROOMS = "/tmp" if os.path.isdir("/tmp") else None  # where temporary folders are
 NO_ROOM = "no folder for temporary files lets programs run (%s: they are mounted with noexec, or not for you): name one by TMPDIR that is not in the project"
 APART = "the recorded build ran several recipes at once, and left %s otherwise than each build in a copy: record with one job"
 NAMES = 12  # so many of the targets that were there before are named
-INSIDE = ("apart", "configured", "first", "known", "late", "lucky", "markers", "up_to_date")  # what the record does not hold as it is
+INSIDE = ("apart", "configured", "first", "known", "late", "lucky", "markers", "outside", "up_to_date")  # what the record does not hold as it is
 
 
 class Missing(Exception):
@@ -83,6 +83,7 @@ class Record:
     apart: List[Set[Address]] = field(default_factory=list)  # the same in rows: those of one row can be held at their end in one build
     known: Set[Child] = field(default_factory=set)  # of those that were held at their end, and of others with the same parent: for whom each build waits
     late: Optional[Set[str]] = None  # what processes changed that ended after a make had run several recipes at once; none where none did
+    outside: Set[str] = field(default_factory=set)  # names that changed outside of the project
     missingdeps: int = 0  # what `ninja -t missingdeps` finds
     orders: Optional[Dict[str, Any]] = None  # what builds in other orders came to
     missing: Optional[Dict[str, Any]] = None  # with --missing: what its answer takes for granted, and why there may be none
@@ -108,12 +109,19 @@ class Record:
 
     def note_pairs(self, count: int, example: str) -> None:
         """Takes in how many pairs of recipes nothing orders, where not all other orders were tried."""
+        self.assume("orders", count, example)
+
+    def assume(self, kind: str, count: int, example: str) -> None:
+        """Takes something for granted, if it is met."""
         if count:
-            self.assumptions.append({"kind": "orders", "count": count, "example": shown(example), "text": TEXTS["orders"]})
+            self.assumptions.append({"kind": kind, "count": count, "example": shown(example), "text": TEXTS[kind]})
 
     def try_out(self, orders: Dict[str, Any]) -> None:
         """Takes in what builds in other orders came to: what they try out is not taken for granted any more."""
         self.orders = orders
+        met = orders.pop("met")
+        if not any(one["kind"] == "outside" for one in self.assumptions):
+            self.assume("outside", len(met), next(iter(met), ""))  # guard: names-that-each-build-has
         self.holes += ["a build in another order failed, and did not when it was made again: " + how for how in orders["failed"]]
         if not orders["shown"]:
             self.holes += [APART % path for path in orders["doubted"][:1]]  # guard: what-the-recorded-build-left

@@ -45,7 +45,7 @@ def add_seen(replay: Calls, assumed: Assumptions) -> None:
     """What is taken for granted of what the trace shows, whoever did it."""
     for kind, found in (("sockets", replay.sockets), ("processes", replay.watchers), ("locks", replay.locks),  # guard: sockets
                         ("hard-links", replay.hard_links),  # guard: hard-links
-                        ("outside", replay.outside),
+                        ("outside", replay.unknown()),
                         ("progress", sorted(set(replay.progress)))):  # guard: what-cmake-counts
         for example in found:
             assumed.add(kind, example)

@@ -3,9 +3,9 @@
 Each has a layer of its own over /tmp, the home folder, and each folder of `/` below which nothing is mounted: what a build writes there no other one sees.
 It has ports and keys of its own, and reaches no other machine; where a serial build fails so, all have those of this machine.
 
-The second serial build and the flipped one begin beside the recorded build, which they can only disturb where another disk is mounted, or by a server. What
-that writes outside of the project they may see, as it lies below their layers. So they count only where its record says that it changed no name there that
-others know, and looked at no processes (`SHARED`); and the flipped one only where it left the same. Else they are made anew when the recorded build has ended.
+The second serial build and the flipped one begin beside the recorded build, which they can only disturb where another disk is mounted, or by a server. What that
+writes outside of the project they may see, as it lies below their layers. So they count only where it and the flipped one changed no name there in common (what is
+drawn differs); and the flipped one only where it left the same. Else they are made anew when the recorded build has ended.
 """
 
 from __future__ import annotations

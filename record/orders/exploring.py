@@ -23,7 +23,6 @@ from record.watch.lay import leave
 
 TMPFS = "/dev/shm"
 COPIES, GROWTH = 11, 4  # so many copies are there at once, and a build may make so many times of what it begins with
-SHARED = {"outside", "processes"}  # of what is taken for granted: by these a build may see what another one does beside it
 MOST = 40  # builds, where nobody says how many
 
 
@@ -84,11 +83,9 @@ def say_how_many(count: int, record: Record, more: str) -> None:
 
 def explore(room: Room, record: Record, out: Path, race: str, most: int, running: Running) -> dict[str, Any]:
     """Builds in other orders; what the record keeps of them."""
-    if not SHARED.isdisjoint(one["kind"] for one in record.assumptions):  # guard: what-builds-beside-could-see
-        running.close()
     graph = Graph(out)
     after = fixes(graph, race, room.top / "tasks")
-    trial = Trial(room, graph, [held_by(Path(top), str(out)) for top in room.tops], after, most, {*record.markers}, record.late is not None, record.late)
+    trial = Trial(room, graph, [held_by(Path(top), str(out)) for top in room.tops], after, most, {*record.markers}, record.late is not None, record.late, record.outside)
     trial.run(running, lambda count: say_how_many(count, record, "; one more for each step where something differs"))
     if graph.pairs() and not (any(trial.turned) or trial.shown or after):  # guard: builds-that-turn-nothing-round
         raise CannotTry("no two recipes change places there, as where a script calls make with -j1")

@@ -45,6 +45,8 @@ class Trial:
     markers: set[str]  # files that say that a folder is there: which of the recipes runs that make one depends on the order
     is_parallel: bool = False  # a make of the recorded build ran several recipes at once
     late: set[str] | None = None  # what was changed since then; nothing where nobody knows
+    outside: set[str] = field(default_factory=set)  # names outside of the project that the recorded build changed
+    met: set[str] = field(default_factory=set)  # of these those that another build changed, too: their names are not drawn
     order: list[Key] = field(default_factory=list)  # recipes as they begin in a serial build
     builds: int = 0
     others: int = 0  # builds in other orders that left the same
@@ -74,7 +76,6 @@ class Trial:
         those that cover what is left, as long as they turn round more. `say` takes how many follow."""
         again, flipped = self.begin(running)
         plans = [*self.orders(), *self.covers(without(self.left, self.graph.turned(flipped.began))), *self.overlaps(self.contests(flipped))]
-        self.note_late(flipped)
         chance = [differing(one, other) for one, other in zip(self.recorded, again.held)]  # or as it ran several recipes at once, or the copies are another place
         is_clean = flipped.status == 0 and all(differing(one, other) <= known for one, other, known in zip(again.held, flipped.held, chance))
         more = [replace(SERIAL, name="second")] * any(chance)
@@ -97,22 +98,29 @@ class Trial:
     def begin(self, running: Running) -> tuple[Built, Built]:
         """The second serial build, and the flipped one: those that ran beside the recorded build, where they count. `CannotTry` where the project cannot be built a
         second time."""
-        flip = FLIPPED if running.children and not self.after else replace(FLIPPED, name="fixed", after=self.after)
-        if not running.children:
+        is_beside = bool(running.children)
+        flip = FLIPPED if is_beside and not self.after else replace(FLIPPED, name="fixed", after=self.after)
+        if not is_beside:
             running.begin(SERIAL, flip)
         elif self.after:  # it began before anybody knew the fixes
             running.close(FLIPPED.name)
             running.begin(flip)
         again = running.result(SERIAL.name)
         if again.status != 0 and not self.room.has_net:
-            running.close()
-            self.room.forget(SERIAL)
             self.room.has_net = True  # guard: builds-that-need-other-machines
-            return self.begin(running)
+            return self.begin_anew(running, SERIAL)
         if again.status != 0:
             raise CannotTry("of a second serial build, in a copy: " + "; ".join(again.message()))
-        self.order = again.began
-        return again, running.result(flip.name)
+        self.order, flipped = again.began, running.result(flip.name)
+        self.note_other(flipped)
+        return self.begin_anew(running, SERIAL, flip) if is_beside and self.met else (again, flipped)  # guard: names-that-both-use
+
+    def begin_anew(self, running: Running, *plans: Plan) -> tuple[Built, Built]:
+        """The same of builds that begin now, in the place of some that ran."""
+        running.close()
+        for plan in plans:
+            self.room.forget(plan)
+        return self.begin(running)
 
     def orders(self) -> list[Plan]:
         """What a look finds may depend on several: builds that turn round each pair alone, and where there are many, one in which all users come first. Where the
@@ -123,11 +131,13 @@ class Trial:
         found += [Plan("one", placed(self.order), ONE, self.after)] * self.is_parallel  # guard: jobs-of-the-recorded-build
         return found
 
-    def note_late(self, flipped: Built) -> None:
-        """Takes in what the flipped build changed since recipes could run at once: what is alike in both by then does not go by jobs."""
+    def note_other(self, flipped: Built) -> None:
+        """Takes in what the flipped build changed: names outside of the project, and since recipes could run at once; what is alike in both by then does not go
+        by jobs."""
         kept = self.room.place(flipped.plan) / "kept"
-        other = cast(Record, pickle.loads(kept.read_bytes())).late if kept.exists() else None
-        self.late = None if self.late is None or other is None else self.late | other  # guard: what-another-order-changes
+        other = cast(Record, pickle.loads(kept.read_bytes())) if kept.exists() else None
+        self.late = self.late | other.late if other and None not in (self.late, other.late) else None  # type: ignore[operator]  # guard: what-another-order-changes
+        self.met = self.outside & other.outside if other else set()
 
     def doubted(self) -> list[str]:
         """What the recorded build left otherwise than copies as it ran recipes at once, for all that is known."""
@@ -295,7 +305,7 @@ class Trial:
         return {"builds": self.others, "failed": self.failed, "made": self.builds, "pairs": self.graph.pairs(), "turned": size(self.turned),
                 "untried": bool(self.graph.pairs()) and (not self.is_whole or any(self.left) or not self.graph.leaves().isdisjoint(unstable)),
                 "files": sum(text.startswith("file") for held in self.serial for text in held.values()),
-                "unstable": unstable, "apart": [self.whole(*one) for one in self.names(self.recorded)], "doubted": self.doubted(), "shown": [*map(self.shown_labels, self.shown)]}
+                "unstable": unstable, "apart": [self.whole(*one) for one in self.names(self.recorded)], "doubted": self.doubted(), "met": sorted(filter(os.path.lexists, self.met)), "shown": [*map(self.shown_labels, self.shown)]}
 
     def shown_labels(self, one: Shown) -> dict[str, Any]:
         """A difference, by the build and the labels of its two recipes."""

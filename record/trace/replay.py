@@ -44,7 +44,7 @@ class Replay:
         self.locks: List[str] = []  # what was locked by somebody who does not wait for it, or not for long
         self.taken: Dict[int, List[str]] = {}  # by id of the first process of a recipe: what was locked by somebody who waits for it
         self.hard_links: List[str] = []
-        self.outside: Dict[str, None] = {}  # names that changed, and of which the disk alone says what they were before
+        self.outside: Dict[str, None] = {}  # names that changed outside of the project
         self.fresh: Set[str] = set()  # names that were surely absent when they were made
         self.progress: List[str] = []  # folders in which CMake counts what is built
         self.watchers: List[str] = []  # who lists the processes that run, or waits for changes of files
@@ -63,6 +63,10 @@ class Replay:
                 life.is_heir = True
                 life.parent = parents[0] if len(parents) == 1 else None  # guard: what-is-above-one-that-is-seen-first
         return life
+
+    def unknown(self) -> List[str]:
+        """Names outside of the project that changed, and of which the disk alone says what they were before: they were not made surely, nor a folder above them."""
+        return [path for path in self.outside if self.fresh.isdisjoint(map(str, (Path(path), *Path(path).parents)))]  # guard: names-in-folders-that-are-made
 
     def strays(self) -> List[str]:
         """Processes that did something, and of which nobody knows who started them: in a name space of its own a process has another number
@@ -148,7 +152,7 @@ class Replay:
         if PROGRESS in path and shelltext.shows_progress(life.argv):  # guard: what-cmake-counts
             self.progress.append(path[:path.index(PROGRESS) + len(PROGRESS)])
             return
-        if kind in TREE_CHANGES and not self.names.is_inside(path) and self.fresh.isdisjoint(map(str, (Path(path), *Path(path).parents))):  # guard: names-in-folders-that-are-made
+        if kind in TREE_CHANGES and not self.names.is_inside(path):
             self.outside[path.rstrip("/")] = None  # guard: names-outside-of-project
         if kind in (READ, ENTERED) and (life.is_ninja or life.is_make and life.number >= 0):
             life.acts.append(Act(self.place, kind, path))

@@ -73,6 +73,7 @@ GUARDS: List[Guard] = [
     *guards("folder.py",
         ("build-that-failed", "pass", "small.Makefiles.status_of_the_command", LOST_HOLE),
         ("waits-that-are-not-all-known", "left = [example for example, waits in self.lucky.items() if not waits & known]", "waits.Names.what_is_left"),
+        ("names-that-each-build-has", "pass", "orders.Orders.folder_elsewhere_that_stays"),
         ("what-the-recorded-build-left", "pass", "orders.Orders.what_jobs_alone_show"),
         ("what-orders-try-out", "pass", "orders.Orders.premises"),
         ("who-waits-for-what-leaves-no-file", '"order_only": False,', "small.Makefiles.fix_by_what_leaves_no_file", UNSAID),

@@ -163,7 +163,7 @@ GUARDS: List[Guard] = [
         ("numbers-hole", "if False:", "replay.Makefiles.file_by_its_number", LOST_HOLE),
         ("what-cmake-counts", "if False:", "generators.Makefiles.targets_side_by_side"),
         ("names-outside-of-project", "pass", "small.Makefiles.outside", UNSAID),
-        ("names-in-folders-that-are-made", 'if kind in TREE_CHANGES and not self.names.is_inside(path) and path.rstrip("/") not in self.fresh:', "small.Makefiles.outside_in_a_folder_that_is_made"),
+        ("names-in-folders-that-are-made", "return [path for path in self.outside if path not in self.fresh]", "small.Makefiles.outside_in_a_folder_that_is_made"),
         ("processs-own-folder-in-proc", "path = path", "replay.Footprints.paths_by_way_of_proc"),
         ("not-by-recorders-own-numbers", "found = self.names.find(base or life.folder, path, follow)", "replay.Makefiles.file_by_its_number", LOST_HOLE),
         ("folders-that-path-leaves-again", "if False and (not OF_SYSTEM.match(path) or self.names.is_inside(os.path.normpath(path))):", "replay.Makefiles.folder_that_a_path_leaves_again", YES),

@@ -104,6 +104,19 @@ class Orders(unittest.TestCase):
             found = project.record(["make", "-j2"], once=False)
         self.assertEqual((2, True), (found.status, "/a otherwise than each build in a copy: record with one job" in found.text()), found.text())
 
+    def test_folder_elsewhere_that_stays(self) -> None:
+        """Builds in copies find it, and what is in it."""
+        with support.Project({"Makefile": "all: a b\na: ; @mkdir ../d; touch ../d/a a\nb: ; @ls ../d > b 2> /dev/null || true\n"}) as project:
+            found = project.record(once=False)
+        self.assertEqual((0, True), (found.status, "does no harm: outside (" in found.text()), found.text())
+
+    def test_folder_elsewhere_that_goes_again(self) -> None:
+        """A build beside the recorded one would find it."""
+        makefile = "all: c\na: ; @mkdir -p ../d; touch ../d/a a\nb: ; @sleep 1; ls ../d > b 2> /dev/null; sleep 1\nc: a b ; @rm -r ../d; touch c\n"
+        with support.Project({"Makefile": makefile}) as project:
+            found = project.record(once=False)
+        self.assertEqual((1, True), (found.status, "  seen where b runs before a:" in found.text()), found.text())
+
     def test_name_that_jobs_alone_leave_out(self) -> None:
         """Nobody touches it in the recorded build."""
         makefile = "all: a b\na: ; @echo > d/a; sleep 0.8; test -e d/b || echo > one; rm d/a; touch a\nb: ; @echo > d/b; sleep 1.6; rm d/b; touch b\n"
