@@ -1,0 +1,89 @@
+#!/usr/bin/env python3
+"""Times race-record on the packages of the golden traces (tests/record/golden/packages.py), each configured, and then built with one job.
+
+    bench/packages/run.py [--race PROGRAM] [--folder DIR] [PACKAGE ..]
+
+    bench/packages/run.py bzip2 lua5.4       two of them
+    bench/packages/run.py --race race        all of them, with the program race on PATH: half an hour
+
+As root on Debian 12, with its sources among those of apt (deb-src): what a package is built with gets installed. A row has the seconds of the plain build,
+and of race-record with builds in other orders; the peak memory of one of its processes; and what it said. The last row has the median. Nothing here is
+a test.
+"""
+from __future__ import annotations
+
+import argparse
+import os
+import re
+import shutil
+import statistics
+import subprocess
+import sys
+import tempfile
+from pathlib import Path
+
+TOP = Path(__file__).resolve().parents[2]
+sys.path[:0] = [str(TOP), str(TOP / "bench"), str(TOP / "tests" / "record" / "golden")]
+
+from measure import Run, head, once, row  # noqa: E402
+from packages import PACKAGES, Package  # noqa: E402
+
+from record.command import with_jobs  # noqa: E402
+from record.judge import find_race, no_race  # noqa: E402
+
+RECORDER = TOP / "record" / "race-record"
+VERDICT = re.compile(r"^(?:SAFE|RACE|NO VERDICT|WARM)\b", re.M)
+
+
+def quietly(folder: Path, *words: str) -> None:
+    """Runs a command that has to end well."""
+    ran = subprocess.run(words, cwd=folder, stdin=subprocess.DEVNULL, stdout=subprocess.PIPE, stderr=subprocess.STDOUT, check=False)
+    if ran.returncode:
+        sys.exit("%s ended with %d:\n%s" % (" ".join(words), ran.returncode, ran.stdout.decode(errors="replace")[-2000:]))
+
+
+def configured(package: Package, room: Path) -> Path:
+    """The folder of a package, which waits for its build."""
+    if package.needs:
+        quietly(room, "apt-get", "install", "-qq", "-y", "--no-install-recommends", *package.needs.split())
+    quietly(room, "apt-get", "source", "-qq", "--download-only", "--only-source", package.name)
+    quietly(room, "dpkg-source", "--no-check", "-x", str(next(room.glob("*.dsc"))), "project")
+    quietly(room / "project", "sh", "-ec", package.before)
+    return room / "project"
+
+
+def measured(package: Package, room: Path, race: str) -> list[Run]:
+    """The plain build, and the recorded one with others, each of a tree of its own in one place."""
+    folder, words = configured(package, room), package.words.split()
+    quietly(room, "cp", "-a", "project", "kept")
+    found = []
+    for command in (with_jobs(words, 1), [str(RECORDER), "--race", race, "--warm", "--", *words]):
+        shutil.rmtree(folder)
+        quietly(room, "cp", "-a", "kept", "project")
+        found.append(once(folder, command))
+    return found
+
+
+def main() -> None:
+    """The program."""
+    parser = argparse.ArgumentParser(description=__doc__, formatter_class=argparse.RawDescriptionHelpFormatter)
+    parser.add_argument("--race", metavar="PROGRAM", help="the program race (else $RACE, the checkout's, or the one on PATH)")
+    parser.add_argument("--folder", default="/var/tmp", metavar="DIR", help="where they are built (/var/tmp)")
+    parser.add_argument("packages", nargs="*", metavar="PACKAGE", help="the packages (all)")
+    args = parser.parse_args()
+    race = find_race(args.race)
+    if race is None:
+        sys.exit(no_race(args.race))
+    os.environ["DEBIAN_FRONTEND"] = "noninteractive"
+    head("package", "plain, s", "recorded, s", "ratio", "memory, MiB", "verdict")
+    ratios: list[float] = []
+    for name in args.packages or PACKAGES:
+        with tempfile.TemporaryDirectory(prefix="race-bench-", dir=args.folder) as room:
+            plain, recorded = measured(PACKAGES[name], Path(room), race)
+        ratios.append(recorded.seconds / plain.seconds)
+        row("`%s`" % name, "%.1f" % plain.seconds, "%.1f" % recorded.seconds, "%.1f" % ratios[-1], "%.0f" % recorded.memory, *VERDICT.findall(recorded.out.decode(errors="replace"))[-1:])
+    row("median", "", "", "%.1f" % statistics.median(ratios), "", "")
+
+
+if __name__ == "__main__":
+    main()
