@@ -33,7 +33,7 @@ def running(tracer: int) -> int:
 
 def waited(pid: int) -> float:
     """Seconds in which a process could not run, as others had its processor."""
-    return int((shown(pid, "schedstat").split() or "00")[1]) / 1e9
+    return int((shown(pid, "schedstat").split() or ["0", "0"])[1]) / 1e9
 
 
 class Processor:
