@@ -26,7 +26,7 @@ ROOMS = "/tmp" if os.path.isdir("/tmp") else None  # where temporary folders are
 NO_ROOM = "no folder for temporary files lets programs run (%s: they are mounted with noexec, or not for you): name one by TMPDIR that is not in the project"
 APART = "the recorded build ran several recipes at once, and left %s otherwise than each build in a copy: record with one job"
 NAMES = 12  # so many of the targets that were there before are named
-INSIDE = ("apart", "configured", "first", "known", "late", "lucky", "markers", "outside", "up_to_date")  # what the record does not hold as it is
+INSIDE = ("apart", "configured", "first", "known", "late", "lucky", "markers", "outside", "touched", "up_to_date")  # what the record does not hold as it is
 
 
 class Missing(Exception):
@@ -84,6 +84,7 @@ class Record:
     known: Set[Child] = field(default_factory=set)  # of those that were held at their end, and of others with the same parent: for whom each build waits
     late: Optional[Set[str]] = None  # what processes changed that ended after a make had run several recipes at once; none where none did
     outside: Set[str] = field(default_factory=set)  # names that changed outside of the project
+    touched: Set[str] = field(default_factory=set)  # names there that somebody looked at, too
     missingdeps: int = 0  # what `ninja -t missingdeps` finds
     orders: Optional[Dict[str, Any]] = None  # what builds in other orders came to
     missing: Optional[Dict[str, Any]] = None  # with --missing: what its answer takes for granted, and why there may be none

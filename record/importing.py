@@ -89,6 +89,7 @@ class Imported:
         if (self.makes or self.ninjas) and record.status == 0 and did_nothing(self.builds, self.makes):
             record.holes.append(IDLE)  # guard: nothing
         record.outside = {*self.replay.outside}
+        record.touched = {path.rstrip("/") for path in {path for life in self.lives for _, path in life.events} if not self.names.is_inside(path)}
         since = min((place for make in self.makes for place in self.owners.at_once(make)), default=None)
         record.late = None if since is None else {path.rstrip("/") for life in self.lives if life.died > since for kind, path in life.events if kind in CHANGES + OUTPUT + MADE + FOLDER_CHANGED}
 

@@ -4,7 +4,7 @@ Each has a layer of its own over /tmp, the home folder, and each folder of `/` b
 It has ports and keys of its own, and reaches no other machine; where a serial build fails so, all have those of this machine.
 
 The second serial build and the flipped one begin beside the recorded build, which they can only disturb where another disk is mounted, or by a server. What that
-writes outside of the project they may see, as it lies below their layers. So they count only where it and the flipped one changed no name there in common (what is
+writes outside of the project they may see, as it lies below their layers. So they count only where the flipped one touched no name there that it changed (what is
 drawn differs); and the flipped one only where it left the same. Else they are made anew when the recorded build has ended.
 """
 

@@ -46,7 +46,7 @@ class Trial:
     is_parallel: bool = False  # a make of the recorded build ran several recipes at once
     late: set[str] | None = None  # what was changed since then; nothing where nobody knows
     outside: set[str] = field(default_factory=set)  # names outside of the project that the recorded build changed
-    met: set[str] = field(default_factory=set)  # of these those that another build changed, too: their names are not drawn
+    met: set[str] = field(default_factory=set)  # of these those that another build touched, too: their names are not drawn
     order: list[Key] = field(default_factory=list)  # recipes as they begin in a serial build
     builds: int = 0
     others: int = 0  # builds in other orders that left the same
@@ -134,10 +134,10 @@ class Trial:
     def note_other(self, flipped: Built) -> None:
         """Takes in what the flipped build changed: names outside of the project, and since recipes could run at once; what is alike in both by then does not go
         by jobs."""
-        kept = self.room.place(flipped.plan) / "kept"
-        other = cast(Record, pickle.loads(kept.read_bytes())) if kept.exists() else None
+        file = self.room.place(flipped.plan) / "kept"
+        other = cast(Record, pickle.loads(file.read_bytes())) if file.exists() else None
         self.late = self.late | other.late if other and None not in (self.late, other.late) else None  # type: ignore[operator]  # guard: what-another-order-changes
-        self.met = self.outside & other.outside if other else set()
+        self.met = self.outside & other.touched if other else set()  # guard: names-that-another-build-finds
 
     def doubted(self) -> list[str]:
         """What the recorded build left otherwise than copies as it ran recipes at once, for all that is known."""
@@ -281,10 +281,14 @@ class Trial:
             left, number = [one for one in left if one not in met], number + 1
 
     def settle_meets(self, built: Built) -> None:
-        """Takes in a build in which recipes meet. What differs is of two of them, unless it also differs where these run one behind the other."""
+        """Takes in a build in which recipes meet. What differs is of two of them, or of the order of the recipes where it also differs when these run one behind the
+        other."""
         meets = built.plan.meets
         if built.otherwise and len(meets) > 1:
+            known = len(self.shown)
             self.try_all([replace(built.plan, name="alone%d" % number, meets=[one], at_once=1) for number, one in enumerate(meets)])
+            if len(self.shown) == known:
+                self.doubt(built)
         elif built.otherwise and self.is_apart(meets[0]):
             self.builds += 2
             both, behind = self.step(*(replace(built.plan, name="again%d" % number, after=self.after, at_once=1, meets=some) for number, some in enumerate((meets, ()))))
@@ -292,6 +296,8 @@ class Trial:
                 self.doubt(built)
             elif not behind.otherwise:
                 self.shown.append(Shown(sorted(meets[0][:2], key=self.graph.keys.__getitem__), both, True))
+            else:
+                self.settle(behind)
 
     def is_apart(self, meet: Meet) -> bool:
         """Whether nothing orders two recipes."""

@@ -20,6 +20,7 @@ GUARDS: List[Guard] = [
     ),
     *guards("orders/trial.py",
         ("folders-that-two-make", "return []", "orders.Orders.case_folder_that_two_make", UNSAID),
+        ("names-that-another-build-finds", "self.met = self.outside & other.outside if other else set()", "orders.Orders.folder_elsewhere_that_one_makes_by_p"),
         ("names-that-both-use", "return again, flipped", "orders.Orders.what_the_recorded_build_changes_elsewhere"),
         ("what-another-order-changes", "pass", "orders.Orders.name_that_jobs_alone_leave_out"),
         ("what-was-there-by-then", "return paths", "orders.Orders.what_was_there_before_jobs_ran"),

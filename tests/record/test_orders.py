@@ -110,6 +110,12 @@ class Orders(unittest.TestCase):
             found = project.record(once=False)
         self.assertEqual((0, True), (found.status, "does no harm: outside (" in found.text()), found.text())
 
+    def test_folder_elsewhere_that_one_makes_by_p(self) -> None:
+        """Where it is there, nobody changes it."""
+        with support.Project({"Makefile": "all: a b\na: ; @mkdir -p ../d; touch a\nb: ; @test -d ../d && echo > b || touch b\n"}) as project:
+            found = project.record(once=False)
+        self.assertEqual((0, True), (found.status, "does no harm: outside (" in found.text()), found.text())
+
     def test_folder_elsewhere_that_goes_again(self) -> None:
         """A build beside the recorded one would find it."""
         makefile = "all: c\na: ; @mkdir -p ../d; touch ../d/a a\nb: ; @sleep 1; ls ../d > b 2> /dev/null; sleep 1\nc: a b ; @rm -r ../d; touch c\n"
