@@ -101,11 +101,18 @@ def tree_of(folder: str) -> FirstTree:
 
 
 def in_clone(top: str) -> Iterator[str]:
-    """What git's own folder has in a new clone, as paths of this one."""
+    """What git's own folder has in a new clone, as paths of this one. The objects are those that are here."""
     yield os.path.join(top, ".git", "index")  # of what is checked out
+    objects = os.path.join(top, git(top, "rev-parse", "--git-path", "objects").rstrip("\n"))
+    yield from names_below(objects)  # guard: objects-of-git
     with tempfile.TemporaryDirectory(prefix="race-git-") as room:
         git(top, "clone", "-q", "--shared", "--no-checkout", "--upload-pack", shlex.join([*GIT, "upload-pack"]), top, room)
-        yield from (os.path.join(top, os.path.relpath(folder, room), name) for folder, _, files in os.walk(room) for name in files)  # guard: what-a-clone-has
+        yield from (os.path.join(top, os.path.relpath(path, room)) for path in names_below(room))  # guard: what-a-clone-has
+
+
+def names_below(top: str) -> Iterator[str]:
+    """All files and folders below a folder."""
+    return (os.path.join(folder, name) for folder, folders, files in os.walk(top) for name in (*folders, *files))
 
 
 def with_folders(files: Iterable[str], top: str) -> Set[str]:

@@ -68,6 +68,11 @@ class Left(unittest.TestCase):
         outcome = self.recorded({"Makefile": "all: v w\nv: .git/HEAD .git/index .git/logs/HEAD ; cp .git/HEAD v\nw: ; cat .git/packed-refs > w\n"}, GIT + "; git pack-refs --all")
         self.assertEqual(0, outcome.status, outcome.text())
 
+    def test_walk_through_a_clone(self) -> None:
+        """Who goes through all of it meets what git keeps for itself."""
+        outcome = self.recorded({"Makefile": "count: ; find . -name '*.sh' | wc -l > count\n", "a.sh": "", ".gitignore": "count\n"}, GIT + "; git gc -q; git clone -q . ../clone; rm -rf .git; mv ../clone/.git .")
+        self.assertEqual(0, outcome.status, outcome.text())
+
     def test_what_git_uses(self) -> None:
         files = {"Makefile": "all: v\nv: ; git describe --tags > v; git -c maintenance.auto=false -c user.name=x -c user.email=x@y commit -qm x --allow-empty\n"}
         outcome = self.recorded(files, GIT + "; git tag one")
@@ -216,6 +221,12 @@ class Fresh(unittest.TestCase):
         self.assertEqual(0, outcome.status, outcome.text())
         self.assertIn(", after ./configure\n", outcome.text())
         self.assertEqual(2, self.fresh(files, "chmod +x configure; " + GIT, ["--setup", "false"]).status)
+
+    def test_setup_that_goes_elsewhere(self) -> None:
+        """The build begins where the user is."""
+        files = {"configure": "#!/bin/sh\nprintf 'all: ; @echo > a\\n' > Makefile\n"}
+        outcome = self.fresh(files, "chmod +x configure; " + GIT, ["--setup", "mkdir bld && cd bld && ../configure"], ["make", "-C", "bld"])
+        self.assertEqual(0, outcome.status, outcome.text() + outcome.stderr.decode())
 
     def test_folder_below_the_work_tree(self) -> None:
         with support.Project({"sub/Makefile": "all: ; cat ../src > a\n", "src": "1\n", "sub/a": "2\n"}) as project:
