@@ -1,14 +1,15 @@
 #!/usr/bin/env python3
 """Times race-record on the packages of the golden traces (tests/record/golden/packages.py), each configured, and then built with one job.
 
-    bench/packages/run.py [--race PROGRAM] [--folder DIR] [PACKAGE ..]
+    bench/packages/run.py [--race PROGRAM] [--folder DIR] [--jobs N] [PACKAGE ..]
 
     bench/packages/run.py bzip2 lua5.4       two of them
+    bench/packages/run.py --jobs 4 bzip2     the build with four jobs, recorded once
     bench/packages/run.py --race race        all of them, with the program race on PATH: half an hour
 
 As root on Debian 12, with its sources among those of apt (deb-src): what a package is built with gets installed. A row has the seconds of the plain build,
-and of race-record with builds in other orders; the peak memory of one of its processes; and what it said. The last row has the median. Nothing here is
-a test.
+and of race-record with builds in other orders, or with --once where jobs are given; the peak memory of one of its processes; and what it said. The last row
+has the median. Nothing here is a test.
 """
 from __future__ import annotations
 
@@ -52,12 +53,13 @@ def configured(package: Package, room: Path) -> Path:
     return room / "project"
 
 
-def measured(package: Package, room: Path, race: str) -> list[Run]:
-    """The plain build, and the recorded one with others, each of a tree of its own in one place."""
+def measured(package: Package, room: Path, race: str, jobs: int | None) -> list[Run]:
+    """The plain build, and the recorded one, with others where no jobs are given, each of a tree of its own in one place."""
     folder, words = configured(package, room), package.words.split()
     quietly(room, "cp", "-a", "project", "kept")
-    found = []
-    for command in (with_jobs(words, 1), [str(RECORDER), "--race", race, "--warm", "--", *words]):
+    plain, found = [*words, "-j%d" % jobs] if jobs else with_jobs(words, 1), []
+    recorded = ["--once", "--", *plain] if jobs else ["--", *words]
+    for command in (plain, [str(RECORDER), "--race", race, "--warm", *recorded]):
         shutil.rmtree(folder)
         quietly(room, "cp", "-a", "kept", "project")
         found.append(once(folder, command))
@@ -69,6 +71,7 @@ def main() -> None:
     parser = argparse.ArgumentParser(description=__doc__, formatter_class=argparse.RawDescriptionHelpFormatter)
     parser.add_argument("--race", metavar="PROGRAM", help="the program race (else $RACE, the checkout's, or the one on PATH)")
     parser.add_argument("--folder", default="/var/tmp", metavar="DIR", help="where they are built (/var/tmp)")
+    parser.add_argument("--jobs", type=int, metavar="N", help="build with N jobs, and record that build alone")
     parser.add_argument("packages", nargs="*", metavar="PACKAGE", help="the packages (all)")
     args = parser.parse_args()
     race = find_race(args.race)
@@ -79,7 +82,7 @@ def main() -> None:
     ratios: list[float] = []
     for name in args.packages or PACKAGES:
         with tempfile.TemporaryDirectory(prefix="race-bench-", dir=args.folder) as room:
-            plain, recorded = measured(PACKAGES[name], Path(room), race)
+            plain, recorded = measured(PACKAGES[name], Path(room), race, args.jobs)
         ratios.append(recorded.seconds / plain.seconds)
         row("`%s`" % name, "%.1f" % plain.seconds, "%.1f" % recorded.seconds, "%.1f" % ratios[-1], "%.0f" % recorded.memory, *VERDICT.findall(recorded.out.decode(errors="replace"))[-1:])
     row("median", "", "", "%.1f" % statistics.median(ratios), "", "")
