@@ -98,5 +98,5 @@ def judge(race: str, tasks: Path, root: str) -> Verdict:
     elif listed.returncode == 1:
         fixed = ask(race, "fix", tasks, root)
         verdict.is_fixed = fixed.returncode == 0
-        verdict.fix = [t.partition(" #")[0].rstrip() for t in fixed.stdout.split("\n") if ": " in t and not t.startswith("#")]
+        verdict.fix = [unshown(t.partition(" #")[0].rstrip()) for t in fixed.stdout.split("\n") if ": " in t and not t.startswith("#")]
     return verdict

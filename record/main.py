@@ -65,7 +65,7 @@ ABSENT = "%s is missing (Debian: apt-get install %s)"
 NO_COMMAND = "no such command: %s, or it cannot be run; behind -- stands the command that builds, such as make: race-record -- make"
 MAKES = ("make", "gmake", "bmake")
 SILENT = "%s cannot be recorded: %s. Nothing was built. Let a GNU make build, of version 4.2 or later (Debian: apt-get install make), and record again"
-SETUP = " || exit\nexec \"$@\""  # behind what comes before the build
+SETUP = " || exit\ncd -- \"$1\" && shift && exec \"$@\""  # behind what comes before the build
 NOT_TRIED = "not built in other orders: %s"
 SERIAL_FAILED = "the serial build failed"
 ASKED = min(4, os.cpu_count() or 1)  # how many builds `race` is asked about at once
@@ -321,8 +321,8 @@ def try_out(room: Room, running: Running, record: Record, out: Path, race: str, 
 
 
 def prepared(options: argparse.Namespace) -> List[str]:
-    """The words of a command that runs what comes before the build, and then the words behind them."""
-    return ["sh", "-c", options.setup + SETUP, "sh"] if options.setup else []
+    """The words of a command that runs what comes before the build, and then here the words behind them."""
+    return ["sh", "-c", options.setup + SETUP, "sh", os.getcwd()] if options.setup else []  # guard: where-setup-goes
 
 
 def record_serial(options: argparse.Namespace, tools: Dict[str, str], out: Path) -> Record:

@@ -11,7 +11,7 @@ from pathlib import Path
 from typing import Any
 
 from record.folder import Record, runs_programs
-from record.judge import judge, unshown
+from record.judge import judge
 from record.messages import say
 from record.orders.builds import FLIPPED, SERIAL, Plan, Room, Running, is_child_able
 from record.orders.gate import Key
@@ -89,8 +89,8 @@ def explore(room: Room, record: Record, out: Path, race: str, most: int, running
     trial.run(running, lambda count: say_how_many(count, record, "; one more for each step where something differs"))
     if graph.pairs() and not (any(trial.turned) or trial.shown or after):  # guard: builds-that-turn-nothing-round
         raise CannotTry("no two recipes change places there, as where a script calls make with -j1")
-    if (room.top / "record").exists():  # else that build was stopped, as all of it waited
-        join(graph, Graph(room.top / "record"))
+    for other in trial.records:
+        join(graph, other)
     found = trial.result()
     if not found["untried"]:
         pass_questions(graph)  # guard: what-is-tried-out-is-judged-no-more
@@ -109,7 +109,7 @@ def fixes(graph: Graph, race: str, text: Path) -> dict[Key, set[Key]]:
         verdict = judge(race, text, build["folder"])
         if verdict.refused:
             raise CannotTry("no verdict on build %s" % number)
-        for late, _, early in (unshown(line).partition(": ") for line in verdict.fix):
+        for late, _, early in (line.partition(": ") for line in verdict.fix):
             keys = [graph.tasks[graph.recipe_of(number, label)].key if (number, label) in graph.at else None for label in (late, early)]
             if keys[0] and keys[1]:
                 after.setdefault(keys[0], set()).add(keys[1])

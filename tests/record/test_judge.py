@@ -49,7 +49,7 @@ class Answers(unittest.TestCase):
         with support.Project({"tasks": '{"task":"a b","after":[],"reads":[],"writes":["x y"]}\n{"task":"c","after":[],"reads":["x y"],"writes":[]}\n'}) as project:
             found = judge(support.race_program(), Path(project.folder) / "tasks", str(project.folder))
         self.assertEqual([("x y", "a b", "writes", "c", "reads")], [(r.path, r.first, r.first_does, r.second, r.second_does) for r in found.races])
-        self.assertTrue(found.is_fixed)
+        self.assertEqual((True, ["c: a b"]), (found.is_fixed, found.fix))
 
 
 class Names(unittest.TestCase):
