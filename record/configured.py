@@ -37,7 +37,7 @@ def find_configured(owners: Owners, names: Names) -> Set[str]:
         made -= fresh  # guard: stamps-that-recipes-make
         places = [written[path][1] for path in made if path in written]
         found |= made if readers and (not places or status in written and max(places) < min(readers)) else set()  # guard: what-build-changes
-    ran = {names.find(make.folder, job.target, True).path: make.life.born for make in makes for one in make.words.rounds for job in one.jobs}
+    ran = {names.find(make.folder, job.target, True).path: make.life.born for make in makes for job in make.jobs}
     return {path for path in found if path not in written or ran.get(path, written[path][1]) >= written[path][1]}  # guard: what-it-made
 
 

@@ -19,7 +19,7 @@ WIDTH = 100  # signs of the words of a make
 def failure(make: Make) -> Tuple[str, Work]:
     """The first target that a make could not make, and what its recipe did."""
     jobs = (job for one in make.words.rounds for job in one.jobs if one.base and job.target in one.base.failed)  # guard: which-recipe
-    return next(((job.target, make.work.get(id(job), Work())) for job in jobs), ("", Work()))
+    return next(((job.target, job.work) for job in jobs), ("", Work()))
 
 
 def failed(makes: Sequence[Make]) -> List[Make]:
@@ -30,7 +30,7 @@ def failed(makes: Sequence[Make]) -> List[Make]:
 
 def unmade(make: Make, names: Names) -> Dict[str, str]:
     """The files that a make has a recipe for and did not make, by their paths, with their names there."""
-    ran = {names.find(make.folder, job.target, True).path for one in make.words.rounds for job in one.jobs}
+    ran = {names.find(make.folder, job.target, True).path for job in make.jobs}
     found = {names.find(make.folder, target, True).path: target for one in make.words.rounds if one.base for target in one.base.recipes if target not in one.base.phony}
     return {path: target for path, target in found.items() if path not in ran}  # guard: it-lacks-no-file-whose-recipe-ran
 

@@ -120,13 +120,10 @@ class Imported:
         holes += ["a make ran past the recorder: " + words for words in replay.unheard.values()]  # guard: makes-without-library
 
     def add_builds(self) -> None:
-        """A build for each round of a make in which something was done, in the order in which they began, beside those of ninjas; their holes too."""
+        """A build for each round of a make in which something was done, in the order in which they began, beside those of ninjas; a hole for each target that no recipe made."""
         past, names = Past(self.names.before, self.replay.changes), self.names
-        for place, make, number in sorted(((beginning(m, n), m, n) for m in self.makes for n in range(len(m.words.rounds))), key=lambda found: found[0]):
-            if make.words.rounds[number].jobs:
-                builder = Builder(make, number, names, self.assumed, past.until(place))
-                self.builds.append(builder.run())
-                self.record.holes += builder.holes
+        rounds = sorted(((beginning(m, n), m, n) for m in self.makes for n, one in enumerate(m.words.rounds) if one.jobs), key=lambda found: found[0])
+        self.builds += (Builder(make, number, names, self.assumed, past.until(place)).run() for place, make, number in rounds)
         for path in made_unseen(self.makes, self.ninjas, names, past.until(sys.maxsize)):
             self.record.holes.append("%s was absent, and something else made it while the build ran, so its recipe did not run: let nothing else build here, and record again" % path)
         self.builds.sort(key=lambda build: start_of(build.make.life))  # guard: when-a-make-began

@@ -1,7 +1,7 @@
 """What a whole build takes for granted, found when the words of its makes and the lives of its processes are known."""
 
 import re
-from typing import Dict, Iterator, List, Optional, Set, Tuple
+from typing import Dict, Iterator, List, Set, Tuple
 
 from record.build.assumptions import Assumptions
 from record.build.work import Work
@@ -21,8 +21,8 @@ Key = Tuple[str, str]  # folder and target
 def add_granted(owners: Owners, assumed: Assumptions) -> None:
     """All that is counted over makes and their jobs."""
     for make in owners.makes:
-        for job in (j for r in make.words.rounds for j in r.jobs):
-            lucky(make.work.get(id(job)), job.target, assumed)
+        for job in make.jobs:
+            lucky(job.work, job.target, assumed)
         features = {word for one in make.words.rounds for value in (one.base or Base()).values.get(".FEATURES", ()) for word in value.split()}
         for name in [*["$(guile ..)"] * ("guile" in features), *make.words.loaded]:  # guard: another-language
             assumed.add("loaded", name)  # guard: loaded-objects-said
@@ -56,9 +56,9 @@ def shown(life: Life) -> str:
     return " ".join(life.argv)[:WIDTH]
 
 
-def lucky(work: Optional[Work], target: str, assumed: Assumptions) -> None:
+def lucky(work: Work, target: str, assumed: Assumptions) -> None:
     """Processes of one recipe that are ordered by a wait which may have been luck."""
-    for text, waits in sorted(work.luck.items()) if work is not None else ():
+    for text, waits in sorted(work.luck.items()):
         assumed.add_luck("%s in %s" % (text, target), waits)
 
 

@@ -20,7 +20,6 @@ class Builder:
 
     def __init__(self, names: Names, assumed: Assumptions, build: Build, before: Dict[str, str]) -> None:
         self.names, self.assumed, self.build, self.before = names, assumed, build, before
-        self.holes: List[str] = []
         self.of_node: Dict[str, int] = {}
 
     # ---------------------------------------------------------------- tasks and their order

@@ -31,12 +31,13 @@ def grouped(pairs: Iterable[Tuple[One, Other]]) -> Dict[One, List[Other]]:
     return found
 
 
-@dataclass
+@dataclass(eq=False)
 class Job:
-    """A recipe that make ran."""
+    """A recipe that make ran, and what it did."""
 
     target: str
     pids: List[int] = field(default_factory=list)
+    work: Work = field(default_factory=Work)
 
 
 @dataclass(eq=False)

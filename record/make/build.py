@@ -40,7 +40,7 @@ class MakeBuilder(Builder):
         """A task for each target whose recipe ran."""
         for node in self.graph.nodes.values():
             if node.jobs or node.must and node.has_recipe:
-                self.add(node, "recipe", [self.make.work[id(j)] for j in node.jobs if id(j) in self.make.work])
+                self.add(node, "recipe", [job.work for job in node.jobs if job.work.lives])
         for part in self.make.left:
             self.build.tasks.append(Task(CALLED, Node(CALLED, CALLED, 0, 0), "part", part=part))
 

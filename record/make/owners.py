@@ -32,10 +32,9 @@ def text_of(path: str) -> str:
 
 @dataclass(eq=False)
 class Make(Tool):
-    """A make process: its words, its life, its folder, and what each of its jobs did."""
+    """A make process: its words, its life, and its folder."""
 
     words: Words
-    work: Dict[int, Work] = field(default_factory=dict)  # by id of the job
     left: List[Part] = field(default_factory=list)  # processes that its own calls leave running, as `$(shell a &)`
 
     def known_text(self, name: str) -> Optional[str]:
@@ -44,6 +43,11 @@ class Make(Tool):
             return "\n".join(map(text_of, self.words.copies_of(name) or [os.path.join(self.folder, name)]))  # guard: what-they-say
         except OSError:
             return None
+
+    @property
+    def jobs(self) -> List[Job]:
+        """The recipes that it ran."""
+        return [job for one in self.words.rounds for job in one.jobs]
 
     @cached_property
     def patterns(self) -> Set[str]:
@@ -60,8 +64,7 @@ class Make(Tool):
 
 def beginning(make: Make, number: int) -> int:
     """When the first recipe of a round of a make begins."""
-    works = [make.work[id(job)] for job in make.words.rounds[number].jobs if id(job) in make.work]
-    return min((life.born for work in works for life in work.lives), default=make.life.born)
+    return min((life.born for job in make.words.rounds[number].jobs for life in job.work.lives), default=make.life.born)
 
 
 def makes_of(work: Work) -> List[Make]:
@@ -97,8 +100,8 @@ class Owners:
         for make in self.makes:
             self.collect(make)
         for make in self.makes:
-            for work in make.work.values():
-                self.divide(work)
+            for job in make.jobs:
+                self.divide(job.work)
             make.left = [part for work in self.called(make) for part in self.divide(work) if part.is_left]
 
     @staticmethod
@@ -150,18 +153,18 @@ class Owners:
 
     def collect(self, make: Make) -> None:
         """The work of all jobs of a make. What it and its calls change while it expands a recipe is of that recipe, which it starts next."""
-        first: Dict[int, int] = {}  # by id of a job, in order: where it begins
+        works: List[Work] = []  # in order
         for life in sorted(make.life.children, key=lambda life: life.born):
             job = self.jobs.get(id(life))
             if job is not None:
-                first.setdefault(id(job), life.born)
-                self.take(make.work.setdefault(id(job), Work()), life)
-        jobs, begun = [*first], [*first.values()]
+                works += [] if job.work.lives else [job.work]
+                self.take(job.work, life)
+        begun = [work.lives[0].born for work in works]
         expanding = [make.life, *(one for life in make.life.children if id(life) not in self.jobs for one in self.below(life))]
         for (kind, path), place in (event for life in expanding for event in life.events.items()):
             at = bisect(begun, place)
-            if kind in CHANGES + MAKES and 0 < at < len(jobs):  # guard: what-make-expands
-                make.work[jobs[at]].add(kind, path, place)
+            if kind in CHANGES + MAKES and 0 < at < len(works):  # guard: what-make-expands
+                works[at].add(kind, path, place)
 
     def divide(self, work: Work) -> List[Part]:
         """The parts of a recipe."""

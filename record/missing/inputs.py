@@ -88,7 +88,7 @@ def called(makes: Sequence[Make], names: Names, lives: Sequence[Life], changed: 
     """What decides on macros before recipes run, as far as it is there: what processes read that work for no recipe, or for one that calls a make itself, or that
     make itself calls; and makefiles that the build makes."""
     files = makefiles_of(makes, names)
-    apart = {id(life) for make in makes for work in make.work.values() if not work.makes for life in work.lives}
+    apart = {id(life) for make in makes for job in make.jobs if not job.work.makes for life in job.work.lives}
     found = {path for life in lives if id(life) not in apart and not life.is_make for kind, path in life.events if kind == READ}  # guard: files-of-who-calls-make
     found.update(path for make in makes for kind, path in make.life.events if kind == READ and path not in files)  # guard: files-that-make-reads
     return {path for path in found | files & changed if os.path.isfile(path) and names.is_inside(path)}

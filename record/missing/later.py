@@ -140,8 +140,8 @@ def callers_of(makes: Sequence[Make]) -> Dict[int, Tuple[Make, Job]]:
     """By make: the innermost make whose recipe calls it, and that recipe."""
     found: Dict[int, Tuple[Make, Job]] = {}
     for outer in sorted(makes, key=lambda make: sum(life.is_make for life in make.life.up())):
-        for job in (job for one in outer.words.rounds for job in one.jobs if id(job) in outer.work):
-            found.update((id(make), (outer, job)) for make in makes_of(outer.work[id(job)]))
+        for job in outer.jobs:
+            found.update((id(make), (outer, job)) for make in makes_of(job.work))
     return found
 
 

@@ -55,6 +55,7 @@ class NinjaBuilder(Builder):
         self.ninja, self.number, self.stage, self.removed = ninja, number, ninja.stages[number], removed
         is_last = number == len(ninja.stages) - 1
         super().__init__(names, assumed, NinjaBuild(ninja, self.stage, "goals" if is_last else "manifest"), before)
+        self.holes: List[str] = []
 
     def run(self) -> Build:
         """All steps."""

@@ -9,7 +9,6 @@ import re
 from typing import Dict, Iterable, List, Set, Tuple
 
 from record.build.tasks import grouped
-from record.build.work import Work
 from record.make.database import Base
 from record.make.owners import Owners
 from record.make.words import Words
@@ -42,9 +41,9 @@ def credit_makes(owners: Owners, paths: Set[str], looks: Looks) -> None:
             for name in [name for name in one.nodes if name.endswith(NAME) and name not in one.must]:
                 path = next((path for path in paths if is_name(name, path)), "")
                 place, folder = looks.get((id(make.life), path), -1), os.path.dirname(path)
-                users = [job for job in one.jobs if any(used.startswith(folder + "/") for _, used in make.work.get(id(job), Work()).events)]
+                users = [job for job in one.jobs if any(used.startswith(folder + "/") for _, used in job.work.events)]
                 if place >= 0 and all(name in one.below(job.target) for job in users):  # guard: who-waits-for-rule
-                    for work in (work for above in owners.makes for work in above.work.values() if make in work.makes):
+                    for work in (job.work for above in owners.makes for job in above.jobs if make in job.work.makes):
                         work.add(MADE_BEFORE, folder, place)
 
 
