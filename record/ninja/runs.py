@@ -19,6 +19,7 @@ from record.trace.names import Names
 SHORT = "d:f:j:k:l:nt:vw:C:h"
 LONG = ["help", "version", "verbose", "quiet"]
 TRIED = re.compile(r"/CMakeFiles/(?:CMakeScratch/TryCompile-\w+|CMakeTmp)(?:/|\Z)")
+BY_NINJA = "race-hold-ninja"  # the first word of a process that waits for a ninja at the gate of a build in another order (hold.c)
 CMAKES = ("cmake", "ccmake", "cmake-gui", "ctest")
 NEVER = 1 << 60
 
@@ -119,7 +120,7 @@ class Runs:
     def note_inner(self) -> None:
         """Which ninjas ran below which recipe or command."""
         by_life = {id(ninja.life): ninja for ninja in self.ninjas}
-        works = [work for make in self.owners.makes for work in make.work.values()]
+        works = [job.work for make in self.owners.makes for job in make.jobs]
         works += [job.work for ninja in self.ninjas for stage in ninja.stages for job in stage.jobs]
         for work in works if by_life else []:
             work.ninjas = [by_life[id(life)] for life in work.lives if id(life) in by_life]
@@ -171,10 +172,10 @@ class Runs:
                 self.holes.append("the manifest that ninja read cannot be read again: %s" % fault)  # guard: manifest-that-cannot-be-read
 
     def job_of(self, life: Life) -> Optional[Job]:
-        """The command that a child of ninja runs."""
-        if not life.ran:
+        """The command that a child of ninja runs, behind what waits at the gate in its place."""
+        first = next((words for words in life.ran if words[0] != BY_NINJA), None)  # guard: what-waits-at-the-gate
+        if first is None:
             return None
-        first = life.ran[0]
         if len(first) != 3 or os.path.basename(first[0]) != "sh" or first[1] != "-c":
             self.holes.append("ninja started what is no command: " + " ".join(first)[:100])  # guard: child-that-is-no-command
             return None

@@ -19,6 +19,7 @@ from pathlib import Path
 from typing import NamedTuple
 
 from record.build.text import shown
+from record.ninja.runs import BY_NINJA
 from record.orders.processes import Stalled, born, folder_of, parent_of
 from record.orders.reported import Call, is_reported, receive
 
@@ -27,7 +28,6 @@ OF_CHILD = re.compile(rb"(?:Putting|Live) child \S+ \((.*)\) PID (\d+)|Removing 
 CREDENTIALS = struct.Struct("3i")  # of who has connected: process, user, group
 LEAST, MOST = 0.001, 0.032  # seconds from one look at the processes to the next
 LAST = float("inf")
-BY_NINJA = b"race-hold-ninja"  # the first word of a process that waits for a ninja
 CLOCK_OF_FILES = 5  # CLOCK_REALTIME_COARSE of Linux
 
 
@@ -162,7 +162,7 @@ class Gate:
 
     def is_named(self, pid: int) -> bool:
         """Whether it is known for what a process waits: a make says that when it has started it."""
-        return pid in self.targets or held_words(pid)[:1] == [BY_NINJA]
+        return pid in self.targets or held_words(pid)[:1] == [os.fsencode(BY_NINJA)]
 
     def beside(self, rows: Mapping[int, tuple[int, str, Key]], free: Sequence[int]) -> Sequence[int]:
         """Those of some processes that may begin beside what runs: none beside one that began before those for which it waits, since nothing else could. A recipe

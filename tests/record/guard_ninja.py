@@ -52,6 +52,7 @@ GUARDS: List[Guard] = [
         ("words-where-nothing-was-undone", "if False:", "retry.Undone.what_was_there_and_changed_stops_it"),
     ),
     *guards("ninja/runs.py",
+        ("what-waits-at-the-gate", "first = next(iter(life.ran), None)", "orders.Orders.commands_of_ninja_in_another_order"),
         ("all-below-goals", "numbers = set() if goals is not None else {edge.number for edge in manifest.edges}", "ninja.Ninja.warm", LOST_HOLE),
         ("ninja-of-another-name", "elif False:", "ninja.Ninja.another_name", LOST_HOLE),
         ("words-that-cannot-be-read", 'str("ninja ran commands, and its words cannot be read: " + " ".join(life.argv)[:100])', "ninja_runs.Holes.words_that_cannot_be_read"),
