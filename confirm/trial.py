@@ -97,7 +97,7 @@ class Trial:
             places = placed([it.key for it in self.graph.tasks])
             places.update({late.key: float("-inf")} if late.key and schedule.is_start else {})
         else:
-            places, _ = self.graph.beside([(early.task, late.task) if schedule.is_start else (late.task, early.task)])
+            places = self.graph.beside(*((early.task, late.task) if schedule.is_start else (late.task, early.task)))
             after.update({late.key: {early.key}} if late.key and early.key and schedule.is_start else {})
         return Plan(PARALLEL, places, MANY, after)
 

@@ -13,7 +13,7 @@ from record.trace.names import Names
 
 
 def add_folders(build: Build, names: Names, before: Dict[str, str]) -> None:
-    """A name for each two that meet on a folder; and for each task which folders it makes, found there when it tried, and uses though they may go again."""
+    """A name for each two that meet on a folder; and for each task which folders it makes, found there when it tried, saw, and uses though they may go again."""
     makers: Dict[str, Set[int]] = {}
     gone = {path for task in build.tasks for kind, path, _ in task.events() if kind in FOLDER_REMOVED + FOLDER_FULL}
     for at, task in enumerate(build.tasks):
@@ -22,6 +22,8 @@ def add_folders(build: Build, names: Names, before: Dict[str, str]) -> None:
                 makers.setdefault(path, set()).add(at)
                 task.folders.setdefault("found" if kind == MADE_BEFORE else "made", set()).add(path)
             task.folders.setdefault("used", set()).update({path, os.path.dirname(path.rstrip("/"))} & gone)
+    for at, task in enumerate(build.tasks):
+        task.folders["seen"] = {path for kind, path, _ in task.events() if kind in SEEN and path in makers}
         task.folders = {how: paths for how, paths in task.folders.items() if paths}
     for at, task in enumerate(build.tasks) if makers else ():
         for path in used(task, makers):

@@ -134,10 +134,7 @@ class Room:
         return self.top / plan.name
 
     def forget(self, plan: Plan) -> None:
-        """Takes away what a build left, except its record."""
-        if (self.place(plan) / "record" / "record.json").exists():
-            remove(self.top / "record")
-            (self.place(plan) / "record").rename(self.top / "record")
+        """Takes away what a build left."""
         remove(self.place(plan))
 
     def trees(self, plan: Plan) -> list[Path]:

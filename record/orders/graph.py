@@ -41,7 +41,9 @@ class Graph:
 
     def __post_init__(self) -> None:
         self.inner: dict[tuple[str, str], list[str]] = {}  # by build and label: the builds that ran inside
-        for number in read_json(self.record / "record.json")["builds"]:
+        record = read_json(self.record / "record.json")
+        self.has_all = record["status"] != 0 or not record["holes"]  # else it lacks something of a build that ended well
+        for number in record["builds"]:
             folder = self.record / "builds" / number
             build = self.builds[number] = read_json(folder / "build.json")
             with open(folder / "tasks", encoding="utf-8") as lines:
@@ -145,13 +147,13 @@ class Graph:
         return self.pairs(), " and ".join(self.tasks[at].label for at in next(pairs_of(self.free), ()))
 
     def turned(self, began: Sequence[Key]) -> list[int]:
-        """For each task those that came before it in the serial build, and behind it in another one, of which this is the log."""
-        found, left = [0] * len(self.tasks), self.recipes
-        for key in began:
-            at = self.keys.get(key, -1)
-            if at >= 0:
-                left &= ~(1 << at)
-                found[at] = left & self.free[at]
+        """For each task those that came before it in the serial build, and behind it in another one, of which this is the log. A recipe that make runs by itself, as
+        `$(file >x)`, never begins."""
+        begun = [self.keys[key] for key in began if key in self.keys]
+        found, left = [0] * len(self.tasks), sum(1 << at for at in {*begun})  # guard: recipes-that-never-begin
+        for at in begun:
+            left &= ~(1 << at)
+            found[at] = left & self.free[at]
         return found
 
     def covering(self, left: Sequence[int], after: Mapping[Key, set[Key]]) -> tuple[dict[Key, float], dict[Key, set[Key]]]:
@@ -183,6 +185,18 @@ class Graph:
         """The places of recipes that are to begin in this order."""
         return placed([self.tasks[at].key for at in order])
 
+    def may_show_more(self, pairs: Sequence[int]) -> bool:
+        """Whether of some pairs one recipe lists or sees a folder that the other one makes or fills: it may do something else where it runs first."""
+        fills, looks = ([set[str]() for _ in self.tasks] for _ in range(2))
+        for number, rows in self.rows.items():
+            for row in rows:
+                at, about = self.recipe_of(number, row["task"]), self.about(number, row["task"])
+                folders = {how: {os.path.normpath(self.whole(number, path)) for path in paths} for how, paths in about.get("folders", {}).items()}
+                made = folders.get("made", set()) | folders.get("found", set())
+                fills[at] |= made | {os.path.dirname(self.whole(number, path)) for path in (*row["writes"], *about.get("leaves", ()), *made)}
+                looks[at] |= set().union(*folders.values(), (os.path.normpath(self.whole(number, path)) for path in about.get("lists", ())))
+        return any(fills[one] & looks[other] or fills[other] & looks[one] for one, other in pairs_of(pairs))  # guard: orders-that-the-flipped-build-has-not
+
     def users_first(self) -> Optional[dict[Key, float]]:
         """An order in which who uses a name, or lists a folder, begins before the several that make it; nothing where there is none."""
         score = [0] * len(self.tasks)
@@ -204,25 +218,22 @@ class Graph:
                     score[at] -= len(others)
         return self.places(self.wanted(score)) if any(score) else None
 
-    def beside(self, pairs: Sequence[Pair]) -> tuple[dict[Key, float], list[Pair]]:
-        """An order in which the tasks of pairs run one right behind the other, what they need before both, and the pairs of which that is so: at least the last."""
-        order = [*range(len(self.tasks))]
-        for pair in pairs:
-            order = self.moved(order, *pair)
-        at = {task: place for place, task in enumerate(order)}
-        return self.places(order), [(one, other) for one, other in pairs if at[other] - at[one] == len(self.inside(one))]
+    def beside(self, one: int, other: int) -> dict[Key, float]:
+        """An order in which a task runs right before another one, each with what runs inside of it, and what they need before both."""
+        block = [*self.inside(one), *self.inside(other)]
+        own, need, first = {*block}, self.tasks[one].before | self.tasks[other].before, min(one, other)
+        rest = [at for at in range(first, len(self.tasks)) if at not in own]
+        return self.places([*range(first), *(at for at in rest if need >> at & 1), *block, *(at for at in rest if not need >> at & 1)])
+
+    def needs(self, row: Sequence[int], after: Mapping[Key, set[Key]]) -> list[int]:
+        """Some tasks one behind the other, each with what runs inside of it, and before them all that they need."""
+        held, block = self.held(after), [at for one in row for at in self.inside(one)]
+        need = {at for one in row for at in numbers(held[one])} - {*block}
+        return [*sorted(need, key=lambda at: (size([held[at]]), at)), *block]  # guard: what-a-meeting-needs-first
 
     def inside(self, one: int) -> list[int]:
         """A task, and those that run inside of it."""
         return [one, *(at for at, task in enumerate(self.tasks) if task.around >> one & 1)]
-
-    def moved(self, order: Sequence[int], one: int, other: int) -> list[int]:
-        """An order of all tasks with one right before another, each with what runs inside of it, and what they need before both."""
-        blocks = [self.inside(one), self.inside(other)]
-        both, need = {*blocks[0], *blocks[1]}, self.tasks[one].before | self.tasks[other].before
-        first = min(map(order.index, (one, other)))
-        rest = [at for at in order[first:] if at not in both]
-        return [*(at for at in order[:first] if at not in both), *(at for at in rest if need >> at & 1), *blocks[0], *blocks[1], *(at for at in rest if not need >> at & 1)]
 
     def is_ordered(self, one: int, other: int) -> bool:
         """Whether two tasks have one order in all builds."""

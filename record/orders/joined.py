@@ -4,33 +4,42 @@ from __future__ import annotations
 
 import json
 import os
-from collections.abc import Mapping
+from collections.abc import Container, Mapping, Sequence
 from itertools import chain
-from typing import Any
+from typing import Any, NamedTuple
 
 from record.folder import replace
 from record.kinds import is_of_folder
-from record.orders.graph import Graph, Pair
+from record.orders.graph import Graph
 
-Contest = tuple[Pair, str, bool]  # two recipes, the name of a folder, and whether that goes again
+
+class Contest(NamedTuple):
+    """A recipe that makes a folder, with those that meet it there; the folder, whether it goes again, and who must not come before them."""
+
+    row: list[int]
+    path: str
+    goes: bool
+    behind: set[int]
 
 
 def join(graph: Graph, other: Graph) -> None:
-    """Adds to the tasks of a record what their recipes read and wrote in a build in another order."""
+    """Adds to the tasks of a record what their recipes read and wrote in a build in another order; not to a part of one that is another part there."""
     for known, number in graph.known.items():
-        rows = {row["task"]: row for row in other.rows.get(other.known.get(known, ""), ())}
+        there = other.known.get(known, "")
+        rows = {row["task"]: row for row in other.rows.get(there, ())}
         for row in graph.rows[number]:
-            also = judged(other.builds[other.known[known]], rows[row["task"]]) if row["task"] in rows else row
-            both = (graph.builds[number], other.builds.get(other.known.get(known, ""), {"labels": {}}))
-            leaves = chain(*(one["labels"].get(row["task"], {}).get("leaves", ()) for one in both if graph.about(number, row["task"])["kind"] == "recipe"))
+            about, own = graph.about(number, row["task"]), other.about(there, row["task"]) if row["task"] in rows else {}
+            also = judged(other.builds[there], rows[row["task"]]) if own and about.get("command") == own.get("command") else row  # guard: parts-of-other-numbers
+            leaves = chain(*(one.get("leaves", ()) for one in (about, own) if about["kind"] == "recipe"))
             writes = {*row["writes"], *also["writes"], *leaves}  # guard: what-one-task-alone-writes-in-each
             row["reads"], row["writes"] = sorted({*row["reads"], *also["reads"]} - writes), sorted(writes)
 
 
 def pass_questions(graph: Graph) -> None:
-    """Leaves out of the tasks of a record what other orders have tried out."""
+    """Leaves out of the tasks of a record what other orders have tried out. They turn no process round for which its recipe does not wait."""
     for number, build in graph.builds.items():
-        graph.rows[number] = [judged(build, row) for row in graph.rows[number]]
+        left = {path for row in graph.rows[number] if graph.about(number, row["task"]).get("left") for path in (*row["reads"], *row["writes"])}
+        graph.rows[number] = [judged(build, row, left) for row in graph.rows[number]]
 
 
 def keep(graph: Graph) -> None:
@@ -39,27 +48,35 @@ def keep(graph: Graph) -> None:
         replace(graph.record / "builds" / number / "tasks", "".join(json.dumps(row, ensure_ascii=False, separators=(",", ":")) + "\n" for row in rows))
 
 
-def judged(build: Mapping[str, Any], row: Mapping[str, Any]) -> dict[str, Any]:
-    """A task of a build without what is tried out in other orders: that a folder is there, and the names for which make alone asks."""
+def judged(build: Mapping[str, Any], row: Mapping[str, Any], kept: Container[str] = ()) -> dict[str, Any]:
+    """A task of a build without what is tried out in other orders, other than some names: that a folder is there, and the names for which make alone asks."""
     asks = build["labels"].get(row["task"], {}).get("asks", ())
-    return {**row, "reads": [path for path in row["reads"] if not is_of_folder(path) and path not in asks], "writes": [path for path in row["writes"] if not is_of_folder(path)]}
+    return {**row, "reads": [path for path in row["reads"] if path in kept or not is_of_folder(path) and path not in asks],
+            "writes": [path for path in row["writes"] if path in kept or not is_of_folder(path)]}  # guard: what-a-left-process-meets
 
 
-def contested(graph: Graph, other: Graph) -> list[Contest]:
-    """Recipes that make a folder by a call that fails where it is there, and were never seen to find it there by that: each behind another recipe that makes it
-    and that nothing orders with it. It may have looked before the other one made the folder, and may make it after that. And recipes that use or remove a folder
-    that goes again, each behind another one that makes it."""
-    found: set[Contest] = set()
+def contested(graph: Graph, records: Sequence[Graph]) -> list[Contest]:
+    """Where recipes that nothing orders may meet at a folder. Each that makes it by a call that fails where it is there, or that saw it, and never found it there by
+    that call, may look before another one makes the folder, and make it after that: unless it waits for one that does. And each that uses or removes a folder that
+    goes again meets one that makes it."""
+    found: list[Contest] = []
     for known, number in graph.known.items():
         ways: dict[str, dict[str, set[str]]] = {}
-        for build in (graph.builds[number], other.builds.get(other.known.get(known, ""), {"labels": {}})):
+        for build in (graph.builds[number], *(other.builds[other.known[known]] for other in records if known in other.known)):
             for label, about in build["labels"].items():
                 for how, paths in about.get("folders", {}).items():
                     for path in paths:
                         ways.setdefault(path, {}).setdefault(how, set()).add(label)
-        for path, way in ways.items():
-            made, there, used = ({graph.recipe_of(number, label) for label in way.get(how, ()) if (number, label) in graph.at} for how in ("made", "found", "used"))
-            for late, goes in [*((one, False) for one in made - there), *((one, True) for one in used)]:  # guard: who-found-it-there
-                others = sorted((one for one in made | there if one != late and graph.is_free(one, late)), key=lambda one: (one > late, abs(one - late)))
-                found.update(((early, late), os.path.basename(path), goes) for early in others[:1])  # guard: who-looks-before-the-other-makes-it
-    return sorted(found, key=lambda one: (one[0][::-1], one))
+        for path, way in sorted(ways.items()):
+            made, there, seen, used = ({graph.recipe_of(number, label) for label in way.get(how, ()) if (number, label) in graph.at} for how in ("made", "found", "seen", "used"))
+            makers = made | there
+            heads = {one for one in made | seen | there | used if not any(graph.tasks[one].before >> at & 1 for at in makers)}  # guard: who-waits-for-a-maker
+            rows: dict[int, list[int]] = {}
+            for late in sorted((heads | used) - there):  # guard: who-found-it-there
+                for early in [one for one in sorted(makers if used else makers & heads) if one != late and graph.is_free(one, late)][:1]:
+                    rows.setdefault(early, [early]).append(late)  # guard: who-looks-before-the-other-makes-it
+            found += (Contest(row, graph.whole(number, path), False, makers) for row in rows.values())
+            for late in sorted(used):
+                others = sorted((one for one in makers if one != late and graph.is_free(one, late)), key=lambda one: (one not in heads, one > late, abs(one - late)))
+                found += (Contest([early, late], graph.whole(number, path), True, set()) for early in others[:1])
+    return sorted(found, key=lambda one: (one.row[0] > one.row[1], one.goes))  # the order of the serial build comes first

@@ -19,31 +19,41 @@ from record.orders.reported import Call, filter_of, go_on, reports_of
 
 # By machine: the numbers of calls that make a folder, each with the place of its path, and of those by which a process goes on: rmdir, unlinkat, openat, exit_group.
 MAKING = {"x86_64": {83: 0, 258: 1}, "aarch64": {34: 1}}.get(os.uname().machine, {})
+HERE = 0xffffff9c  # in the place of a descriptor: the folder in which a process works
 OTHERS = {"x86_64": (84, 263, 257, 231), "aarch64": (35, 56, 94)}.get(os.uname().machine, ())
 
 
 class Meet(NamedTuple):
-    """Two recipes, the name of the folder, and whether it goes again."""
+    """Two recipes, the folder, and whether it goes again."""
 
     first: Key
     second: Key
-    name: str
+    path: str
     goes: bool
 
 
 @dataclass
 class Overlap(Gate):
-    """`meets`: who meets where."""
+    """`meets`: who meets where. Others run side by side only when all that is over, and those that are held when what they were held for is."""
 
     meets: Sequence[Meet] = ()
     held: dict[int, tuple[Key, int, int]] = field(default_factory=dict)  # by process: its recipe, the descriptor by which the kernel reports it, and the report
     tries: Counter[tuple[Key, Meet]] = field(default_factory=Counter)  # how often a recipe was to make the folder
     met: set[Meet] = field(default_factory=set)  # those of which the first recipe was held behind its call
 
+    def __post_init__(self) -> None:
+        self.most, self.at_once = self.at_once, 1  # guard: nothing-else-while-two-meet
+
+    def note_end(self, make: int, name: str) -> None:
+        super().note_end(make, name)
+        if self.over.issuperset(key for meet in self.meets for key in meet[:2]):
+            self.at_once = self.most
+
     def let_go(self, pid: int, channel: socket.socket) -> None:
         own = self.owners[pid]
-        if any(own in meet[:2] for meet in self.meets):
-            reports = reports_of(pid, channel, filter_of([*MAKING, *OTHERS]))
+        meets = [meet for meet in self.meets if own in meet[:2]]
+        if meets:
+            reports = reports_of(pid, channel, filter_of([*MAKING, *(OTHERS if any(meet.goes for meet in meets) else ())]))
             if reports < 0:  # guard: kernel-that-reports-nothing
                 raise OSError("the kernel reports no calls that make folders; Linux 5.6 and later do, on x86-64 and arm64, where no rule of a container forbids it")
             self.expect(reports, partial(self.take, own, reports))
@@ -51,14 +61,14 @@ class Overlap(Gate):
 
     def take(self, key: Key, reports: int, call: Call) -> None:
         """A process is to make a folder, or goes on: it is held, or does so."""
-        name = name_of(call) if call.call in MAKING else ""
+        path = path_of(call) if call.call in MAKING else ""
         self.held[call.pid] = key, reports, call.number
-        if not any([self.reach(key, meet, name) for meet in self.meets if key in meet[:2]]):
+        if not any([self.reach(key, meet, is_same(path, f"/proc/{call.pid}/root{meet.path}")) for meet in self.meets if key in meet[:2]]):
             self.go_on(call.pid)
 
-    def reach(self, key: Key, meet: Meet, name: str) -> bool:
-        """A recipe is to make a folder of some name, or goes on: whether it is held there for another one."""
-        if name != meet.name:
+    def reach(self, key: Key, meet: Meet, is_there: bool) -> bool:
+        """A recipe is to make the folder at which it meets another one, or does something else: whether it is held there for that."""
+        if not is_there:
             waits = meet.goes and key == meet.first and self.tries[key, meet] > 0 and meet not in self.met  # guard: folders-that-go-again
             self.met |= {meet} if waits else set()
             return waits
@@ -83,20 +93,39 @@ class Overlap(Gate):
         beside = [one for meet in self.meets for one in meet[:2] if not held.isdisjoint(meet[:2])]
         return super().may_begin(key) and (not beside or any(key[:len(one)] == one for one in beside))
 
+    def has_room(self) -> bool:
+        """Whether what others are held for is over, and one of them may go on beside what runs."""
+        held = [own for own, _, _ in self.held.values()]
+        goes_on = [one for one in self.running if not any(own[:len(one)] == one for own in held)]
+        return self.over.issuperset(key for meet in self.meets for key in meet[:1 + meet.goes]) and len(goes_on) < self.most  # guard: until-the-first-has-ended
+
     def turn(self, root: int) -> bool:
         if not self.held:
             return super().turn(root)
-        if not self.is_idle(root):
-            return False
         self.hear_makes()
-        if any((make, name) in self.open or self.may_begin(key) for make, name, key in map(self.bare, self.waiting)):
-            return super().turn(root)
+        if not self.has_room():
+            if not self.is_idle(root):
+                return False
+            if any((make, name) in self.open or self.may_begin(key) for make, name, key in map(self.bare, self.waiting)):
+                return super().turn(root)
         self.go_on(min(self.held, key=lambda pid: self.began.index(self.held[pid][0])))
         return True
 
 
-def name_of(call: Call) -> str:
-    """The name of the folder that a process is to make. Where its memory cannot be read, no order is tried out."""
+def path_of(call: Call) -> str:
+    """The folder that a process is to make. Where its memory cannot be read, no order is tried out."""
+    place = MAKING[call.call]
     with open(f"/proc/{call.pid}/mem", "rb", buffering=0) as memory:
-        path = os.pread(memory.fileno(), 4096, call.given[MAKING[call.call]])
-    return os.path.basename(os.fsdecode(path.partition(b"\0")[0]).rstrip("/"))
+        path = os.fsdecode(os.pread(memory.fileno(), 4096, call.given[place]).partition(b"\0")[0])
+    start = call.given[0] & 0xffffffff if place else HERE
+    above = "root" if path.startswith("/") else "cwd" if start == HERE else f"fd/{start}"
+    return f"/proc/{call.pid}/{above}/{path}"
+
+
+def is_same(path: str, other: str) -> bool:
+    """Whether two paths have one last name, in one folder."""
+    (above, name), (there, wanted) = (os.path.split(one.rstrip("/")) for one in (path, other))
+    try:
+        return name == wanted and os.path.samefile(above, there)  # guard: folders-of-one-name
+    except OSError:
+        return False

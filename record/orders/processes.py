@@ -11,7 +11,11 @@ from dataclasses import dataclass
 from pathlib import Path
 
 PATIENCE = 10.0  # seconds that killed processes have to end
-STILL = 0.3  # seconds without a sign of life, behind which a process waits for what no process of the build will do
+STILL = 0.3  # seconds without a sign of life, behind which a process waits for what no process of the build will do,
+TIMED = 3.0  # and where it would go on by itself, which a server does for ever
+# By machine: calls that wait for something, and until some time has passed, with the place of that; no time is 0 or -1: poll, select, pselect6, ppoll, epoll_wait,
+# epoll_pwait, futex, rt_sigtimedwait.
+UNTIL = {"x86_64": {7: 2, 23: 4, 270: 4, 271: 2, 232: 3, 281: 3, 202: 3, 128: 2}, "aarch64": {72: 4, 73: 2, 22: 3, 98: 3, 137: 2}}.get(os.uname().machine, {})
 SLEEPS = ("nanosleep", "hrtimer_nanosleep", "do_nanosleep")  # a process that waits for a time to pass, and not for another one
 
 
@@ -52,12 +56,17 @@ def folder_of(pid: int) -> str:
         return ""
 
 
-def children_of(pid: int) -> list[int]:
-    """The processes that a process, or a thread of it, started, and that it has not waited for."""
+def threads_of(pid: int) -> list[int]:
+    """The threads of a process; none where it has ended."""
     try:
-        return [int(child) for thread in os.listdir(f"/proc/{pid}/task") for child in shown(pid, f"task/{thread}/children").split()]
+        return [int(thread) for thread in os.listdir(f"/proc/{pid}/task")]
     except OSError:
         return []
+
+
+def children_of(pid: int) -> list[int]:
+    """The processes that a process, or a thread of it, started, and that it has not waited for."""
+    return [int(child) for thread in threads_of(pid) for child in shown(pid, f"task/{thread}/children").split()]
 
 
 def below(root: int, but: Container[int] = ()) -> Iterator[int]:
@@ -70,19 +79,29 @@ def below(root: int, but: Container[int] = ()) -> Iterator[int]:
             rest += children_of(pid)
 
 
-def pulse(root: int, waiting: Container[int], held: Container[int]) -> tuple[bool, list[tuple[int, str]]] | None:
-    """Whether a process of a build does something of its own, as it sleeps and has none to wait for, and how long each has run so far; nothing where one runs, or
-    lets a time pass. Those that wait at the gate do neither, and have started none; of those in `held` it is known."""
-    found, has_own = [], False
+def is_timed(thread: int) -> bool:
+    """Whether a thread waits until some time has passed at most."""
+    call = shown(thread, "syscall").split()
+    place = UNTIL.get(int(call[0]), -1) if len(call) > 6 else -1
+    return place >= 0 and int(call[1 + place], 16) not in (0, 0xffffffff, 0xffffffffffffffff)  # guard: who-waits-until-a-time
+
+
+def pulse(root: int, waiting: Container[int], held: Container[int]) -> tuple[float, list[tuple[int, str]]] | None:
+    """How many seconds the processes of a build may be still until they count as idle: longer where one sleeps and has none to wait for, so that it does something of
+    its own, with all its threads; and how long each has run so far. Nothing where one runs, or lets a time pass. Those that wait at the gate do neither, and have
+    started none; of those in `held` it is known."""
+    found, still = [], 0.0
     for pid in below(root, waiting):
-        state = words_of(pid)[0]
-        if state in "ZX" or pid in held:
+        if words_of(pid)[0] in "ZX" or pid in held:
             continue
-        if state != "S" or any(one in shown(pid, "wchan") for one in SLEEPS):
-            return None
-        has_own |= not any(one in waiting or one not in held and words_of(one)[0] not in "ZX" for one in children_of(pid))  # guard: who-does-something-of-its-own
-        found.append((pid, shown(pid, "schedstat")))
-    return has_own, found
+        has_own = not any(one in waiting or one not in held and words_of(one)[0] not in "ZX" for one in children_of(pid))  # guard: who-does-something-of-its-own
+        for thread in threads_of(pid) if has_own else [pid]:  # guard: threads-that-run
+            if words_of(thread)[0] not in "SZX" or any(one in shown(thread, "wchan") for one in SLEEPS):
+                return None
+            is_until = has_own and is_timed(thread)
+            still = max(still, TIMED if is_until else STILL if has_own else 0.0)
+            found.append((thread, "" if is_until else shown(thread, "schedstat")))
+    return still, found
 
 
 @dataclass
@@ -90,7 +109,7 @@ class Stalled:
     """Whether nothing happens in a build until the gate lets a recipe begin: two looks at its processes are the same, and so for a while where one does something
     of its own."""
 
-    last: tuple[bool, list[tuple[int, str]]] | None = None  # the last pulse,
+    last: tuple[float, list[tuple[int, str]]] | None = None  # the last pulse,
     since: float = 0.0  # and since when it is the same
 
     def is_so(self, root: int, waiting: Container[int], held: Container[int] = ()) -> bool:
@@ -99,7 +118,7 @@ class Stalled:
         if found is None or found != self.last:
             self.last, self.since = found, now
             return False
-        return not found[0] or now - self.since > STILL
+        return now - self.since >= found[0]
 
 
 def end(root: int) -> None:

@@ -87,7 +87,7 @@ def passing(ones: Iterable[str], others: Iterable[str]) -> list[re.Pattern[str]]
         end = min(len(os.path.commonprefix([one[::-1], other[::-1]])), len(one) - begin)
         middle = one[begin:len(one) - end] + other[begin:len(other) - end]
         if "/" not in middle:
-            found.add(re.escape(one[:begin]) + "[^/]+" + re.escape(one[len(one) - end:]))
+            found.add(re.escape(one[:begin]) + "[^/]{%d}" % (len(one) - end - begin) + re.escape(one[len(one) - end:]))  # guard: names-as-long-as-those-that-are-drawn
     return [re.compile(it) for it in sorted(found)]
 
 

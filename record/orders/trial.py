@@ -21,6 +21,7 @@ from record.orders.trees import CannotTry, difference, differing, passing
 AT_ONCE = min(6, (os.cpu_count() or 1) + 2)  # builds that run side by side
 FEW = 4  # so many pairs are turned round one by one
 SHOWN = 5  # differences that are named
+SURE = 3  # so many builds more have to show one
 
 
 @dataclass
@@ -52,18 +53,27 @@ class Trial:
     others: int = 0  # builds in other orders that left the same
     shown: list[Shown] = field(default_factory=list)
     failed: list[str] = field(default_factory=list)  # how builds ended that ended well when they were made again
-    is_whole: bool = True  # all that should run at once did
+    is_whole: bool = True  # all that was to be tried out was, and no build came to something that it did not when it was made again
 
     def __post_init__(self) -> None:
         self.turned = [0] * len(self.graph.tasks)  # for each recipe the earlier ones that have run behind it
+        self.records: list[Graph] = []  # what builds in other orders recorded
+        self.contests: dict[tuple[int, str, bool], set[int]] = {}  # by who makes a folder first, and whether it goes again: who has met it there
+        self.met_builds = 0
         self.serial, self.trees = self.recorded, [*map(Path, self.room.tops)]  # what a serial build left, and where that stands
         self.unstable: list[set[str]] = [set() for _ in self.serial]  # names in which serial builds differ
         self.passing: list[list[re.Pattern[str]]] = [[] for _ in self.serial]
 
     @property
-    def left(self) -> list[int]:
+    def untried(self) -> list[int]:
         """The pairs that no other order has tried yet: for each recipe the earlier ones."""
         return without(self.graph.apart(self.after), self.turned)
+
+    @property
+    def left(self) -> list[int]:
+        """Those of them that an order can turn round: both recipes begin at the gate."""
+        begin = sum(1 << self.graph.keys[key] for key in self.graph.keys.keys() & {*self.order})
+        return [some & begin if begin >> at & 1 else 0 for at, some in enumerate(self.untried)]
 
     @property
     def goes_on(self) -> bool:
@@ -75,7 +85,7 @@ class Trial:
         """All builds: the two that began beside the recorded one; others that say more, of which the first run beside a third serial build, where one is needed; and
         those that cover what is left, as long as they turn round more. `say` takes how many follow."""
         again, flipped = self.begin(running)
-        plans = [*self.orders(), *self.covers(without(self.left, self.graph.turned(flipped.began))), *self.overlaps(self.contests(flipped))]
+        plans = [*self.orders(), *self.covers(without(self.left, self.graph.turned(flipped.began))), *self.overlaps()]
         chance = [differing(one, other) for one, other in zip(self.recorded, again.held)]  # or as it ran several recipes at once, or the copies are another place
         is_clean = flipped.status == 0 and all(differing(one, other) <= known for one, other, known in zip(again.held, flipped.held, chance))
         more = [replace(SERIAL, name="second")] * any(chance)
@@ -92,6 +102,7 @@ class Trial:
         while size(self.left) != left and self.goes_on:
             left = size(self.left)
             self.try_all(self.covers(self.left))
+        self.try_all([*self.overlaps()])
         if not self.shown and self.doubted():
             self.compare(*side_by_side(self.room, [SERIAL]))
 
@@ -126,7 +137,7 @@ class Trial:
         """What a look finds may depend on several: builds that turn round each pair alone, and where there are many, one in which all users come first. Where the
         recorded build ran several recipes at once, also one with one job: make goes through targets in another order then."""
         pairs = [pair[::-1] for pair in pairs_of(self.left)] if 1 < size(self.left) <= FEW else []
-        orders = [self.graph.beside([pair])[0] for pair in pairs] or filter(None, [self.graph.users_first()])
+        orders = [self.graph.beside(*pair) for pair in pairs] or filter(None, [self.graph.users_first()])
         found = [Plan("alone%d" % number, places, after=self.after) for number, places in enumerate(orders)]
         found += [Plan("one", placed(self.order), ONE, self.after)] * self.is_parallel  # guard: jobs-of-the-recorded-build
         return found
@@ -138,23 +149,24 @@ class Trial:
         other = cast(Record, pickle.loads(file.read_bytes())) if file.exists() else None
         self.late = self.late | other.late if other and None not in (self.late, other.late) else None  # type: ignore[operator]  # guard: what-another-order-changes
         self.met = self.outside & other.touched if other else set()  # guard: names-that-another-build-finds
+        self.records = self.read(flipped)
+
+    def read(self, built: Built) -> list[Graph]:
+        """The record of a build in another order; none where that was stopped, as all of it waited."""
+        record = self.room.place(built.plan) / "record"
+        return [Graph(record)] if (record / "record.json").exists() else []  # guard: what-another-order-shows
 
     def doubted(self) -> list[str]:
         """What the recorded build left otherwise than copies as it ran recipes at once, for all that is known."""
         paths = [self.whole(*one) for one in self.names(self.recorded)] if self.is_parallel else []
         return [path for path in paths if self.late is None or not self.late.isdisjoint(map(str, (path, *Path(path).parents)))]  # guard: what-was-there-by-then
 
-    def contests(self, flipped: Built) -> list[Contest]:
-        """Which recipes may meet at folders, by the two recorded builds; none where the other one was stopped, as all of it waited."""
-        record = self.room.place(flipped.plan) / "record"
-        return contested(self.graph, Graph(record)) if (record / "record.json").exists() else []  # guard: folders-that-two-make
-
     def covers(self, left: list[int]) -> list[Plan]:
         """A build that turns round some pairs, where there are any, and in which the rest runs side by side."""
         if not any(left):
             return []
         places, apart = self.graph.covering(left, self.after)
-        return [Plan("cover", places, after=self.after, apart=apart, at_once=os.cpu_count() or 1)]
+        return [Plan("cover%d" % self.builds, places, after=self.after, apart=apart, at_once=os.cpu_count() or 1, is_recorded=self.graph.may_show_more(left))]
 
     def try_all(self, plans: list[Plan]) -> None:
         """Makes builds, some at once."""
@@ -210,42 +222,52 @@ class Trial:
         text += [str(difference(name, *(self.trees[number], self.room.trees(built.plan)[number])[::turn])) for number, name in names[:SHOWN]]
         built.otherwise = text[:SHOWN] if built.status == 0 else built.message()
         built.path = next((self.whole(number, name) for number, name in names), "")
+        self.records += self.read(built) if built.plan.is_recorded and not built.plan.is_flipped else []
         self.room.forget(built.plan)
         return built
 
     def settle(self, built: Built) -> None:
         """Takes in a build. What differs is narrowed down to two recipes, and the build made again where these keep the order of the serial one."""
         if built.otherwise:
-            once, built = built, self.made_again(replace(built.plan, after=self.after, at_once=1))
+            once, (built,) = built, self.made_again(self.behind(built))
             if not built.otherwise:
                 self.doubt(once)  # guard: what-differs-once
         while built.otherwise:
             found = self.narrow(built)
             if found.recipes and found.recipes[0] in self.after.get(found.recipes[1], ()):  # nothing else could begin, so the gate let it go all the same
                 return
+            more = self.made_again(*(replace(found.built.plan, name="sure%d" % number) for number in range(SURE)))
+            if not all(one.otherwise for one in more):  # guard: what-differs-by-chance
+                self.doubt(built)
+                break
             self.shown.append(found)
             if not self.goes_on:
                 return
             self.after.setdefault(found.recipes[1], set()).add(found.recipes[0])
             self.builds += 1
-            built = self.made_again(replace(built.plan, name="again", after=self.after, is_recorded=False))
+            (built,) = self.made_again(replace(built.plan, name="again", after=self.after))
         self.others += 1
         self.turned = [one | earlier for one, earlier in zip(self.turned, self.graph.turned(built.began))]
 
-    def made_again(self, plan: Plan) -> Built:
-        """Makes a build in which something differs again, and a serial one beside it: that shows what goes by the time. What another build has shown is no
+    def behind(self, built: Built) -> Plan:
+        """A build in which the recipes of another one begin in the same order, one behind the other."""
+        return replace(built.plan, name="behind", places=placed(built.began), after=self.after, at_once=1, meets=(), is_recorded=False)  # guard: order-of-the-build-that-differs
+
+    def made_again(self, *plans: Plan) -> list[Built]:
+        """Makes builds in which something differs again, and a serial one beside them: that shows what goes by the time. What another build has shown is no
         difference any more, and neither is what the recorded build did meanwhile."""
-        again, built = side_by_side(self.room, [SERIAL, plan])
+        again, *made = side_by_side(self.room, [SERIAL, *plans])
         if again.status == 0:
             self.compare(again)  # guard: what-goes-by-the-time
         self.room.forget(SERIAL)
-        return self.seen(built)
+        return [*map(self.seen, made)]
 
     def doubt(self, once: Built) -> None:
         """Takes in what one of two builds in one order came to, and the other one did not, unless it ran beside the recorded build, or the fixes of another difference
         have ended it: these names are compared no more, and where it failed there is no yes."""
         if once.plan == FLIPPED or once.plan.after != self.after:
             return
+        self.is_whole = False  # guard: what-differs-once-is-not-tried-out
         if once.status == 0:
             for number, name in self.names(once.held):
                 self.unstable[number].add(name)
@@ -267,37 +289,49 @@ class Trial:
                 low = steps
         return Shown(between(self.order, log, high)[1], built)
 
-    def overlaps(self, contests: Sequence[Contest]) -> Iterator[Plan]:
-        """Builds in which recipes that make or remove a folder meet, the second of each pair beside the first, which makes it."""
-        apart, number = self.graph.apart(self.after), 0
-        left = [one for one in contests if apart[max(one[0])] >> min(one[0]) & 1]
-        while left:
-            alike = [one for one in left if one[2] == left[-1][2]]
-            places, pairs = self.graph.beside([pair for pair, _, _ in alike])
-            outer = {at for pair in pairs for at in pair}
-            met = [one for one in alike if one[0] in pairs and outer.isdisjoint(at for own in one[0] for at in numbers(self.graph.tasks[own].around))]  # guard: inner-recipes-apart
-            meets = [Meet(self.graph.tasks[one].key or (), self.graph.tasks[other].key or (), name, goes) for (one, other), name, goes in met]
-            yield Plan("overlap%d" % number, places, after=self.after, at_once=os.cpu_count() or 1, meets=meets)
-            left, number = [one for one in left if one not in met], number + 1
+    def overlaps(self) -> Iterator[Plan]:
+        """Builds in which recipes meet at folders by all records, and have not met; several meet in one build that have nothing to do with one another, and all else
+        runs behind them."""
+        apart, left = self.graph.apart(self.after), list[Contest]()
+        for one in contested(self.graph, self.records):
+            first, *late = one.row
+            known = self.contests.setdefault((first, one.path, one.goes), set())
+            left.append(one._replace(row=[first, *(at for at in late if at not in known and apart[max(at, first)] >> min(at, first) & 1)]))
+            known.update(late)
+        while left := [one for one in left if len(one.row) > 1]:
+            some, order = list[Contest](), list[int]()
+            for one in left:
+                if one.goes == left[0].goes and {*one.behind, *(at for own in one.row for at in self.graph.inside(own))}.isdisjoint(order):  # guard: inner-recipes-apart
+                    some, order = [*some, one], [*order, *self.graph.needs(one.row, self.after)]
+            meets = [Meet(self.key(one.row[0]), self.key(late), one.path, one.goes) for one in some for late in one.row[1:]]
+            places = self.graph.places([*dict.fromkeys((*order, *range(len(self.graph.tasks))))])
+            yield Plan("overlap%d" % self.met_builds, places, after=self.after, at_once=os.cpu_count() or 1, meets=meets)
+            left, self.met_builds = [one for one in left if one not in some], self.met_builds + 1
+
+    def key(self, at: int) -> Key:
+        """The recipe of a task."""
+        return self.graph.tasks[at].key or ()
 
     def settle_meets(self, built: Built) -> None:
-        """Takes in a build in which recipes meet. What differs is of two of them, or of the order of the recipes where it also differs when these run one behind the
-        other."""
-        meets = built.plan.meets
-        if built.otherwise and len(meets) > 1:
-            known = len(self.shown)
-            self.try_all([replace(built.plan, name="alone%d" % number, meets=[one], at_once=1) for number, one in enumerate(meets)])
-            if len(self.shown) == known:
-                self.doubt(built)
-        elif built.otherwise and self.is_apart(meets[0]):
-            self.builds += 2
-            both, behind = self.step(*(replace(built.plan, name="again%d" % number, after=self.after, at_once=1, meets=some) for number, some in enumerate((meets, ()))))
-            if not both.otherwise:
-                self.doubt(built)
-            elif not behind.otherwise:
-                self.shown.append(Shown(sorted(meets[0][:2], key=self.graph.keys.__getitem__), both, True))
-            else:
-                self.settle(behind)
+        """Takes in a build in which recipes meet. What differs is of the order of all recipes, where it also differs when each runs behind the other, and else of two
+        that meet, and that nothing orders by now: of those that meet at one folder the first that show it."""
+        plan, known = self.behind(built), len(self.shown)
+        left = [meet for meet in built.plan.meets if self.is_apart(meet)] if built.otherwise else []  # guard: meets-that-nothing-orders
+        whole = [*left]
+        while left and self.goes_on:
+            some = left[:AT_ONCE - 1]
+            behind, *each = self.step(plan, *(replace(plan, name="both%d" % number, meets=[one]) for number, one in enumerate(some)))
+            self.builds += 1 + len(some)
+            if behind.otherwise:
+                return self.settle(behind)  # guard: order-of-all-where-two-meet
+            found = [(meet, both) for meet, both in zip(some, each) if both.otherwise and self.is_apart(meet)]
+            for meet, both in found:
+                first, second = sorted(meet[:2], key=self.graph.keys.__getitem__)
+                self.shown.append(Shown((first, second), both, True))
+                self.after.setdefault(second, set()).add(first)
+            left = [meet for meet in left[len(some):] if meet.path not in {one.path for one, _ in found}]
+        if whole and len(self.shown) == known:
+            self.doubt(built)  # guard: meets-that-differ-once
 
     def is_apart(self, meet: Meet) -> bool:
         """Whether nothing orders two recipes."""
@@ -309,7 +343,7 @@ class Trial:
         """What a record keeps of it."""
         unstable = sorted(self.whole(number, name) for number, found in enumerate(self.unstable) for name in found)
         return {"builds": self.others, "failed": self.failed, "made": self.builds, "pairs": self.graph.pairs(), "turned": size(self.turned),
-                "untried": bool(self.graph.pairs()) and (not self.is_whole or any(self.left) or not self.graph.leaves().isdisjoint(unstable)),
+                "untried": bool(self.graph.pairs()) and (not self.is_whole or not all(one.has_all for one in self.records) or any(self.untried) or not self.graph.leaves().isdisjoint(unstable)),  # guard: holes-of-other-orders
                 "files": sum(text.startswith("file") for held in self.serial for text in held.values()),
                 "unstable": unstable, "apart": [self.whole(*one) for one in self.names(self.recorded)], "doubted": self.doubted(), "met": sorted(filter(os.path.lexists, self.met)), "shown": [*map(self.shown_labels, self.shown)]}
 

@@ -139,7 +139,7 @@ class Overlaps(unittest.TestCase):
 
     def test_second_that_waits_for_the_first(self) -> None:
         one, other, third = ((("/p", name, 1),) for name in "abc")
-        gate = Overlap(Path("nowhere"), {}, meets=[Meet(one, other, "d", False)])
+        gate = Overlap(Path("nowhere"), {}, meets=[Meet(one, other, "/p/d", False)])
         self.assertEqual([True, False, True], [*map(gate.may_begin, (one, other, third))])
         gate.held[7] = one, -1, 1
         self.assertEqual([True, True, False], [*map(gate.may_begin, (one, other, third))])

@@ -12,6 +12,7 @@ from unittest import mock
 
 import support
 
+from record.orders.builds import Built, Plan
 from record.orders.exploring import has_memory
 from record.orders.trial import Trial
 
@@ -33,6 +34,27 @@ CASES: Dict[str, Tuple[str, Dict[str, str], int, Tuple[str, ...]]] = {
     "build that fails": ("all: b/x u\nb/x: ; @mkdir -p b; echo x > b/x\nu: ; @cp src b/u && echo u > u\n", {"src": ""}, 1, ("  seen where u runs before b/x:", "    the build fails with status 2", "cp: ")),
     "folder that two make": ("all: a b\na b:\n\t@test -d d || mkdir d\n\t@echo > d/$@; echo > $@\n", {}, 1, (
         "RACE  b", "  seen where b runs beside a:", "    the build fails with status 2", "  fix: b: a")),
+    "folders at which two meet": ("all: a x b y\na b: ; @test -d d || mkdir d && touch $@\nx y: ; @test -d e || mkdir e && touch $@\n", {}, 1, (
+        "RACE  b", "  seen where b runs beside a:", "RACE  y", "  seen where y runs beside x:", "2 races on 2 files.")),
+    "order that only a build has in which two meet": (
+        "all: a x y w b\na: ; @test -d d || mkdir d; touch k/fa a\nx: ; @touch k/fx x\ny w: ; @touch $@\n"
+        "b: ; @test -d d || mkdir d; case `ls k | tr '\\n' ' '` in \"fa z \") echo > bad;; esac; touch b\n", {"k/z": ""}, 1, ("  seen where b runs before x:", "    bad: is there, and is not after a serial build")),
+    "folder that one only saw": ("all: o/a o/b o/c\no/a o/c: ; @mkdir -p o; echo > $@\no/b: ; @test -d o || mkdir o && echo > $@\n", {}, 1, ("  seen where o/b runs beside o/a:",)),
+    "folder of one name elsewhere": ("all: a b\na b: ; @mkdir -p $@.d/o; test -d o || mkdir o && touch o/$@ $@\n", {}, 1, ("  seen where b runs beside a:",)),
+    "folder that another one waits to make": ("all: u w v\nw: ; @touch w\nu: ; @mkdir -p d; touch d/u u\nv: w ; @test -d d || mkdir d && touch d/v v\n", {}, 1, ("  seen where v runs beside u:",)),
+    "pair that the flipped build does not turn": ("all: w u v\nw: ; @touch w\nu v: ; @test -d d || mkdir d && touch d/$@ $@\nv: w\n", {}, 1, ("  seen where v runs beside u:",)),
+    "file that only a further order reads": (
+        "all: w u v\nw: ; @touch w\nu: ; @touch d/f; echo x > x; touch u\nv: w ; @ls d | grep -q . || cat x > v.out 2>/dev/null; touch v.out v\n", {"d/.k": ""}, 1, ("RACE  x",)),
+    "folder that one of three removes": ("all: a b c\na c: ; @mkdir -p t && echo > t/$@ && touch $@\nb: ; @mkdir -p t; rmdir t 2>/dev/null || true; touch b\n", {}, 1, ("  seen where b runs beside a:",)),
+    "folder that goes beside who makes it first": (
+        "all: x a\nb: ; @mkdir -p p && echo > p/b && touch b\nx: b ; @mkdir -p p; touch x\na: ; @mkdir -p p/q; rmdir p/q; rmdir p 2>/dev/null || true; touch a\n", {}, 1, ("  seen where a runs beside b:",)),
+    "folder that is gone for a while": ("all: a b\ns: ; @mkdir p; touch s\na: s ; @rm -rf p; mkdir p; touch a\nb: s ; @test -d p && echo yes > b || echo no > b\n", {}, 1, (
+        "  seen where b runs beside a:", "    b: line 1 is `no`, and `yes` after a serial build")),
+    "folder of a process that is left": ("all: b\na: ; @(sleep 0.5; mkdir d) & touch a\nb: a ; @test -d d && echo yes > b || echo no > b; sleep 1\n", {}, 1, ("RACE  d  (that the folder d is there)",)),
+    "wait for a time by select": ("all: a b\na: ; @touch d/a a\nb: ; @python3 -Sc 'import select; select.select([], [], [], 1)'; ls d > b\n", {"d/k": ""}, 1, ("  seen where b runs before a:",)),
+    "thread that goes on": ("all: a b\na: ; @touch d/a a\nb: ; @python3 -Sc 'import threading, time; threading.Thread(target=time.sleep, args=(1,)).start()'; ls d > b\n", {"d/k": ""}, 1, ("  seen where b runs before a:",)),
+    "name that is longer than those that are drawn": (
+        "all: r a b\nr: ; @mktemp XXXXXX > /dev/null; touch r\na: ; @touch d/a a\nb: ; @ls d | grep -q a || touch longer.name; touch b\n", {"d/k": ""}, 1, ("RACE  longer.name",)),
     "folder that one makes by p": ("all: a b\na:\n\t@test -d d || mkdir d\n\t@touch d/a a\nb: ; @mkdir -p d; touch d/b b\n", {}, 1, ("  seen where b runs beside a:", "    the build fails with status 2")),
     "folder that both make by p": ("all: a b\na b:\n\t@test -d d || mkdir -p d\n\t@echo > d/$@; echo > $@\n", {}, 0, ("in other orders left the same 5 files",)),
     "folder that each removes": ("all: a b\na b: ; @mkdir d && cp src d/$@ && rm d/$@ && rmdir d && echo > $@\n", {"src": ""}, 1, ("RACE  b", "  seen where b runs beside a:")),
@@ -63,7 +85,7 @@ CASES: Dict[str, Tuple[str, Dict[str, str], int, Tuple[str, ...]]] = {
     "look whose answer is not compared": ("all: c\n" + AB + "c: a b ; @test a -nt b && echo newer > c; date +%N >> c\n", {}, 0, ("note: two builds in one order differ in c, so other orders are not compared there",)),
     "time of day": ("all: a b\na b: ; @date +%N > $@\n", {}, 0, ("note: two builds in one order differ in a, b, so other orders are not compared there",)),
     "names that depend on the order": ("all: a b\na b: ; @n=$$(ls d | grep -c run); echo hi > d/run$$n; touch $@\n", {"d/k": ""}, 1, ("RACE  d/run0",)),
-    "name like one that is drawn": ("all: r a e\nr: ; @mktemp tmp.XXXXXX > /dev/null; touch r\na: ; @touch d/a a\ne: ; @ls d > tmp.list; touch e\n", {"d/x": ""}, 1, ("  seen where e runs before a:", "    tmp.list: line 1 is `x`, and `a` after a serial build")),
+    "name like one that is drawn": ("all: r a e\nr: ; @mktemp tmp.XXXXXX > /dev/null; touch r\na: ; @touch d/a a\ne: ; @ls d > tmp.listed; touch e\n", {"d/x": ""}, 1, ("  seen where e runs before a:", "    tmp.listed: line 1 is `x`, and `a` after a serial build")),
     "place of the project": ("all: a list\na: ; @touch d/a a\nlist: ; @stat -c %d . > list; ls d >> list\n", {"d/k": ""}, 1, (
         "note: all builds in copies leave list otherwise than the recorded one", "  seen where list runs before a:", "    list: line 2 is `k`, and `a` after a serial build")),
     "hard conflict that another order shows": ("all: d/a x c\nd/a: ; @echo a > d/a\nx: ; @echo x > x\nc: ; @ls d | grep -q a || cat x > /dev/null 2>&1; echo c > c\n", {"d/k": ""}, 1, (
@@ -231,10 +253,36 @@ class Orders(unittest.TestCase):
     def test_what_differs_once(self) -> None:
         """It is compared no more, and a build that failed gives no yes."""
         made_again = Trial.made_again
-        with mock.patch.object(Trial, "made_again", lambda trial, plan: replace(made_again(trial, plan), otherwise=[])), mock.patch("record.orders.builds.have_own_ports", return_value=False):
+        with mock.patch.object(Trial, "made_again", lambda trial, *plans: [replace(one, otherwise=[]) for one in made_again(trial, *plans)]), mock.patch("record.orders.builds.have_own_ports", return_value=False):
             for makefile, files, status, says in ((LISTS, {"d/k": ""}, 0, "note: two builds in one order differ in list"), (CASES["build that fails"][0], {"src": ""}, 2, "did not when it was made again: the build")):
                 with support.Project({"Makefile": makefile, **files}) as project:
                     found = project.record(once=False)
+                self.assertEqual((status, True), (found.status, says in found.text()), found.text())
+
+    def test_record_of_another_order_with_a_hole(self) -> None:
+        """What it lacks is not tried out."""
+        read = Trial.read
+        with mock.patch.object(Trial, "read", lambda trial, built: [mock.Mock(wraps=one, has_all=False, builds={}, known={}, rows={}) for one in read(trial, built)]):
+            with support.Project({"Makefile": "all: a b\na b: ; @echo $@ > $@\n"}) as project:
+                found = project.record(options=("--strict",), once=False)
+        self.assertEqual((2, True), (found.status, "--strict: recipes that nothing orders come to the same" in found.text()), found.text())
+
+    def test_what_differs_by_chance(self) -> None:
+        """Each of some builds more has to differ."""
+        made_again = Trial.made_again
+        with mock.patch.object(Trial, "made_again", lambda trial, *plans: [replace(one, otherwise=one.otherwise * (len(plans) == 1)) for one in made_again(trial, *plans)]):
+            with support.Project({"Makefile": LISTS, "d/k": ""}) as project:
+                found = project.record(once=False)
+        self.assertEqual((0, True), (found.status, "note: two builds in one order differ in list" in found.text()), found.text())
+
+    def test_what_differs_once_where_two_meet(self) -> None:
+        """The same holds; and it is not tried out then."""
+        step = Trial.step
+        with mock.patch.object(Trial, "step", lambda trial, *plans: [replace(one, otherwise=[]) for one in step(trial, *plans)]):
+            for name, status, says in (("folder that two make", 2, "did not when it was made again: the build"), ("look at a folder that goes", 2, "RACE  d  (that the folder d is there)"),
+                                       ("order that only a build has in which two meet", 2, "--strict: recipes that nothing orders come to the same")):
+                with support.Project({"Makefile": CASES[name][0], **CASES[name][1]}) as project:
+                    found = project.record(options=("--strict",), once=False)
                 self.assertEqual((status, True), (found.status, says in found.text()), found.text())
 
     def test_where_one_job_is_asked_for(self) -> None:
@@ -243,6 +291,12 @@ class Orders(unittest.TestCase):
             with support.Project({"Makefile": CASES["jobs alone"][0], "all": "make -j1\n"}) as project:
                 found = project.record(words, once=False)
             self.assertEqual((status, status == 0), (found.status, "no two recipes change places there" in found.text()), found.text())
+
+    def test_recipe_that_make_runs_by_itself(self) -> None:
+        """No order turns it round."""
+        with support.Project({"Makefile": "all: t a b\nt: ; $(file >t,w)\na b: ; @touch $@\n"}) as project:
+            found = project.record(once=False)
+        self.assertEqual((0, True), (found.status, "(1 of 3 pairs" in found.text()), found.text())
 
     def test_nothing_but_jobs(self) -> None:
         """No two recipes are blamed for what differs in the order of the serial build."""
@@ -272,6 +326,26 @@ class Orders(unittest.TestCase):
             (project.folder / "Makefile").write_bytes(b"all: a b\xff\na: ; @echo > a\nb\xff: ; @cat a > $@\n")
             found = project.record(once=False)
         self.assertEqual((1, False), (found.status, "the build fails" in found.text()), found.text())
+
+    def test_commands_of_ninja_in_another_order(self) -> None:
+        """That record knows them behind what waits at the gate."""
+        manifest = "rule r\n  command = $c\nbuild d/a: r\n  c = echo a > d/a\nbuild x: r\n  c = echo x > x\nbuild c: r\n  c = ls d | grep -q a || cat x > y 2>&1; echo c > c\n"
+        with support.Project({"build.ninja": manifest, "d/k": ""}) as project:
+            found = project.record(["ninja"], once=False)
+        self.assertEqual((1, True), (found.status, "RACE  x\n" in found.text()), found.text())
+
+    def test_order_in_which_a_build_ran(self) -> None:
+        """It is built again, one recipe behind the other."""
+        one, other = ((("/p", name, 1),) for name in "ab")
+        plan = Trial.behind(mock.Mock(after={}), Built(Plan("cover", {one: -1.0, other: 0.0}, at_once=4), 0, 1.0, [one, other], "", []))
+        self.assertEqual((True, 1), (plan.places[one] > plan.places[other], plan.at_once))
+
+    def test_folder_that_needs_no_meeting(self) -> None:
+        """Who waits for a recipe that makes it finds it there."""
+        with support.Project({"Makefile": "all: a b c\na c: ; @mkdir -p d; touch $@\nb: a ; @test -d d || mkdir d; touch b\n"}) as project:
+            found = project.record(once=False)
+        assert found.record is not None
+        self.assertEqual((0, 4), (found.status, found.record["orders"]["made"]), found.text())
 
     def test_system_that_gives_no_mounts(self) -> None:
         """One build is all, and the record says so; the yes takes the rest for granted."""

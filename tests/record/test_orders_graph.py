@@ -9,6 +9,7 @@ from typing import Any, Dict, List, Optional, Sequence, Tuple
 import support  # noqa: F401  (it finds the modules)
 
 from record.orders.graph import Graph
+from record.orders.joined import join
 
 Row = Tuple[str, Sequence[str], Sequence[str], Sequence[str]]  # label, after, reads, writes
 
@@ -21,7 +22,7 @@ class Graphs(unittest.TestCase):
         room = tempfile.TemporaryDirectory()
         self.addCleanup(room.cleanup)
         top = Path(room.name)
-        (top / "record.json").write_text(json.dumps({"builds": ["%03d" % number for number, _ in enumerate(builds, 1)]}))
+        (top / "record.json").write_text(json.dumps({"status": 0, "holes": [], "builds": ["%03d" % number for number, _ in enumerate(builds, 1)]}))
         for number, (within, rows) in enumerate(builds, 1):
             folder = top / "builds" / ("%03d" % number)
             folder.mkdir(parents=True)
@@ -59,7 +60,7 @@ class Graphs(unittest.TestCase):
         graph = self.graph((None, [("a", [], [], []), ("n", [], [], []), ("b", ["n"], [], []), ("c", [], [], [])]))
         places, apart = graph.covering([0, 0, 1, 0], {})
         self.assertEqual((["n", "b", "c", "a"], {(("/p", "a", 1),): {(("/p", "b", 1),)}}), (self.began(places), apart))
-        self.assertEqual(["n", "b", "a", "c"], self.began(graph.beside([(2, 0)])[0]))
+        self.assertEqual(["n", "b", "a", "c"], self.began(graph.beside(2, 0)))
 
     def test_fix_that_turns_two_round(self) -> None:
         """A recipe may wait for one that came behind it in the serial build, and for what that needs."""
@@ -75,6 +76,12 @@ class Graphs(unittest.TestCase):
         graph = self.graph((None, rows), ({"build": "001", "task": "a#1"}, [("x", [], [], [])]), kinds={"a#1": {"kind": "part", "target": "a"}})
         self.assertEqual([(("/p", "a", 1), ("/p", "x", 1)), (("/p", "a", 1),), (("/p", "b", 1),)], [*graph.keys])
         self.assertEqual(graph.at["001", "a"], graph.recipe_of("001", "a#1"))
+
+    def test_parts_of_other_numbers(self) -> None:
+        """What a part does in another record is not that of another part."""
+        one, other = (self.graph((None, [("a&1", [], ["f"], [name])]), kinds={"a&1": {"kind": "part", "command": "cat " + name}}) for name in "gh")
+        join(one, other)
+        self.assertEqual((["f"], ["g"]), (one.rows["001"][0]["reads"], one.rows["001"][0]["writes"]))
 
     def test_users_first(self) -> None:
         """Who lists a folder, or uses one, begins before the several that make it."""
