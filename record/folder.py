@@ -85,7 +85,6 @@ class Record:
     late: Optional[Set[str]] = None  # what processes changed that ended after a make had run several recipes at once; none where none did
     outside: Set[str] = field(default_factory=set)  # names that changed outside of the project
     touched: Set[str] = field(default_factory=set)  # names there that somebody looked at, too
-    missingdeps: int = 0  # what `ninja -t missingdeps` finds
     orders: Optional[Dict[str, Any]] = None  # what builds in other orders came to
     missing: Optional[Dict[str, Any]] = None  # with --missing: what its answer takes for granted, and why there may be none
 
@@ -107,10 +106,6 @@ class Record:
             if one["kind"] == "luck":
                 one.update(count=len(left), example=shown(left[0]) if left else "")
         self.assumptions = [one for one in self.assumptions if one["count"]]
-
-    def note_pairs(self, count: int, example: str) -> None:
-        """Takes in how many pairs of recipes nothing orders, where not all other orders were tried."""
-        self.assume("orders", count, example)
 
     def assume(self, kind: str, count: int, example: str) -> None:
         """Takes something for granted, if it is met."""

@@ -23,8 +23,7 @@ from record.make.graph import MakeBuild
 from record.make.owners import Owners, beginning
 from record.make.spellings import twice
 from record.make.words import makefiles, read_logs
-from record.ninja.builds import versions as ninja_versions
-from record.ninja.builds import beside, import_ninjas
+from record.ninja.build import import_ninjas
 from record.ninja.runs import Runs
 from record.premises import add_granted, add_granted_by_ninjas, add_seen, unasked
 from record.progress import watched
@@ -155,9 +154,7 @@ class Imported:
             for name in found:
                 self.assumed.add(kind, name)
         if self.ninjas:
-            record.tools["ninja"] = ninja_versions(self.ninjas)
-            record.missingdeps, beyond = beside(self.ninjas, self.builds, names) if not record.warm and record.status == 0 else (0, [])  # guard: what-missingdeps-finds
-            record.holes += ["ninja -t missingdeps finds that %s reads %s, and the record has no such race" % one for one in beyond]
+            record.tools["ninja"] = ", ".join(dict.fromkeys(machine.printed(ninja.life.program, "--version").strip() for ninja in self.ninjas))
 
 
 def imported(record: Record, facts: Facts, warm: bool, out: str = "") -> Imported:

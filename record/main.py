@@ -296,7 +296,8 @@ def record_all(options: argparse.Namespace, tools: Dict[str, str], out: Path, ra
         record.notes += notes
         if room is not None and running is not None and record.status == 0 and not record.holes and (not record.warm or options.warm):
             record = try_out(room, running, record, out, race, options.orders)
-        record.note_pairs(*Graph(out).free_pairs() if record.status == 0 and (record.orders is None or record.orders["untried"]) else (0, ""))
+        if record.status == 0 and (record.orders is None or record.orders["untried"]):
+            record.assume("orders", *Graph(out).free_pairs())
         rewrite(out, record)
     return record
 

@@ -1,8 +1,8 @@
-"""One stage of a ninja as a build: a task for each build statement whose command ran, and for each that passes order on."""
+"""The ninjas of a trace as builds, one for each stage: a task for each build statement whose command ran, and for each that passes order on."""
 
 import os
 from pathlib import Path
-from typing import Any, Dict, List, Set
+from typing import Any, Dict, List, Set, Tuple
 
 from record.build.assumptions import Assumptions
 from record.build.builder import Builder
@@ -10,20 +10,13 @@ from record.build.tasks import Build, Node, order_tasks, reached
 from record.build.work import Work
 from record.ninja.fix import owner_of
 from record.ninja.manifest import Edge
-from record.ninja.runs import NEVER, Job, Ninja, Stage
+from record.ninja.runs import NEVER, Job, Ninja, Stage, command_sum
 from record.trace.events import MADE, MADE_BEFORE
+from record.trace.lives import Life
 from record.trace.names import Names, join
+from record.trace.snapshots import Past
 
 TEXT_LIMIT = 400
-FIRST, PRIME, BITS = 14695981039346656037, 1099511628211, (1 << 64) - 1
-
-
-def command_sum(text: str) -> str:
-    """What `race-confirm` knows a command by: the sum FNV-1a of its bytes, in 16 digits."""
-    found = FIRST
-    for byte in text.encode("utf-8", "surrogateescape"):
-        found = (found ^ byte) * PRIME & BITS
-    return "%016x" % found
 
 
 class NinjaBuild(Build):
@@ -43,7 +36,7 @@ class NinjaBuild(Build):
         edge = self.edge(at)
         has_run = self.tasks[at].kind == "recipe"
         return {"file": edge.file, "line": edge.line, "recipe": edge.command[:TEXT_LIMIT], "rule": edge.rule, "pool": edge.value("pool"),
-                "sum": command_sum(edge.command) if has_run else "", "owner": owner_of(edge, self.manifest)}
+                "sum": command_sum(os.fsencode(edge.command)) if has_run else "", "owner": owner_of(edge, self.manifest)}
 
 
 class NinjaBuilder(Builder):
@@ -167,3 +160,16 @@ class NinjaBuilder(Builder):
         order, dropped = order_tasks(tasks, after, [(at, 0) for at in range(len(tasks))])
         if not dropped:
             self.arrange(order, [task.after for task in tasks])
+
+
+def import_ninjas(ninjas: List[Ninja], lives: List[Life], names: Names, assumed: Assumptions, past: Past) -> Tuple[List[Build], List[str]]:
+    """A build for each stage of a ninja in which commands ran, and the holes. `past`: which names were there when it began."""
+    holes: List[str] = []
+    builds: List[Build] = []
+    removed = {path for life in lives for kind, path in life.events if kind in "XD"} if ninjas else set()
+    stages = [(stage, ninja, number) for ninja in ninjas for number, stage in enumerate(ninja.stages) if stage.jobs and stage.is_read]
+    for stage, ninja, number in sorted(stages, key=lambda found: found[0].opened):
+        builder = NinjaBuilder(ninja, number, past.until(stage.opened), removed, names, assumed)  # guard: folders-that-were-there-when-it-began
+        builds.append(builder.run())
+        holes += builder.holes
+    return builds, holes

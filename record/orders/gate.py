@@ -19,7 +19,7 @@ from pathlib import Path
 from typing import NamedTuple
 
 from record.build.text import shown
-from record.ninja.runs import BY_NINJA
+from record.ninja.runs import BY_NINJA, command_sum
 from record.orders.processes import Stalled, born, folder_of, parent_of
 from record.orders.reported import Call, is_reported, receive
 
@@ -29,14 +29,6 @@ CREDENTIALS = struct.Struct("3i")  # of who has connected: process, user, group
 LEAST, MOST = 0.001, 0.032  # seconds from one look at the processes to the next
 LAST = float("inf")
 CLOCK_OF_FILES = 5  # CLOCK_REALTIME_COARSE of Linux
-
-
-def sum_of(command: bytes) -> str:
-    """The sum by which a record knows a command of ninja (FNV-1a, 64 bits)."""
-    found = 0xCBF29CE484222325
-    for byte in command:
-        found = (found ^ byte) * 0x100000001B3 & 0xFFFFFFFFFFFFFFFF
-    return "%016x" % found
 
 
 def held_words(pid: int) -> list[bytes]:
@@ -49,7 +41,7 @@ def held_words(pid: int) -> list[bytes]:
 
 def held_command(pid: int) -> str:
     """The sum of the command that a process which waits is to run for a ninja: the last of its words."""
-    return sum_of(next(iter(held_words(pid)[-2:-1]), b""))
+    return command_sum(next(iter(held_words(pid)[-2:-1]), b""))
 
 
 class Came(NamedTuple):
@@ -168,7 +160,11 @@ class Gate:
         """Those of some processes that may begin beside what runs: none beside one that began before those for which it waits, since nothing else could. A recipe
         with a make in it runs what that starts."""
         outer = {key[:length] for key in (*self.running, *(key for _, _, key in rows.values())) for length in range(1, len(key))}
-        return free if len(self.running - outer) < self.at_once and all(map(self.may_begin, self.running)) else []
+        return free if len(self.busy() - outer) < self.at_once and all(map(self.may_begin, self.running)) else []
+
+    def busy(self) -> set[Key]:
+        """The recipes that run."""
+        return self.running
 
     def turn(self, root: int) -> bool:
         """Lets a recipe begin, if nothing else can happen, or if it may run beside others; whether one does."""

@@ -115,7 +115,6 @@ GUARDS: List[Guard] = [
         ("where-library-is-in-environment", "pass", "laid.Preloaded.premise"),
         ("nothing", "pass", "record.Makefiles.nothing_to_do", LOST_HOLE),
         ("configured-said", 'for kind, found in (("up-to-date", record.up_to_date), ("up-to-date", start)):', "configured.Configured.what_configure_made", UNSAID),
-        ("what-missingdeps-finds", "record.missingdeps, beyond = 0, []", "ninja.Ninja.dep_file_that_lies", LOST_HOLE),
     ),
     *guards("judge.py",
         ("blanks-in-lines-of-race", r'RACE_LINE = re.compile(r"^race (\S+) : (\S+) (reads|writes) (\S+) (reads|writes)$")', "judge.Names.file_a_wide_blank"),

@@ -4,7 +4,7 @@ import os
 import re
 import shutil
 import unittest
-from typing import Dict
+from typing import Dict, List
 
 import support
 from support import is_new_ninja, missing, races_of
@@ -41,7 +41,7 @@ custom_target('use', output: 'use.txt', command: ['cp', '@PRIVATE@', '@OUTPUT@']
 """
 
 
-GEN_IS_MISSING, NONE_IS_MISSING = (["gen.h"], 1), ([], 0)  # what `ninja -t missingdeps` finds, and how many the record counts
+GEN_IS_MISSING: List[str] = ["gen.h"] if is_new_ninja() else []  # what `ninja -t missingdeps` finds
 
 
 def files(name: str, text: str) -> Dict[str, str]:
@@ -92,7 +92,7 @@ class CMake(unittest.TestCase):
         self.assertEqual(1, outcome.status, text)
         self.assertEqual(["gen.h"], races_of(text), text)
         self.assertIn("add_dependencies(prog ", text)
-        self.assertEqual(GEN_IS_MISSING if is_new_ninja() else NONE_IS_MISSING, (found, (outcome.record or {})["missingdeps"]))
+        self.assertEqual(GEN_IS_MISSING, found)
 
     def test_hidden_file_forgotten(self) -> None:
         text = CMAKE.replace("add_dependencies(use FIRST)\n", "").replace("cp hidden.txt use.txt", "sh -c 'cp hidden.txt use.txt || true'") + "add_dependencies(prog header)\n"
@@ -117,7 +117,7 @@ class CMake(unittest.TestCase):
             project.sh("cmake -G Ninja -S . -B b > log")
             outcome = project.record(["cmake", "--build", "b"])
             again = project.record(["cmake", "--build", "b", "--clean-first"])
-        self.assertEqual((0, 0), (outcome.status, (outcome.record or {})["missingdeps"]), outcome.text())
+        self.assertEqual(0, outcome.status, outcome.text())
         self.assertNotIn("WARM", outcome.text())
         self.assertEqual(0, again.status, again.text())  # what an earlier build made is removed before ninja builds, or written before it is read
 
@@ -138,11 +138,11 @@ class Meson(unittest.TestCase):
         text = outcome.text() + outcome.stderr.decode()[-800:]
         self.assertEqual((1, {"gen.h", "hidden.txt"}), (outcome.status, set(races_of(text))), text)
         self.assertIn("into the sources of 'prog'", text)
-        self.assertEqual(GEN_IS_MISSING if is_new_ninja() else NONE_IS_MISSING, (found, (outcome.record or {})["missingdeps"]))
+        self.assertEqual(GEN_IS_MISSING, found)
 
     def test_ordered(self) -> None:
         with support.Project(files("meson.build", self.text(", gen", ", depends: gen"))) as project:
             project.sh("meson setup b > log")
             outcome = project.record(["ninja", "-C", "b"])
             found = missing(project.folder / "b")
-        self.assertEqual((0, 0, []), (outcome.status, (outcome.record or {})["missingdeps"], found), outcome.text() + outcome.stderr.decode()[-800:])
+        self.assertEqual((0, []), (outcome.status, found), outcome.text() + outcome.stderr.decode()[-800:])

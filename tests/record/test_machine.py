@@ -80,7 +80,7 @@ class Again(unittest.TestCase):
             facts = shutil.move(room + "/record/trace", room + "/facts")
             shutil.rmtree(project.folder)
             record = import_again(Path(facts), Path(room, "again"))[0]
-            record.note_pairs(*Graph(Path(room, "again")).free_pairs() if record.status == 0 else (0, ""))
+            record.assume("orders", *Graph(Path(room, "again")).free_pairs() if record.status == 0 else (0, ""))
             rewrite(Path(room, "again"), record)
             differs = subprocess.run(["diff", "-r", room + "/record", room + "/again"], capture_output=True, text=True, check=False)
             self.assertEqual("", differs.stdout)

@@ -28,11 +28,11 @@ def test_of(case: Case) -> Callable[[unittest.TestCase], None]:
             self.assertEqual(case.races, len(re.findall(r"(?m)^RACE", outcome.text())), text)
         if any(one.startswith("WARM") for one in case.says):
             self.assertRegex(outcome.text(), r"(?m)^WARM")
-        elif case.want != NONE:
+        elif case.want != NONE and not case.is_lie:
             self.assertLessEqual(set(found), set(support.races_of(outcome.text())), "what ninja finds is among the races")
         if case.missing >= 0:
             wanted = case.missing if support.is_new_ninja() else 0
-            self.assertEqual((wanted, wanted), (len(found), (outcome.record or {})["missingdeps"]), text)
+            self.assertEqual(wanted, len(found), text)
 
     return test
 
