@@ -1,6 +1,6 @@
-"""The gate of a build in which two recipes meet at a folder that one of them makes.
+"""The gate of a build in which recipes meet at a folder that one of them makes.
 
-Where the folder stays, the first recipe is held where it makes it until the second one has come so far, and that until the first one has ended. Where one of them
+Where the folder stays, the first recipe is held where it makes it until the others have come so far, and these until it is there. Where one of two
 removes it, the first is held when it has made it, and the second runs meanwhile: until it ends, or tries to make the folder once more, as who takes it for a lock.
 """
 
@@ -34,7 +34,8 @@ class Meet(NamedTuple):
 
 @dataclass
 class Overlap(Gate):
-    """`meets`: who meets where. Others run side by side only when all that is over, and those that are held when what they were held for is."""
+    """`meets`: who meets where. Others run side by side only when all that is over, and those that are held when what they were held for is. Where the folder stays,
+    those that meet come side by side."""
 
     meets: Sequence[Meet] = ()
     held: dict[int, tuple[Key, int, int]] = field(default_factory=dict)  # by process: its recipe, the descriptor by which the kernel reports it, and the report
@@ -42,12 +43,7 @@ class Overlap(Gate):
     met: set[Meet] = field(default_factory=set)  # those of which the first recipe was held behind its call
 
     def __post_init__(self) -> None:
-        self.most, self.at_once = self.at_once, 1  # guard: nothing-else-while-two-meet
-
-    def note_end(self, make: int, name: str) -> None:
-        super().note_end(make, name)
-        if self.over.issuperset(key for meet in self.meets for key in meet[:2]):
-            self.at_once = self.most
+        self.most = self.at_once
 
     def let_go(self, pid: int, channel: socket.socket) -> None:
         own = self.owners[pid]
@@ -91,24 +87,29 @@ class Overlap(Gate):
         if any(key == meet.second and meet.first not in held | self.over for meet in self.meets):  # guard: second-behind-the-first
             return False
         beside = [one for meet in self.meets for one in meet[:2] if not held.isdisjoint(meet[:2])]
-        return super().may_begin(key) and (not beside or any(key[:len(one)] == one for one in beside))
+        return super().may_begin(key) and (not beside or any(key[:len(one)] == one or one[:len(key)] == key for one in beside))
 
-    def has_room(self) -> bool:
-        """Whether what others are held for is over, and one of them may go on beside what runs."""
+    def busy(self) -> set[Key]:
         held = [own for own, _, _ in self.held.values()]
-        goes_on = [one for one in self.running if not any(own[:len(one)] == one for own in held)]
-        return self.over.issuperset(key for meet in self.meets for key in meet[:1 + meet.goes]) and len(goes_on) < self.most  # guard: until-the-first-has-ended
+        return {one for one in self.running if not any(own[:len(one)] == one for own in held)}
+
+    def is_past(self, meet: Meet, root: int) -> bool:
+        """Whether what two recipes are held for is over: the folder that stays is there, or the first has ended; where it goes again, both have."""
+        return self.over.issuperset(meet[:1 + meet.goes]) or not meet.goes and os.path.lexists(f"/proc/{root}/root{meet.path}")
 
     def turn(self, root: int) -> bool:
+        is_over = self.over.issuperset(key for meet in self.meets for key in meet[:2])
+        self.at_once = self.most if is_over or self.held and not any(meet.goes for meet in self.meets) else 1  # guard: nothing-else-while-two-meet
         if not self.held:
             return super().turn(root)
         self.hear_makes()
-        if not self.has_room():
-            if not self.is_idle(root):
-                return False
+        free = [pid for pid, (own, _, _) in self.held.items() if all(self.is_past(meet, root) for meet in self.meets if own in meet[:2])]  # guard: until-the-first-has-made-it
+        if not free or len(self.busy()) >= self.most:
             if any((make, name) in self.open or self.may_begin(key) for make, name, key in map(self.bare, self.waiting)):
                 return super().turn(root)
-        self.go_on(min(self.held, key=lambda pid: self.began.index(self.held[pid][0])))
+            if not self.is_idle(root):
+                return False
+        self.go_on(min(free or self.held, key=lambda pid: self.began.index(self.held[pid][0])))
         return True
 
 

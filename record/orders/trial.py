@@ -82,21 +82,25 @@ class Trial:
 
     # ---------------------------------------------------------------- which builds
     def run(self, running: Running, say: Callable[[int], object]) -> None:
-        """All builds: the two that began beside the recorded one; others that say more, of which the first run beside a third serial build, where one is needed; and
-        those that cover what is left, as long as they turn round more. `say` takes how many follow."""
+        """All builds: the two that began beside the recorded one, and those that this one asks for; others that say more, of which the first run beside a third serial
+        build, where one is needed; and those that cover what is left, as long as they turn round more. `say` takes how many follow."""
+        plans, self.builds = [*self.overlaps()], 2
+        running.begin(*(begun := self.next_of(plans, AT_ONCE // 2)))
         again, flipped = self.begin(running)
-        plans = [*self.orders(), *self.covers(without(self.left, self.graph.turned(flipped.began))), *self.overlaps()]
+        early = [plan for plan in begun if plan.name in running.children]
+        plans += [plan for plan in begun if plan not in early]  # guard: builds-that-were-ended
+        plans += [*self.orders(), *self.covers(without(self.left, self.graph.turned(flipped.began))), *self.overlaps()]
         chance = [differing(one, other) for one, other in zip(self.recorded, again.held)]  # or as it ran several recipes at once, or the copies are another place
         is_clean = flipped.status == 0 and all(differing(one, other) <= known for one, other, known in zip(again.held, flipped.held, chance))
         more = [replace(SERIAL, name="second")] * any(chance)
-        self.builds = 2 + len(more)
-        say(len(more) + len(plans))
-        running.begin(*more, *(early := self.next_of(plans) if is_clean else []))
+        self.builds += len(more) + len(early) - len(begun)
+        say(len(early) + len(more) + len(plans))
+        running.begin(*more, *(also := self.next_of(plans, AT_ONCE - len(early)) if is_clean else []))
         for base in (running.result(plan.name) for plan in more):
             if base.status == 0:  # guard: copies-among-themselves
                 self.serial, self.trees = base.held, self.room.trees(base.plan)
         self.compare(again)
-        self.take([flipped, *(running.result(plan.name) for plan in early)])
+        self.take([flipped, *(running.result(plan.name) for plan in (*early, *also))])
         self.try_all(plans)
         left = 0
         while size(self.left) != left and self.goes_on:
@@ -174,9 +178,9 @@ class Trial:
             self.take(side_by_side(self.room, self.next_of(plans)))
         self.is_whole &= not any(plan.meets for plan in plans)
 
-    def next_of(self, plans: list[Plan]) -> list[Plan]:
+    def next_of(self, plans: list[Plan], most: int = AT_ONCE) -> list[Plan]:
         """Takes builds off a list that are to run at once now, each with what ends the conflicts that are known."""
-        some = [replace(plan, after={late: {*early} for late, early in self.after.items()}) for plan in plans[:max(0, min(AT_ONCE, self.most - self.builds))]]  # guard: no-more-than-there-may-be
+        some = [replace(plan, after={late: {*early} for late, early in self.after.items()}) for plan in plans[:max(0, min(most, self.most - self.builds))]]  # guard: no-more-than-there-may-be
         del plans[:len(some)]
         self.builds += len(some)
         return some

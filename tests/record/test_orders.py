@@ -185,15 +185,20 @@ class Orders(unittest.TestCase):
             found = project.record(once=False)
         self.assertRegex(found.stderr, b"race-record: two builds in copies run meanwhile; the last time it took about [1-9] seconds, and 2 builds in copies\n")
 
-    def beside(self, makefile: str) -> support.Outcome:
+    def beside(self, makefile: str, most: int = 2) -> support.Outcome:
         """A record of recipes that use a folder outside of the project, `D`."""
         with tempfile.TemporaryDirectory() as room, support.Project({"Makefile": "D = %s\n%s" % (room, makefile)}) as project:
-            return project.record(options=("--orders", "2"), once=False)
+            return project.record(options=("--orders", str(most)), once=False)
 
     def test_what_the_recorded_build_changes_elsewhere(self) -> None:
         """The flipped build, beside it, would see the file that is there for a while."""
         found = self.beside("all: a b w c; @rm $D/x\na: ; @echo > $D/x; echo > a\nb: ; @ls $D > b\nw: b; @sleep 2; echo > w\nc: ; @sleep 1; echo > c\n")
         self.assertEqual((1, True), (found.status, "seen where b runs before a:" in found.text()), found.text())
+
+    def test_builds_that_begin_anew(self) -> None:
+        """So does that in which two meet, which began when the recorded build had ended."""
+        found = self.beside("all: a b\na: ; @echo > $D/x; mkdir -p d; touch a\nb: ; @test -d d || mkdir d && touch b\n", 9)
+        self.assertEqual((1, True), (found.status, "seen where b runs beside a:" in found.text()), found.text())
 
     def test_names_of_the_recorded_build_that_nobody_knows(self) -> None:
         """The flipped build lists one of them, so it is made anew."""
