@@ -11,11 +11,10 @@ used such a name:
 - elsewhere, and in a folder that CMake or Meson configured: such a file that a recipe of this build writes, or cannot make since it is there, and such a folder
   that one makes;
 - in a tree that `--fresh` made: a new file that a recipe writes, as it is no source, and may be all that its folder holds;
-- never a makefile without rules, as automake leaves them, nor what `./configure` made, except what a recipe writes again.
+- never what `./configure` made, except what a recipe writes again.
 """
 
 import os
-import re
 import shlex
 import subprocess
 import sys
@@ -36,7 +35,6 @@ from record.trace.names import Names
 GIT = ["git", "--no-optional-locks", "-c", "safe.directory=*"]
 CONFIGURED_BY = ("CMakeCache.txt", "meson-info")  # what stands at the top of a folder that CMake or Meson configured
 FOLDER_USED = SEEN + ENTERED + LISTED + CREATED
-RULE = re.compile(r"^[ \t]*[^ \t\n#]", re.M)  # a line of a makefile that is no comment
 NAMED = 3  # so many new files are named
 
 
@@ -125,11 +123,9 @@ def with_folders(files: Iterable[str], top: str) -> Set[str]:
     return found
 
 
-def left_behind(tree: FirstTree, before: Dict[str, str], lives: List[Life], builds: Sequence[Build], kept: str, texts: Dict[str, str],
-                names: Names) -> Set[str]:
-    """What an earlier build left, and this one used. `before`: the kinds of the names that were there; `kept`: the folder of the record; `texts`: what
-    makefiles said when make read them. What a recipe looked at counts where any recipe changes it, what make or ninja looked at where others use it, too:
-    a manifest that is made again is no leftover."""
+def left_behind(tree: FirstTree, before: Dict[str, str], lives: List[Life], builds: Sequence[Build], kept: str, names: Names) -> Set[str]:
+    """What an earlier build left, and this one used. `before`: the kinds of the names that were there; `kept`: the folder of the record. What a
+    recipe looked at counts where any recipe changes it, what make or ninja looked at where others use it, too: a manifest that is made again is no leftover."""
     tops = tuple(os.path.dirname(path) + "/" for path in before if os.path.basename(path) in CONFIGURED_BY)
     recipes = [task for build in builds for task in build.tasks if task.kind == "recipe"]
     shared = {path for task in recipes for path in task.writes}
@@ -141,7 +137,7 @@ def left_behind(tree: FirstTree, before: Dict[str, str], lives: List[Life], buil
     written |= {path for path in changed & before.keys() if tree.new and os.path.relpath(path, tree.top) in tree.new_names}  # guard: new-files-that-recipes-write
     own = {path for path in by_any | by_recipes | early if tree.is_own(path) and not (path + "/").startswith(tops)}
     found = (written | own) - tree.tracked - kept_by_git(lives)
-    return {path for path in found if not (path + "/").startswith(kept + "/") and (path not in texts or RULE.search(texts[path]))}  # guard: what-earlier-build-left
+    return {path for path in found if not (path + "/").startswith(kept + "/")}  # guard: what-earlier-build-left
 
 
 def kept_by_git(lives: Iterable[Life]) -> Set[str]:

@@ -8,7 +8,7 @@ import gc
 import os
 import sys
 from pathlib import Path
-from typing import Dict
+from typing import Set
 
 from record import machine
 from record.build.assumptions import Assumptions
@@ -22,7 +22,7 @@ from record.make.build import MakeBuilder as Builder
 from record.make.graph import MakeBuild
 from record.make.owners import Owners, beginning
 from record.make.spellings import twice
-from record.make.words import makefiles, read_logs
+from record.make.words import read_logs
 from record.ninja.build import import_ninjas
 from record.ninja.runs import Runs
 from record.premises import add_granted, add_granted_by_ninjas, add_seen, unasked
@@ -94,7 +94,7 @@ class Imported:
 
     def settle(self) -> Owners:
         """Puts what is meant in the place of what known programs did; who did what."""
-        logs = read_logs(self.facts.said, self.facts.said_place)
+        logs = read_logs(self.facts.said)
         for kind, example in settle(self.lives, self.names.tops):  # guard: byte-code
             self.assumed.add(kind, example)
         for words in settle_caches(self.lives, self.names.tops):
@@ -127,11 +127,9 @@ class Imported:
             self.record.holes.append("%s was absent, and something else made it while the build ran, so its recipe did not run: let nothing else build here, and record again" % path)
         self.builds.sort(key=lambda build: start_of(build.make.life))  # guard: when-a-make-began
 
-    def texts(self) -> Dict[str, str]:
-        """By path: what each makefile said when make read it; nothing for one that a make begins with which no recipe runs, as without it there is no such build."""
-        found = {self.names.find(make.folder, name, True).path: make.known_text(name) for make in self.makes for name in makefiles(make.words)}
-        first = {self.names.find(make.folder, name, True).path for make in self.makes if not is_inside(make.life) for start in make.words.read[:1] for name in start[:1]}
-        return {path: "" if path in first else text for path, text in found.items() if text is not None}
+    def first_makefiles(self) -> Set[str]:
+        """Those that a make begins with which no recipe runs: without it there is no such build."""
+        return {self.names.find(make.folder, name, True).path for make in self.makes if not is_inside(make.life) for start in make.words.read[:1] for name in start[:1]}
 
     def finish(self, out: str, warm: bool) -> None:
         """What is known when all builds are: whether they were cold."""
@@ -146,7 +144,7 @@ class Imported:
             part = came_with(record.first, there, statuses, written)
             record.up_to_date = sorted(part - written)
             before = {path: kind for path, kind in names.before.items() if not is_gone(moves, path, last)}
-            there = there - part | left_behind(record.first, before, self.lives, self.builds, out, self.texts(), names) - configured
+            there = there - part | left_behind(record.first, before, self.lives, self.builds, out, names) - self.first_makefiles() - configured
         alone = there if stand_alone(there, self.builds, self.ninjas) else set()
         record.warm = sorted(there - alone)
         start = sorted(there if warm else alone)

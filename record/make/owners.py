@@ -1,15 +1,13 @@
 """Who did what: each process works for a recipe of each make above it. What a make itself does, or calls as it expands a recipe, is no part of that recipe: it is
 tried out in other orders."""
 
-import errno
 import os
 import re
 from bisect import bisect
 from dataclasses import dataclass, field
 from functools import cached_property
-from typing import Dict, Iterable, Iterator, List, Optional, Set
+from typing import Dict, Iterable, Iterator, List, Set
 
-from record import machine
 from record.build.parts import divide
 from record.build.tasks import Job
 from record.build.work import Part, Tool, Work, written_by
@@ -19,15 +17,6 @@ from record.trace.lives import Life
 
 MAGIC = re.compile(r"[*?\[]")
 LOOSE = re.compile(r"\\.|\[[!^]?\]?[^\]/]*\]|\[")  # what stands for one sign in a pattern of `glob`: more names fit `?`
-OF_PROCESS = ("/dev/fd/", "/dev/std", "/proc/")  # how names begin that lead each process elsewhere
-
-
-def text_of(path: str) -> str:
-    """The text of a file that a build has read; an error where it is gone, or cannot be read again: a pipe with a name, a terminal, or what `/dev/stdin`
-    leads to says nothing when the build has ended. To open it may wait for ever, or gives what is the recorder's own."""
-    if not machine.isfile(path) or os.path.normpath(path).startswith(OF_PROCESS):  # guard: what-cannot-be-read-again
-        raise OSError(errno.EINVAL, "is no plain file", path)
-    return machine.text(path)
 
 
 @dataclass(eq=False)
@@ -36,13 +25,6 @@ class Make(Tool):
 
     words: Words
     left: List[Part] = field(default_factory=list)  # processes that its own calls leave running, as `$(shell a &)`
-
-    def known_text(self, name: str) -> Optional[str]:
-        """What a makefile said when make read it; None where it is gone."""
-        try:
-            return "\n".join(map(text_of, self.words.copies_of(name) or [os.path.join(self.folder, name)]))  # guard: what-they-say
-        except OSError:
-            return None
 
     @property
     def jobs(self) -> List[Job]:

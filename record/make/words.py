@@ -1,7 +1,6 @@
 """The reader of make's words: rounds, the targets that it considered in each, and its jobs."""
 
 import re
-from collections import Counter
 from dataclasses import dataclass, field
 from functools import lru_cache
 from pathlib import Path
@@ -61,19 +60,11 @@ class Words:
     processes: List[Tuple[int, Job]] = field(default_factory=list)  # of all jobs, in order: the number and the job
     read: List[List[str]] = field(default_factory=list)  # makefiles that each start read before it made anything
     included: List[str] = field(default_factory=list)  # makefiles that recipes include while make expands them
-    place: str = ""  # how the paths of its copies begin
-    times: "Counter[str]" = field(default_factory=Counter)  # by name of a makefile: how often make has read it
-    copies: Dict[str, List[str]] = field(default_factory=dict)  # those that the build had made: copies of what make has read
     patterns: List[str] = field(default_factory=list)  # what it looked for by `glob`
     is_deaf: bool = False  # nobody hears what it looks for: it has a `glob` of its own
     start: Start = field(default_factory=Start)  # how it was called
     loaded: List[str] = field(default_factory=list)  # objects that it has loaded into itself
     holes: List[str] = field(default_factory=list)
-
-    def copies_of(self, name: str) -> List[str]:
-        """All that a makefile said when make read it, as paths of copies; none where there is not one for each time."""
-        found = self.copies.get(name, [])
-        return found if len(found) == self.times[name] else []  # guard: each-time
 
     @property
     def has_failed(self) -> bool:
@@ -97,7 +88,6 @@ class _Reader:
         self.stack: List[Tuple[int, str]] = []  # depths and names of the targets that are being looked at
         self.children: Dict[str, Job] = {}
         self.clock = 0
-        self.name = ""  # the makefile that it reads
         self.found: Dict[str, str] = {}  # by path: the target that make has found there
 
     def begin(self, stage: str) -> None:
@@ -161,21 +151,15 @@ class _Reader:
         elif text.startswith("Loading symbol "):
             words.loaded.append(text.partition(" from ")[2])
         elif words.read and (reading := READING.match(text)):
-            self.name = reading[1]
-            words.times[self.name] += 1
             is_making = self.round is not None and self.round.start == len(words.read) - 1
-            (words.included if is_making else words.read[-1]).append(self.name)
+            (words.included if is_making else words.read[-1]).append(reading[1])
         elif self.round is not None:
             self.target(text)
 
     def is_of_library(self, text: str) -> bool:
         """Whether a line is one that the library adds to make's own (watch.c); what it says is kept."""
         (key, _, value), words = text.partition(" "), self.words
-        if key == "COPY":
-            number, _, path = value.partition(" ")
-            if path == self.name or path.endswith("/" + self.name):
-                words.copies.setdefault(self.name, []).append("%s%s.read" % (words.place, number))
-        elif key == "GLOB":
+        if key == "GLOB":
             words.patterns.append(value)
         elif key == "ASKS":
             words.start.asks = value
@@ -239,10 +223,10 @@ def failures(words: Words) -> Iterator[str]:
                 yield "a recipe failed for a makefile that need not be there, and what stands behind it did not run: %s" % name
 
 
-def read_words(pid: int, life: int, lines: Iterable[str], place: str = "", start: Optional[Start] = None) -> Words:
+def read_words(pid: int, life: int, lines: Iterable[str], start: Optional[Start] = None) -> Words:
     """What a make process said, of the lines that the library kept: each of its starts ends in a data base."""
     start = start or Start()
-    words = Words(pid, life, " ".join(start.args).replace("\n", " "), start.version, place=place, start=start)
+    words = Words(pid, life, " ".join(start.args).replace("\n", " "), start.version, start=start)
     reader = _Reader(words)
     bases = 0  # how many data bases it printed
     base: List[str] = []  # the lines of the one that has not ended
@@ -269,15 +253,15 @@ def read_words(pid: int, life: int, lines: Iterable[str], place: str = "", start
     return words
 
 
-def read_logs(said: Path, place: str) -> List[Words]:
-    """The words of all makes of a recorded build, without those that only answer. `place` is where their folder was then."""
+def read_logs(said: Path) -> List[Words]:
+    """The words of all makes of a recorded build, without those that only answer."""
     logs = []
     for pid, life, path in files_in(said):
         with open_file(path) as lines:
             start = read_start(lines)
         if start.says:
             with open_file(path) as lines:
-                logs.append(read_words(pid, life, lines, "%s/%s" % (place, path.name[:-len("make")]), start))
+                logs.append(read_words(pid, life, lines, start))
     return logs
 
 

@@ -89,7 +89,7 @@ class Later:
     def build(self, room: Room, when: str) -> Tuple[Built, Dict[Call, Knows], Set[str]]:
         """One build in a copy: how it ended, what its makes know, and the names that have another time."""
         built, = side_by_side(room, [Plan("later", {}, OWN)])
-        logs = [one for place in room.place(built.plan).glob("race-watch-*/said") for one in read_logs(place, str(place))]
+        logs = [one for place in room.place(built.plan).glob("race-watch-*/said") for one in read_logs(place)]
         fresh, after = times([room.fresh(number) for number in range(len(room.tops))], room), times(room.trees(built.plan), room)
         found, changed = known(logs), {path for path, time in after.items() if fresh.get(path) != time}
         room.forget(built.plan)

@@ -12,7 +12,6 @@
      ASKS                else the flag of make by which it only answers; of a makefile that lets it print its own words, from there on
      lines of make       what it considers, and what it does with jobs, in English
      GLOB, DEAF          a pattern that it looks for; or nobody hears these, as make has a `glob` of its own
-     COPY                the copy of a makefile as it was read, SAID/PID.LIFE.N.read
      # Make data base .. what `make -p` prints: at its end, and before it begins again
      EXIT                its status
 
@@ -31,12 +30,10 @@
 #include <stdio.h>
 #include <stdlib.h>
 #include <string.h>
-#include <sys/mman.h>
 #include <sys/resource.h>
-#include <sys/stat.h>
 #include <unistd.h>
 
-enum { RAISED = 0x107, HIGH = 900, LONGEST = 4096, MOST = 1 << 20, REMEMBERED = 16 };
+enum { RAISED = 0x107, HIGH = 900, LONGEST = 4096, REMEMBERED = 16 };
 
 extern char **environ;
 extern int __vfprintf_chk(FILE *, int, const char *, va_list);
@@ -48,13 +45,10 @@ static int *level;          /* make's level of debug words */
 static int is_raised;       /* make says what it considers */
 static int is_base;         /* the data base is being printed */
 static int is_open;         /* make has begun a line for people, and not ended it */
-static int is_reading;      /* make has said that it reads a makefile, and not opened it */
 static int is_cut;          /* a limit does not let the file grow */
 static int own;             /* the process: a child of make is another one */
-static int copies;          /* how many makefiles were copied */
 static char place[LONGEST]; /* the path of the file, without `make` at its end */
 static char *low, *high;    /* where make itself lies: what an object prints that make has loaded is none of its words */
-static struct timespec began;
 
 #define NEXT(name) ((__typeof__(&name))dlsym(RTLD_NEXT, #name)) /* that of the C library */
 #define CALLER __builtin_return_address(0)
@@ -188,7 +182,6 @@ static int range(struct dl_phdr_info *info, size_t size, void *data) {
 
 __attribute__((constructor)) static void begin(int argc, char **argv) {
   Dl_info here;
-  struct stat found;
   char folder[LONGEST - 64], cwd[LONGEST] = "";
   level = dlsym(RTLD_DEFAULT, "db_level");
   if (!level || !dlsym(RTLD_DEFAULT, "new_job") || !dladdr((void *)begin, &here)) return;
@@ -202,7 +195,6 @@ __attribute__((constructor)) static void begin(int argc, char **argv) {
   for (int at = HIGH; number < 0 && at > 2; at /= 2) number = fcntl(fd, F_DUPFD_CLOEXEC, at);
   close(fd);
   if (number < 0 || !(said = fopencookie(NULL, "w", (cookie_io_functions_t){.write = keep}))) return;
-  if (!stat(here.dli_fname, &found)) began = found.st_ctim;
   dl_iterate_phdr(range, NULL);
   put_line("MAKE", argv[0] ? argv[0] : "");
   for (int at = 1; at < argc; at++) put_line("ARG", argv[at]);
@@ -335,7 +327,6 @@ int puts(const char *text) {
     is_open = 0;
     return done;
   }
-  is_reading = is_reading || !strcmp(text, "...");
   fprintf(said, "%s\n", in_english(text));
   end_word(text);
   return 1;
@@ -373,39 +364,11 @@ size_t fwrite(const void *text, size_t size, size_t count, FILE *file) {
   return NEXT(fwrite)(text, size, count, file);
 }
 
-/* ---- makefiles and patterns */
-
-/* Copies a makefile that was written since the recording began, or that can be read once: then make gets another file that holds the same. */
-static FILE *copied(const char *path, FILE *file) {
-  struct stat found;
-  char name[LONGEST + 32], bytes[LONGEST];
-  size_t got;
-  if (fstat(fileno(file), &found) || S_ISDIR(found.st_mode)) return file;
-  int is_plain = S_ISREG(found.st_mode), is_whole = 1;
-  long newer = found.st_ctim.tv_sec != began.tv_sec ? found.st_ctim.tv_sec - began.tv_sec : found.st_ctim.tv_nsec - began.tv_nsec;
-  if (is_plain && (found.st_size > MOST || newer < 0)) return file;
-  FILE *whole = is_plain ? file : fdopen(memfd_create("makefile", MFD_CLOEXEC), "w+");
-  snprintf(name, sizeof name, "%s%d.read", place, copies + 1);
-  int copy = whole ? open(name, O_WRONLY | O_CREAT | O_TRUNC | O_CLOEXEC, 0600) : -1;
-  if (copy < 0) return file;
-  while ((got = fread(bytes, 1, sizeof bytes, file)) > 0) {
-    is_whole = put_bytes(copy, bytes, got) && is_whole;
-    if (!is_plain) NEXT(fwrite)(bytes, 1, got, whole);
-  }
-  close(copy);
-  rewind(whole);
-  if (!is_plain) fclose(file);
-  fprintf(said, "%s %d", is_whole ? "COPY" : "CUT", ++copies);
-  put_line("", path);
-  return whole;
-}
+/* ---- patterns */
 
 FILE *fopen(const char *path, const char *mode) {
   if (FROM_MAKE) raise_level(); /* at the latest */
-  FILE *file = NEXT(fopen)(path, mode);
-  if (!file || !is_raised || !is_reading || !FROM_MAKE || *mode != 'r') return file;
-  is_reading = 0;
-  return copied(path, file);
+  return NEXT(fopen)(path, mode);
 }
 
 int glob(const char *pattern, int flags, int (*fault)(const char *, int), glob_t *found) {

@@ -7,7 +7,6 @@ from guard import LOST_HOLE, WITHHELD, YES, Guard, guards
 GUARDS: List[Guard] = [
     *guards("make/words.py",
         ("targets-that-were-given-up-for-makefile", r"""FAILED = re.compile(r"^ *(?:Failed to remake) target file '(.*)'\.$")""", "words.Makefiles.target_that_is_given_up_for_a_makefile", LOST_HOLE),
-        ("each-time", "return found ", "words.Copies.one_for_each_time"),
         ("names-of-rules", "pass", "warm.Warm.target_in_a_search_path"),
         ("targets-in-search-paths", 'self.made = ""', "warm.Warm.target_in_a_search_path"),
         ("recipe-that-goes-on-in-next-round", "self.stack, self.children, self.found = [], {}, {}", "words.Several.recipe_that_goes_on_in_the_next_round"),

@@ -4,7 +4,6 @@ import os
 import tempfile
 import unittest
 
-from record.make.owners import text_of
 from test_small import Small, makefiles
 
 # Two recipes that make a folder, and the first may show whether it was there.
@@ -19,13 +18,3 @@ Makefiles = makefiles(__name__, {
     # folders
     "folder_beside_a_function": Small("safe", FOLDER % "f() { touch a; }; test -d d || mkdir -p d; f", is_tried=True),
 })
-
-
-class Texts(unittest.TestCase):
-    """Files that are read when the build has ended."""
-
-    def test_what_cannot_be_read_again(self) -> None:
-        with tempfile.TemporaryDirectory() as room:
-            os.symlink("/dev/null", room + "/device")
-            for path in (room + "/device", room, room + "/no", "/dev/stdin", "/dev/fd/0", "/proc/self/status", "/x/../dev/stdin"):
-                self.assertRaises(OSError, text_of, path)

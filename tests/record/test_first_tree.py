@@ -49,9 +49,6 @@ class Left(unittest.TestCase):
     def test_dependency_file(self) -> None:
         self.warm(DEPFILES, "make -s; make -s clean", "main.d")
 
-    def test_dependency_file_without_rules(self) -> None:
-        self.assertEqual(1, self.recorded(DEPFILES, "echo '# dummy' > main.d").status)
-
     def test_output_that_git_does_not_track(self) -> None:
         self.warm(MOVED, GIT + "; make -s; make -s clean", "h")
 

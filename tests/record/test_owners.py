@@ -30,7 +30,7 @@ BASE = ["# Make data base, printed on Monday", "# Files", "", *RECIPES, "# files
 
 def words_of(*lines: str, status: Optional[str] = "EXIT 0") -> Words:
     """What make 7 said."""
-    return read_words(7, 0, ["Reading makefiles...", "Updating goal targets....", *lines, *BASE] + ([status] if status else []), "", Start(["all"]))
+    return read_words(7, 0, ["Reading makefiles...", "Updating goal targets....", *lines, *BASE] + ([status] if status else []), Start(["all"]))
 
 
 def make_of(*children: Tuple[int, int]) -> List[Life]:
@@ -129,13 +129,3 @@ class Slots(unittest.TestCase):
         self.addCleanup(os.sched_setaffinity, 0, before)
         with support.Project({"Makefile": "all: ; $(MAKE) -j`nproc` -f in.mk\n", "in.mk": IN_ORDER}) as project:
             self.assertEqual(1, project.record().status)
-
-
-class Texts(unittest.TestCase):
-    """What makefiles said."""
-
-    def test_makefile_that_is_written_again(self) -> None:
-        with support.Project({"M": "new\n", "copy": "old\n"}) as project:
-            words = Words(7, 0, read=[["M"]], copies={"M": [str(project.folder / "copy")]}, times=Counter({"M": 1}))
-            make = Make(Life(7), str(project.folder), words)
-            self.assertEqual("old\n", make.known_text("M"))

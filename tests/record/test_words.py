@@ -20,31 +20,22 @@ HEAD = ["ARG all", "ENV MAKEFLAGS=", "SAYS 4.3", "Reading makefiles...", "Updati
 BASE = ["# Make data base, printed on Monday", "# Files", "a:", "", "# files hash-table stats:", "# Finished Make data base on Monday"]
 
 
-class Copies(unittest.TestCase):
-    """Copies of makefiles that are written again."""
-
-    def test_one_for_each_time(self) -> None:
-        a, b = "Reading makefile 'a.d' (search path)...", "Reading makefile 'b.d' (search path)..."
-        words = read_words(7, 0, [*HEAD[:4], a, "COPY 1 a.d", b, *HEAD[4:], *BASE, *HEAD[3:4], a, "COPY 2 a.d", b, "COPY 3 d/b.d", *HEAD[4:], *BASE, "EXIT 0"], "/s/7.0.")
-        self.assertEqual(([], ["/s/7.0.1.read", "/s/7.0.2.read"], []), (words.holes, words.copies_of("a.d"), words.copies_of("b.d")))
-
-
 class Patterns(unittest.TestCase):
     """What a make looks for by `glob`."""
 
     def test_all_looks(self) -> None:
         lines = [*HEAD[:4], "GLOB *.c", HEAD[4], "GLOB *.d", "Considering target file 'a'.", "Must remake target 'a'.", "GLOB d/*.h", "Putting child 0x1 (a) PID 8 on the chain.", "GLOB *.o", *BASE]
-        words = read_words(7, 0, [*lines, "EXIT 0"], "")
+        words = read_words(7, 0, [*lines, "EXIT 0"])
         self.assertEqual(["*.c", "*.d", "d/*.h", "*.o"], words.patterns)
 
     def test_make_that_nobody_hears(self) -> None:
         for lines, found in (([], []), (["DEAF "], ["*"])):
-            words = read_words(7, 0, [*HEAD[:4], *lines, *HEAD[4:], *BASE, "EXIT 0"], "")
+            words = read_words(7, 0, [*HEAD[:4], *lines, *HEAD[4:], *BASE, "EXIT 0"])
             self.assertEqual(found, [*Make(Life(7), "/w", words).patterns])
 
     def test_parts_of_patterns(self) -> None:
         lines = ["GLOB " + pattern for pattern in ("*.c", "/w/e/*", "{a,b}/?", "d/[!a]*/x", "k.c")]
-        words = read_words(7, 0, [*HEAD[:4], *lines, *HEAD[4:], *BASE, "EXIT 0"], "")
+        words = read_words(7, 0, [*HEAD[:4], *lines, *HEAD[4:], *BASE, "EXIT 0"])
         self.assertEqual({"*.c", "*", "?", "?*"}, Make(Life(7), "/w", words).patterns)
 
 
@@ -53,7 +44,7 @@ class Holes(unittest.TestCase):
 
     @staticmethod
     def words(*lines: str) -> Words:
-        return read_words(7, 0, HEAD + list(lines) + ["EXIT 0"], "", read_start(HEAD))
+        return read_words(7, 0, HEAD + list(lines) + ["EXIT 0"], read_start(HEAD))
 
     def holes(self, lines: List[str]) -> List[str]:
         return self.words(*lines).holes
