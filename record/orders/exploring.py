@@ -26,11 +26,6 @@ COPIES, GROWTH = 11, 4  # so many copies are there at once, and a build may make
 MOST = 40  # builds, where nobody says how many
 
 
-def size_of(tops: Sequence[str]) -> int:
-    """The bytes below some folders."""
-    return sum(os.lstat(os.path.join(folder, name)).st_size for top in tops for folder, _, names in os.walk(top) for name in names)
-
-
 def has_memory(size: int) -> bool:
     """Whether the tmpfs may hold so much: half of the memory that is free, and of its own room, which a container may have little of."""
     try:
@@ -48,7 +43,8 @@ def new_room(tops: Sequence[str], setup: Sequence[str], words: Sequence[str], ou
             raise CannotTry("%s is not there before the build" % top)
     if not is_child_able(leave):
         raise CannotTry("the system gives no mounts of its own, by which a copy lies in the place of the project: run it as root")
-    place = TMPFS if has_memory(COPIES * GROWTH * size_of(tops)) else rooms
+    size = sum(os.lstat(os.path.join(folder, name)).st_size for top in tops for folder, _, names in os.walk(top) for name in names)
+    place = TMPFS if has_memory(COPIES * GROWTH * size) else rooms
     room = Room(Path(tempfile.mkdtemp(prefix="race-orders-", dir=place)), tops, setup, words, record)
     room.top.chmod(0o711)  # makes of other users find the library  # guard: makes-of-other-users
     try:

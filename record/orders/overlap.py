@@ -14,6 +14,7 @@ from dataclasses import dataclass, field
 from functools import partial
 from typing import NamedTuple
 
+from record.build.tasks import grouped
 from record.orders.gate import Gate, Key
 from record.orders.reported import Call, filter_of, go_on, reports_of
 
@@ -43,12 +44,12 @@ class Overlap(Gate):
     met: set[Meet] = field(default_factory=set)  # those of which the first recipe was held behind its call
 
     def __post_init__(self) -> None:
-        self.most = self.at_once
+        self.most, self.of = self.at_once, grouped((key, meet) for meet in self.meets for key in meet[:2])  # by recipe: where it meets others
+        self.around = {key[:length] for key in self.of for length in range(1, len(key))}  # recipes inside of which these run
 
     def let_go(self, pid: int, channel: socket.socket) -> None:
         own = self.owners[pid]
-        meets = [meet for meet in self.meets if own in meet[:2]]
-        if meets:
+        if meets := self.of.get(own):
             reports = reports_of(pid, channel, filter_of([*MAKING, *(OTHERS if any(meet.goes for meet in meets) else ())]))
             if reports < 0:  # guard: kernel-that-reports-nothing
                 raise OSError("the kernel reports no calls that make folders; Linux 5.6 and later do, on x86-64 and arm64, where no rule of a container forbids it")
@@ -59,7 +60,7 @@ class Overlap(Gate):
         """A process is to make a folder, or goes on: it is held, or does so."""
         path = path_of(call) if call.call in MAKING else ""
         self.held[call.pid] = key, reports, call.number
-        if not any([self.reach(key, meet, is_same(path, f"/proc/{call.pid}/root{meet.path}")) for meet in self.meets if key in meet[:2]]):
+        if not any([self.reach(key, meet, is_same(path, f"/proc/{call.pid}/root{meet.path}")) for meet in self.of[key]]):
             self.go_on(call.pid)
 
     def reach(self, key: Key, meet: Meet, is_there: bool) -> bool:
@@ -84,14 +85,13 @@ class Overlap(Gate):
 
     def may_begin(self, key: Key) -> bool:
         held = {own for own, _, _ in self.held.values()}
-        if any(key == meet.second and meet.first not in held | self.over for meet in self.meets):  # guard: second-behind-the-first
+        if any(key == meet.second and meet.first not in held and meet.first not in self.over for meet in self.of.get(key, ())):  # guard: second-behind-the-first
             return False
-        beside = [one for meet in self.meets for one in meet[:2] if not held.isdisjoint(meet[:2])]
-        return super().may_begin(key) and (not beside or any(key[:len(one)] == one or one[:len(key)] == key for one in beside))
+        above = (key[:length] for length in range(1, len(key) + 1))
+        return super().may_begin(key) and (not held or key in self.around or any(not held.isdisjoint(meet[:2]) for one in above for meet in self.of.get(one, ())))
 
     def busy(self) -> set[Key]:
-        held = [own for own, _, _ in self.held.values()]
-        return {one for one in self.running if not any(own[:len(one)] == one for own in held)}
+        return {one for one in self.running if not any(own[:len(one)] == one for own, _, _ in self.held.values())}
 
     def is_past(self, meet: Meet, root: int) -> bool:
         """Whether what two recipes are held for is over: the folder that stays is there, or the first has ended; where it goes again, both have."""
@@ -103,7 +103,7 @@ class Overlap(Gate):
         if not self.held:
             return super().turn(root)
         self.hear_makes()
-        free = [pid for pid, (own, _, _) in self.held.items() if all(self.is_past(meet, root) for meet in self.meets if own in meet[:2])]  # guard: until-the-first-has-made-it
+        free = [pid for pid, (own, _, _) in self.held.items() if all(self.is_past(meet, root) for meet in self.of[own])]  # guard: until-the-first-has-made-it
         if not free or len(self.busy()) >= self.most:
             if any((make, name) in self.open or self.may_begin(key) for make, name, key in map(self.bare, self.waiting)):
                 return super().turn(root)

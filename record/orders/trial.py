@@ -113,7 +113,7 @@ class Trial:
     def begin(self, running: Running) -> tuple[Built, Built]:
         """The second serial build, and the flipped one: those that ran beside the recorded build, where they count. `CannotTry` where the project cannot be built a
         second time."""
-        is_beside = bool(running.children)
+        is_beside = SERIAL.name in running.children
         flip = FLIPPED if is_beside and not self.after else replace(FLIPPED, name="fixed", after=self.after)
         if not is_beside:
             running.begin(SERIAL, flip)
@@ -166,11 +166,13 @@ class Trial:
         return [path for path in paths if self.late is None or not self.late.isdisjoint(map(str, (path, *Path(path).parents)))]  # guard: what-was-there-by-then
 
     def covers(self, left: list[int]) -> list[Plan]:
-        """A build that turns round some pairs, where there are any, and in which the rest runs side by side."""
-        if not any(left):
-            return []
-        places, apart = self.graph.covering(left, self.after)
-        return [Plan("cover%d" % self.builds, places, after=self.after, apart=apart, at_once=os.cpu_count() or 1, is_recorded=self.graph.may_show_more(left))]
+        """Builds that turn round some pairs, each as many as an order can of those that are left, and in which the rest runs side by side."""
+        found: list[Plan] = []
+        while any(left) and len(found) < AT_ONCE // 2:
+            places, apart = self.graph.covering(left, self.after)
+            found.append(Plan("cover%d-%d" % (self.builds, len(found)), places, after=self.after, apart=apart, at_once=os.cpu_count() or 1, is_recorded=self.graph.may_show_more(left)))
+            left = without(left, self.graph.turned(sorted(places, key=places.__getitem__, reverse=True)))
+        return found
 
     def try_all(self, plans: list[Plan]) -> None:
         """Makes builds, some at once."""
@@ -296,7 +298,7 @@ class Trial:
     def overlaps(self) -> Iterator[Plan]:
         """Builds in which recipes meet at folders by all records, and have not met; several meet in one build that have nothing to do with one another, and all else
         runs behind them."""
-        apart, left = self.graph.apart(self.after), list[Contest]()
+        apart, left, keys = self.graph.apart(self.after), list[Contest](), [task.key or () for task in self.graph.tasks]
         for one in contested(self.graph, self.records):
             first, *late = one.row
             known = self.contests.setdefault((first, one.path, one.goes), set())
@@ -307,14 +309,10 @@ class Trial:
             for one in left:
                 if one.goes == left[0].goes and {*one.behind, *(at for own in one.row for at in self.graph.inside(own))}.isdisjoint(order):  # guard: inner-recipes-apart
                     some, order = [*some, one], [*order, *self.graph.needs(one.row, self.after)]
-            meets = [Meet(self.key(one.row[0]), self.key(late), one.path, one.goes) for one in some for late in one.row[1:]]
+            meets = [Meet(keys[one.row[0]], keys[late], one.path, one.goes) for one in some for late in one.row[1:]]
             places = self.graph.places([*dict.fromkeys((*order, *range(len(self.graph.tasks))))])
             yield Plan("overlap%d" % self.met_builds, places, after=self.after, at_once=os.cpu_count() or 1, meets=meets)
             left, self.met_builds = [one for one in left if one not in some], self.met_builds + 1
-
-    def key(self, at: int) -> Key:
-        """The recipe of a task."""
-        return self.graph.tasks[at].key or ()
 
     def settle_meets(self, built: Built) -> None:
         """Takes in a build in which recipes meet. What differs is of the order of all recipes, where it also differs when each runs behind the other, and else of two

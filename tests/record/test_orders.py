@@ -215,7 +215,8 @@ class Orders(unittest.TestCase):
     def test_where_builds_would_disturb_the_recorded_one(self) -> None:
         """They are made behind it."""
         with mock.patch("record.orders.builds.have_own_ports", return_value=False):
-            self.case("list of a folder")
+            for name in ("list of a folder", "folder that one only saw"):
+                self.case(name)
             with support.Project({"Makefile": LISTS, "d/k": ""}) as project:
                 self.assertNotIn(b"meanwhile", project.record(once=False).stderr)
 
