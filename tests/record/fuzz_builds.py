@@ -46,7 +46,7 @@ OWN = (".ninja_log", ".ninja_deps", ".ninja_lock")
 SHOWN = "nohup.out"  # what make prints where `nohup` calls it from a terminal: its commands show who delays them
 USUAL = Place(outputs="joined")
 # What passes meanwhile: how long it takes, and builds in other orders.
-AHEAD = re.compile(rb"[0-9.e+]+ s in the future|race-record: [^\n]* in copies[, ][^\n]*\n|race-record: [0-9:]+, [0-9]+ processes done[^\r\n]*[\r\n]|\r?race-record: reads the trace: [0-9 ]+%|\r\x1b\[K")
+AHEAD = re.compile(rb"[0-9.e+]+ s in the future|\xc3\x84nderungszeit [0-9.e+]+|race-record: [^\n]* in copies[, ][^\n]*\n|race-record: [0-9:]+, [0-9]+ processes done[^\r\n]*[\r\n]|\r?race-record: reads the trace: [0-9 ]+%|\r\x1b\[K")
 VERDICT = re.compile(rb"(\x1b\[[0-9;]*m)?(WARM|SAFE|RACE|NO VERDICT|HINT|note: |make )")
 Tree = Dict[str, str]
 
