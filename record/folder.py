@@ -118,7 +118,7 @@ class Record:
         met = orders.pop("met")
         if not any(one["kind"] == "outside" for one in self.assumptions):
             self.assume("outside", len(met), next(iter(met), ""))  # guard: names-that-each-build-has
-        self.holes += ["a build in another order failed, and did not when it was made again: " + how for how in orders["failed"]]
+        self.holes += orders["failed"]
         if not orders["shown"]:
             self.holes += [APART % path for path in orders["doubted"][:1]]  # guard: what-the-recorded-build-left
         self.assumptions = [one for one in self.assumptions if one["kind"] not in TRIED_OUT]  # guard: what-orders-try-out

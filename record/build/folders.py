@@ -5,22 +5,27 @@ the folder before: it may make that itself. What comes of all this is tried out 
 """
 
 import os
+import sys
 from typing import Dict, List, Set, Tuple
 
 from record.build.tasks import Build, Task
-from record.trace.events import ABSENT, CREATED, ENTERED, FOLDER_FULL, FOLDER_REMOVED, LISTED, MADE_BEFORE, MAKES, SEEN
+from record.trace.events import ABSENT, CREATED, ENTERED, FOLDER_FULL, FOLDER_REMOVED, LISTED, MADE, MADE_BEFORE, MAKES, SEEN
 from record.trace.names import Names
 
 
 def add_folders(build: Build, names: Names, before: Dict[str, str]) -> None:
-    """A name for each two that meet on a folder; and for each task which folders it makes, found there when it tried, saw, and uses though they may go again."""
+    """A name for each two that meet on a folder; and for each task which folders it makes, found there when it tried and did not know of them, saw, and uses though
+    they may go again."""
     makers: Dict[str, Set[int]] = {}
     gone = {path for task in build.tasks for kind, path, _ in task.events() if kind in FOLDER_REMOVED + FOLDER_FULL}
     for at, task in enumerate(build.tasks):
-        for kind, path, _ in task.events():
+        known: Dict[str, int] = {}  # where it makes a folder, or looks for it
+        for kind, path, place in task.events():
+            known.update({path: min(place, known.get(path, place))} if kind in SEEN + ABSENT + MADE else {})
+        for kind, path, place in task.events():
             if kind in MAKES and (path in gone or before.get(path) != "d" and path not in names.above):  # guard: there-before-build
                 makers.setdefault(path, set()).add(at)
-                task.folders.setdefault("found" if kind == MADE_BEFORE else "made", set()).add(path)
+                task.folders.setdefault("found" if kind == MADE_BEFORE and place < known.get(path, sys.maxsize) else "made", set()).add(path)  # guard: who-knows-that-it-is-there
             task.folders.setdefault("used", set()).update({path, os.path.dirname(path.rstrip("/"))} & gone)
     for at, task in enumerate(build.tasks):
         task.folders["seen"] = {path for kind, path, _ in task.events() if kind in SEEN and path in makers}

@@ -14,6 +14,7 @@ import fcntl
 import os
 import pickle
 import re
+import resource
 import signal
 import socket
 import struct
@@ -75,8 +76,8 @@ FLIPPED = Plan("flipped", {}, is_recorded=True, is_flipped=True)
 
 @dataclass
 class Built:
-    """What a build came to. `status`: none where nothing began or ended in it any more; `held`: what stands in each tree; `otherwise`: lines about what differs from
-    the serial one, `path`: of a file that does."""
+    """What a build came to. `status`: none where nothing began or ended in it any more; `held`: what stands in each tree; `is_whole`: those that were to meet had time
+    for it; `otherwise`: lines about what differs from the serial one, `path`: of a file that does."""
 
     plan: Plan
     status: Optional[int]
@@ -84,6 +85,7 @@ class Built:
     began: list[Key]
     output: str
     held: list[dict[str, str]]
+    is_whole: bool = True
     otherwise: list[str] = field(default_factory=list)
     path: str = ""
 
@@ -203,14 +205,17 @@ class Room:
                 pid = in_child(partial(self.build_in_place, plan, gate, listener, output), heard)
             os.close(output)
             keeping.start()
+            files = resource.getrlimit(resource.RLIMIT_NOFILE)
+            resource.setrlimit(resource.RLIMIT_NOFILE, (files[1], files[1]))  # each that waits takes some, and the build has begun with those that it is given
             try:
                 has_ended = gate.serve(pid, listener, self.limit)
             finally:
+                resource.setrlimit(resource.RLIMIT_NOFILE, files)
                 for one in {*children_of(os.getpid())} - before:  # and what outlived its parent
                     end(one)
         keeping.join(ENDING)
         status = os.WEXITSTATUS(os.waitpid(pid, 0)[1])
-        return Built(plan, status if has_ended else None, time.monotonic() - began, gate.began, b"".join(said).decode(errors="replace"), [*map(held_by, self.trees(plan))])
+        return Built(plan, status if has_ended else None, time.monotonic() - began, gate.began, b"".join(said).decode(errors="replace"), [*map(held_by, self.trees(plan))], not gate.is_late)
 
     def gate_of(self, plan: Plan) -> Gate:
         """The gate that a plan means."""
@@ -271,6 +276,7 @@ class Running:
     def begin(self, *plans: Plan) -> None:
         """Begins builds."""
         for plan in plans:
+            self.room.forget(plan)  # it may be made once more
             self.room.place(plan).mkdir()
             (self.room.place(plan) / "built").write_bytes(pickle.dumps("no end of a build"))
             with in_one_step() as heard:

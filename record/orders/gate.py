@@ -78,6 +78,7 @@ class Gate:
     read: dict[Path, int] = field(default_factory=dict)  # how much was read of the file of each make
     come_from: dict[int, Came] = field(default_factory=dict)  # by process that waits
     stalled: Stalled = field(default_factory=Stalled)
+    is_late: bool = False  # who was held for another one went on without it
     choose: selectors.BaseSelector = field(init=False, repr=False)  # by descriptor: what is done when it is ready
 
     def listen(self) -> socket.socket:
@@ -228,7 +229,7 @@ class Gate:
 
     def serve(self, root: int, listener: socket.socket, limit: Callable[[], float]) -> bool:
         """Answers until the first process of the build has ended; false where nothing began or ended in it for so many seconds."""
-        since, pause = time.monotonic(), LEAST
+        since, pause, self.limit = time.monotonic(), LEAST, limit
         with selectors.DefaultSelector() as self.choose:
             self.choose.register(listener, selectors.EVENT_READ, lambda: self.come(listener))
             ended: list[int] = []

@@ -72,8 +72,7 @@ def contested(graph: Graph, records: Sequence[Graph]) -> list[Contest]:
             makers = made | there
             heads = {one for one in made | seen | there | used if not any(graph.tasks[one].before >> at & 1 for at in makers)}  # guard: who-waits-for-a-maker
             rows: dict[int, list[int]] = {}
-            finders = there if records else there | made  # who makes it in one order may find it there in another one
-            for late in sorted((heads | used) - finders):  # guard: who-found-it-there
+            for late in sorted((heads | used) - there):  # guard: who-found-it-there
                 for early in [one for one in sorted(makers if used else makers & heads) if one != late and graph.is_free(one, late)][:1]:
                     rows.setdefault(early, [early]).append(late)  # guard: who-looks-before-the-other-makes-it
             found += (Contest(row, graph.whole(number, path), False, makers) for row in rows.values())

@@ -1,6 +1,6 @@
 """The gate of a build in which recipes meet at a folder that one of them makes.
 
-Where the folder stays, the first recipe is held where it makes it until the others have come so far, and these until it is there. Where one of two
+Where the folder stays, the first recipe is held where it makes it until the others have come so far, and these until it has ended. Where one of two
 removes it, the first is held when it has made it, and the second runs meanwhile: until it ends, or tries to make the folder once more, as who takes it for a lock.
 """
 
@@ -8,8 +8,9 @@ from __future__ import annotations
 
 import os
 import socket
+import time
 from collections import Counter
-from collections.abc import Container, Sequence
+from collections.abc import Container, Iterable, Sequence
 from dataclasses import dataclass, field
 from functools import partial
 from typing import NamedTuple
@@ -20,6 +21,8 @@ from record.orders.reported import Call, filter_of, go_on, reports_of
 
 # By machine: the numbers of calls that make a folder, each with the place of its path, and of those by which a process goes on: rmdir, unlinkat, openat, exit_group.
 MAKING = {"x86_64": {83: 0, 258: 1}, "aarch64": {34: 1}}.get(os.uname().machine, {})
+LONGEST = 4096  # parts of a path, with those of all links on it
+LONG = 10.0  # seconds in which others come to where one is held
 HERE = 0xffffff9c  # in the place of a descriptor: the folder in which a process works
 OTHERS = {"x86_64": (84, 263, 257, 231), "aarch64": (35, 56, 94)}.get(os.uname().machine, ())
 
@@ -42,6 +45,7 @@ class Overlap(Gate):
     held: dict[int, tuple[Key, int, int]] = field(default_factory=dict)  # by process: its recipe, the descriptor by which the kernel reports it, and the report
     tries: Counter[tuple[Key, Meet]] = field(default_factory=Counter)  # how often a recipe was to make the folder
     met: set[Meet] = field(default_factory=set)  # those of which the first recipe was held behind its call
+    since: float = 0.0  # when the last one was held
 
     def __post_init__(self) -> None:
         self.most, self.of = self.at_once, grouped((key, meet) for meet in self.meets for key in meet[:2])  # by recipe: where it meets others
@@ -59,8 +63,9 @@ class Overlap(Gate):
     def take(self, key: Key, reports: int, call: Call) -> None:
         """A process is to make a folder, or goes on: it is held, or does so."""
         path = path_of(call) if call.call in MAKING else ""
-        self.held[call.pid] = key, reports, call.number
-        if not any([self.reach(key, meet, is_same(path, f"/proc/{call.pid}/root{meet.path}")) for meet in self.of[key]]):
+        self.held[call.pid], last, self.since = (key, reports, call.number), self.since, time.monotonic()
+        if not any([self.reach(key, meet, is_same(path, meet.path, f"/proc/{call.pid}/root")) for meet in self.of[key]]):
+            self.since = last
             self.go_on(call.pid)
 
     def reach(self, key: Key, meet: Meet, is_there: bool) -> bool:
@@ -93,22 +98,26 @@ class Overlap(Gate):
     def busy(self) -> set[Key]:
         return {one for one in self.running if not any(own[:len(one)] == one for own, _, _ in self.held.values())}
 
-    def is_past(self, meet: Meet, root: int) -> bool:
-        """Whether what two recipes are held for is over: the folder that stays is there, or the first has ended; where it goes again, both have."""
-        return self.over.issuperset(meet[:1 + meet.goes]) or not meet.goes and os.path.lexists(f"/proc/{root}/root{meet.path}")
-
+    def may_go(self, pids: Iterable[int]) -> bool:
+        """Whether one of some processes that wait may begin."""
+        return any((make, name) in self.open or self.may_begin(key) for make, name, key in map(self.bare, pids))
     def turn(self, root: int) -> bool:
         is_over = self.over.issuperset(key for meet in self.meets for key in meet[:2])
         self.at_once = self.most if is_over or self.held and not any(meet.goes for meet in self.meets) else 1  # guard: nothing-else-while-two-meet
         if not self.held:
             return super().turn(root)
         self.hear_makes()
-        free = [pid for pid, (own, _, _) in self.held.items() if all(self.is_past(meet, root) for meet in self.of[own])]  # guard: until-the-first-has-made-it
+        free = [pid for pid, (own, _, _) in self.held.items() if all(self.over.issuperset(meet[:1 + meet.goes]) for meet in self.of[own])]  # guard: until-the-first-has-ended
         if not free or len(self.busy()) >= self.most:
-            if any((make, name) in self.open or self.may_begin(key) for make, name, key in map(self.bare, self.waiting)):
+            if self.may_go(filter(self.is_named, self.waiting)):
                 return super().turn(root)
             if not self.is_idle(root):
-                return False
+                is_first = any(own == meet.first for own, _, _ in self.held.values() for meet in self.of[own])
+                if time.monotonic() < self.since + (LONG if is_first else self.limit()):
+                    return False
+                self.is_late = True  # who runs may wait for one that is held  # guard: who-is-held-for-one-that-waits
+            elif self.may_go(self.waiting):
+                return super().turn(root)
         self.go_on(min(free or self.held, key=lambda pid: self.began.index(self.held[pid][0])))
         return True
 
@@ -119,14 +128,23 @@ def path_of(call: Call) -> str:
     with open(f"/proc/{call.pid}/mem", "rb", buffering=0) as memory:
         path = os.fsdecode(os.pread(memory.fileno(), 4096, call.given[place]).partition(b"\0")[0])
     start = call.given[0] & 0xffffffff if place else HERE
-    above = "root" if path.startswith("/") else "cwd" if start == HERE else f"fd/{start}"
-    return f"/proc/{call.pid}/{above}/{path}"
+    return path if path.startswith("/") else os.path.join(os.readlink(f"/proc/{call.pid}/" + ("cwd" if start == HERE else f"fd/{start}")), path)
 
 
-def is_same(path: str, other: str) -> bool:
-    """Whether two paths have one last name, in one folder."""
+def is_same(path: str, other: str, root: str) -> bool:
+    """Whether two paths have one last name, in one folder, as processes with that root see it."""
     (above, name), (there, wanted) = (os.path.split(one.rstrip("/")) for one in (path, other))
-    try:
-        return name == wanted and os.path.samefile(above, there)  # guard: folders-of-one-name
-    except OSError:
-        return False
+    return name == wanted and followed(above, root) == followed(there, root)  # guard: folders-of-one-name
+
+
+def followed(path: str, root: str) -> str:
+    """A path without links, as processes with that root follow them: the system would follow those that are whole from the root of this process."""
+    found, left = "/", path.split("/")[::-1]
+    for _ in range(LONGEST):
+        if not left:
+            break
+        whole = os.path.normpath(os.path.join(found, left.pop()))
+        link = os.readlink(root + whole) if os.path.islink(root + whole) else ""
+        left += link.split("/")[::-1] if link else []
+        found = "/" if link.startswith("/") else found if link else whole  # guard: links-that-are-whole
+    return found

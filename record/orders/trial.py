@@ -52,7 +52,7 @@ class Trial:
     builds: int = 0
     others: int = 0  # builds in other orders that left the same
     shown: list[Shown] = field(default_factory=list)
-    failed: list[str] = field(default_factory=list)  # how builds ended that ended well when they were made again
+    failed: list[str] = field(default_factory=list)  # how builds ended that ended well when they were made again, or may not be made again
     is_whole: bool = True  # all that was to be tried out was, and no build came to something that it did not when it was made again
 
     def __post_init__(self) -> None:
@@ -82,25 +82,21 @@ class Trial:
 
     # ---------------------------------------------------------------- which builds
     def run(self, running: Running, say: Callable[[int], object]) -> None:
-        """All builds: the two that began beside the recorded one, and those that this one asks for; others that say more, of which the first run beside a third serial
-        build, where one is needed; and those that cover what is left, as long as they turn round more. `say` takes how many follow."""
-        plans, self.builds = [*self.overlaps()], 2
-        running.begin(*(begun := self.next_of(plans, AT_ONCE // 2)))
+        """All builds: the two that began beside the recorded one; others that say more, of which the first run beside a third serial build, where one is needed; and
+        those that cover what is left, as long as they turn round more. `say` takes how many follow."""
         again, flipped = self.begin(running)
-        early = [plan for plan in begun if plan.name in running.children]
-        plans += [plan for plan in begun if plan not in early]  # guard: builds-that-were-ended
-        plans += [*self.orders(), *self.covers(without(self.left, self.graph.turned(flipped.began))), *self.overlaps()]
+        plans = [*self.orders(), *self.covers(without(self.left, self.graph.turned(flipped.began))), *self.overlaps()]
         chance = [differing(one, other) for one, other in zip(self.recorded, again.held)]  # or as it ran several recipes at once, or the copies are another place
         is_clean = flipped.status == 0 and all(differing(one, other) <= known for one, other, known in zip(again.held, flipped.held, chance))
         more = [replace(SERIAL, name="second")] * any(chance)
-        self.builds += len(more) + len(early) - len(begun)
-        say(len(early) + len(more) + len(plans))
-        running.begin(*more, *(also := self.next_of(plans, AT_ONCE - len(early)) if is_clean else []))
+        self.builds = 2 + len(more)
+        say(len(more) + len(plans))
+        running.begin(*more, *(early := self.next_of(plans) if is_clean else []))
         for base in (running.result(plan.name) for plan in more):
             if base.status == 0:  # guard: copies-among-themselves
                 self.serial, self.trees = base.held, self.room.trees(base.plan)
         self.compare(again)
-        self.take([flipped, *(running.result(plan.name) for plan in (*early, *also))])
+        self.take([flipped, *(running.result(plan.name) for plan in early)])
         self.try_all(plans)
         left = 0
         while size(self.left) != left and self.goes_on:
@@ -180,9 +176,9 @@ class Trial:
             self.take(side_by_side(self.room, self.next_of(plans)))
         self.is_whole &= not any(plan.meets for plan in plans)
 
-    def next_of(self, plans: list[Plan], most: int = AT_ONCE) -> list[Plan]:
+    def next_of(self, plans: list[Plan]) -> list[Plan]:
         """Takes builds off a list that are to run at once now, each with what ends the conflicts that are known."""
-        some = [replace(plan, after={late: {*early} for late, early in self.after.items()}) for plan in plans[:max(0, min(most, self.most - self.builds))]]  # guard: no-more-than-there-may-be
+        some = [replace(plan, after={late: {*early} for late, early in self.after.items()}) for plan in plans[:max(0, min(AT_ONCE, self.most - self.builds))]]  # guard: no-more-than-there-may-be
         del plans[:len(some)]
         self.builds += len(some)
         return some
@@ -274,11 +270,12 @@ class Trial:
         if once.plan == FLIPPED or once.plan.after != self.after:
             return
         self.is_whole = False  # guard: what-differs-once-is-not-tried-out
-        if once.status == 0:
+        if once.status == 0 and self.goes_on:  # guard: what-was-not-made-again
             for number, name in self.names(once.held):
                 self.unstable[number].add(name)
         elif once.status is not None:
-            self.failed.append("; ".join(once.otherwise))
+            how = "failed, and did not when it was made again" if self.goes_on else "came to something else, and no more may be built"
+            self.failed.append("a build in another order %s: %s" % (how, "; ".join(once.otherwise)))
 
     def narrow(self, built: Built) -> Shown:
         """The two recipes whose order makes a difference. From the order of the serial build to that of another one neighbours change places, two at a time: of the
@@ -316,23 +313,24 @@ class Trial:
 
     def settle_meets(self, built: Built) -> None:
         """Takes in a build in which recipes meet. What differs is of the order of all recipes, where it also differs when each runs behind the other, and else of two
-        that meet, and that nothing orders by now: of those that meet at one folder the first that show it."""
+        that meet, and that nothing orders by now: some of those that show it are parted until two are left, the first at their folder."""
+        self.is_whole &= built.is_whole
         plan, known = self.behind(built), len(self.shown)
         left = [meet for meet in built.plan.meets if self.is_apart(meet)] if built.otherwise else []  # guard: meets-that-nothing-orders
-        whole = [*left]
-        while left and self.goes_on:
-            some = left[:AT_ONCE - 1]
-            behind, *each = self.step(plan, *(replace(plan, name="both%d" % number, meets=[one]) for number, one in enumerate(some)))
-            self.builds += 1 + len(some)
+        some, is_seen = left, bool(left)
+        while some and self.goes_on:
+            parts = [some[at::AT_ONCE - 1] for at in range(min(AT_ONCE - 1, len(some)))]  # guard: meets-of-which-few-differ
+            behind, *each = self.step(plan, *(replace(plan, name="both%d" % number, meets=part) for number, part in enumerate(parts)))
+            self.builds += 1 + len(parts)
             if behind.otherwise:
                 return self.settle(behind)  # guard: order-of-all-where-two-meet
-            found = [(meet, both) for meet, both in zip(some, each) if both.otherwise and self.is_apart(meet)]
-            for meet, both in found:
-                first, second = sorted(meet[:2], key=self.graph.keys.__getitem__)
+            some, both = next(((part, one) for part, one in zip(parts, each) if one.otherwise), (list[Meet](), behind))
+            if len(some) == 1:
+                first, second = sorted(some[0][:2], key=self.graph.keys.__getitem__)
                 self.shown.append(Shown((first, second), both, True))
                 self.after.setdefault(second, set()).add(first)
-            left = [meet for meet in left[len(some):] if meet.path not in {one.path for one, _ in found}]
-        if whole and len(self.shown) == known:
+                left = some = [meet for meet in left if meet.path != some[0].path and self.is_apart(meet)]
+        if is_seen and len(self.shown) == known:
             self.doubt(built)  # guard: meets-that-differ-once
 
     def is_apart(self, meet: Meet) -> bool:
@@ -344,7 +342,7 @@ class Trial:
     def result(self) -> dict[str, Any]:
         """What a record keeps of it."""
         unstable = sorted(self.whole(number, name) for number, found in enumerate(self.unstable) for name in found)
-        return {"builds": self.others, "failed": self.failed, "made": self.builds, "pairs": self.graph.pairs(), "turned": size(self.turned),
+        return {"builds": self.others, "failed": self.failed, "made": self.builds, "pairs": self.graph.pairs(), "turned": size(self.turned), "whole": self.is_whole,
                 "untried": bool(self.graph.pairs()) and (not self.is_whole or not all(one.has_all for one in self.records) or any(self.untried) or not self.graph.leaves().isdisjoint(unstable)),  # guard: holes-of-other-orders
                 "files": sum(text.startswith("file") for held in self.serial for text in held.values()),
                 "unstable": unstable, "apart": [self.whole(*one) for one in self.names(self.recorded)], "doubted": self.doubted(), "met": sorted(filter(os.path.lexists, self.met)), "shown": [*map(self.shown_labels, self.shown)]}

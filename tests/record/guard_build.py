@@ -11,6 +11,7 @@ GUARDS: List[Guard] = [
     ),
     *guards("build/folders.py",
         ("there-before-build", "if kind in MAKES:", "folders.Folders.folder_that_was_there"),
+        ("who-knows-that-it-is-there", 'task.folders.setdefault("found" if kind == MADE_BEFORE else "made", set()).add(path)', "orders.Orders.case_folder_that_is_known_to_be_there", UNSAID),
         ("user-needs-maker", "if at not in makers[path]:", "folders.Folders.user_behind_its_maker"),
         ("who-looks-for-the-folder", "return sorted({path for path, place in uses if path in makers})", "folders.Folders.user_that_looks_first"),
     ),

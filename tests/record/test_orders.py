@@ -40,6 +40,14 @@ CASES: Dict[str, Tuple[str, Dict[str, str], int, Tuple[str, ...]]] = {
         "all: a x y w b\na: ; @test -d d || mkdir d; touch k/fa a\nx: ; @touch k/fx x\ny w: ; @touch $@\n"
         "b: ; @test -d d || mkdir d; case `ls k | tr '\\n' ' '` in \"fa z \") echo > bad;; esac; touch b\n", {"k/z": ""}, 1, ("  seen where b runs before x:", "    bad: is there, and is not after a serial build")),
     "folder that one only saw": ("all: o/a o/b o/c\no/a o/c: ; @mkdir -p o; echo > $@\no/b: ; @test -d o || mkdir o && echo > $@\n", {}, 1, ("  seen where o/b runs beside o/a:",)),
+    "folder that one makes empty": ("all: a b\na b: ; @test -d d || { mkdir -p d; rm -f d/*; }; sleep 0.3; touch d/$@.o $@\n", {}, 1, ("RACE  d/a.o", "  seen where b runs beside a:")),
+    "folder that another order lets another one make": (
+        "all: a b m n\na: ; @test -d d || mkdir -p d; touch a\nb: ; @test -d d || mkdir d && touch b\nm: ; @touch d/m 2>/dev/null || { mkdir -p d; touch d/m; }; test -d c || mkdir -p c; touch m\n"
+        "n: ; @test -d c || mkdir -p c; touch n\n", {}, 1, ("  seen where b runs beside a:",)),
+    "folder that is known to be there": ("all: a b\na b: ; @test -d d || mkdir d && mkdir -p d/$@.x && touch $@\n", {}, 1, ("  seen where b runs beside a:",)),
+    "folder that one of many makes otherwise": (
+        "T := $(shell seq -f t%g 40)\nall: $T\nt30: ; @test -d o || mkdir o 2> /dev/null || echo > bad; touch $@\n$(filter-out t30,$T): ; @test -d o || mkdir -p o; touch $@\n", {}, 1, (
+            "RACE  bad", "  seen where t30 runs beside t1:")),
     "folder of one name elsewhere": ("all: a b\na b: ; @mkdir -p $@.d/o; test -d o || mkdir o && touch o/$@ $@\n", {}, 1, ("  seen where b runs beside a:",)),
     "folder that another one waits to make": ("all: u w v\nw: ; @touch w\nu: ; @mkdir -p d; touch d/u u\nv: w ; @test -d d || mkdir d && touch d/v v\n", {}, 1, ("  seen where v runs beside u:",)),
     "pair that the flipped build does not turn": ("all: w u v\nw: ; @touch w\nu v: ; @test -d d || mkdir d && touch d/$@ $@\nv: w\n", {}, 1, ("  seen where v runs beside u:",)),
@@ -104,6 +112,33 @@ class Orders(unittest.TestCase):
         for line in wanted:
             self.assertIn(line, text)
         self.assertEqual(status, found.status, text)
+
+    def test_what_was_not_made_again(self) -> None:
+        """A difference that may come from more than one pair bars the yes where no more builds may say from which."""
+        makefile = "T := $(shell seq -f t%g 12)\nall: $T\nt9: ; @test -d o || mkdir o 2> /dev/null || echo > bad; touch $@\n$(filter-out t9,$T): ; @test -d o || mkdir -p o; touch $@\n"
+        with support.Project({"Makefile": makefile}) as project:
+            found = project.record(options=("--orders", "4"), once=False)
+        self.assertEqual((2, True), (found.status, "a build in another order came to something else, and no more may be built: bad: is there" in found.text()), found.text())
+
+    def test_folder_behind_a_whole_link(self) -> None:
+        with support.Project({"Makefile": "all: a b\na b: ; @test -d l/d || mkdir l/d && touch $@\n", "r/k": ""}) as project:
+            os.symlink(os.path.realpath(project.folder / "r"), project.folder / "l")
+            found = project.record(once=False)
+        self.assertEqual((1, True), (found.status, "  seen where b runs beside a:" in found.text()), found.text())
+
+    def test_folder_that_is_made_inside_a_lock(self) -> None:
+        """Who has the lock is held there, and the other one does not come."""
+        makefile = "all: a b\na b: ; @until mkdir k 2> /dev/null; do sleep 0.05; done; test -d d || mkdir d; touch d/$@ $@; rmdir k\n"
+        with mock.patch("record.orders.overlap.LONG", 1.0), support.Project({"Makefile": makefile}) as project:
+            found = project.record(once=False)
+        self.assertEqual((0, True), (found.status, "and more was to be tried out" in " ".join(found.text().split())), found.text())
+
+    def test_build_that_is_held_and_counts(self) -> None:
+        """All is tried out again, with that record."""
+        makefile = "all: x y z\nx: ; @cp in o & sleep 0.2; cat o > p; echo > x\ny: ; @date +%N > y\nz: ; @echo z > z\n"
+        with support.Project({"Makefile": makefile, "in": ""}) as project:
+            found = project.record(once=False)
+        self.assertEqual((1, True), (found.status, "RACE  o  in x: cp in o, cat o" in found.text()), found.text())
 
     def test_kernel_that_reports_nothing(self) -> None:
         """Folders that two use are not tried out then."""
@@ -185,20 +220,15 @@ class Orders(unittest.TestCase):
             found = project.record(once=False)
         self.assertRegex(found.stderr, b"race-record: two builds in copies run meanwhile; the last time it took about [1-9] seconds, and 2 builds in copies\n")
 
-    def beside(self, makefile: str, most: int = 2) -> support.Outcome:
+    def beside(self, makefile: str) -> support.Outcome:
         """A record of recipes that use a folder outside of the project, `D`."""
         with tempfile.TemporaryDirectory() as room, support.Project({"Makefile": "D = %s\n%s" % (room, makefile)}) as project:
-            return project.record(options=("--orders", str(most)), once=False)
+            return project.record(options=("--orders", "2"), once=False)
 
     def test_what_the_recorded_build_changes_elsewhere(self) -> None:
         """The flipped build, beside it, would see the file that is there for a while."""
         found = self.beside("all: a b w c; @rm $D/x\na: ; @echo > $D/x; echo > a\nb: ; @ls $D > b\nw: b; @sleep 2; echo > w\nc: ; @sleep 1; echo > c\n")
         self.assertEqual((1, True), (found.status, "seen where b runs before a:" in found.text()), found.text())
-
-    def test_builds_that_begin_anew(self) -> None:
-        """So does that in which two meet, which began when the recorded build had ended."""
-        found = self.beside("all: a b\na: ; @echo > $D/x; mkdir -p d; touch a\nb: ; @test -d d || mkdir d && touch b\n", 9)
-        self.assertEqual((1, True), (found.status, "seen where b runs beside a:" in found.text()), found.text())
 
     def test_names_of_the_recorded_build_that_nobody_knows(self) -> None:
         """The flipped build lists one of them, so it is made anew."""
