@@ -39,7 +39,7 @@ CASES: Dict[str, Tuple[str, Dict[str, str], int, Tuple[str, ...]]] = {
     "order that only a build has in which two meet": (
         "all: a x y w b\na: ; @test -d d || mkdir d; touch k/fa a\nx: ; @touch k/fx x\ny w: ; @touch $@\n"
         "b: ; @test -d d || mkdir d; case `ls k | tr '\\n' ' '` in \"fa z \") echo > bad;; esac; touch b\n", {"k/z": ""}, 1, ("  seen where b runs before x:", "    bad: is there, and is not after a serial build")),
-    "folder that one only saw": ("all: o/a o/b o/c\no/a o/c: ; @mkdir -p o; echo > $@\no/b: ; @test -d o || mkdir o && echo > $@\n", {}, 1, ("  seen where o/b runs beside o/a:",)),
+    "folder that one only saw": ("all: o/a o/b o/c\no/a o/c: ; @sleep 0.2; mkdir -p o; echo > $@\no/b: ; @test -d o || mkdir o && echo > $@\n", {}, 1, ("  seen where o/b runs beside o/a:",)),
     "folder that one makes empty": ("all: a b\na b: ; @test -d d || { mkdir -p d; rm -f d/*; }; sleep 0.3; touch d/$@.o $@\n", {}, 1, ("RACE  d/a.o", "  seen where b runs beside a:")),
     "folder that another order lets another one make": (
         "all: a b m n\na: ; @test -d d || mkdir -p d; touch a\nb: ; @test -d d || mkdir d && touch b\nm: ; @touch d/m 2>/dev/null || { mkdir -p d; touch d/m; }; test -d c || mkdir -p c; touch m\n"
