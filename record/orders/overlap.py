@@ -22,7 +22,6 @@ from record.orders.reported import Call, filter_of, go_on, reports_of
 # By machine: the numbers of calls that make a folder, each with the place of its path, and of those by which a process goes on: rmdir, unlinkat, openat, exit_group.
 MAKING = {"x86_64": {83: 0, 258: 1}, "aarch64": {34: 1}}.get(os.uname().machine, {})
 LONGEST = 4096  # parts of a path, with those of all links on it
-LONG = 10.0  # seconds in which others come to where one is held
 HERE = 0xffffff9c  # in the place of a descriptor: the folder in which a process works
 OTHERS = {"x86_64": (84, 263, 257, 231), "aarch64": (35, 56, 94)}.get(os.uname().machine, ())
 
@@ -112,8 +111,7 @@ class Overlap(Gate):
             if self.may_go(filter(self.is_named, self.waiting)):
                 return super().turn(root)
             if not self.is_idle(root):
-                is_first = any(own == meet.first for own, _, _ in self.held.values() for meet in self.of[own])
-                if time.monotonic() < self.since + (LONG if is_first else self.limit()):
+                if time.monotonic() < self.since + self.limit():
                     return False
                 self.is_late = True  # who runs may wait for one that is held  # guard: who-is-held-for-one-that-waits
             elif self.may_go(self.waiting):

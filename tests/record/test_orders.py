@@ -129,7 +129,7 @@ class Orders(unittest.TestCase):
     def test_folder_that_is_made_inside_a_lock(self) -> None:
         """Who has the lock is held there, and the other one does not come."""
         makefile = "all: a b\na b: ; @until mkdir k 2> /dev/null; do sleep 0.05; done; test -d d || mkdir d; touch d/$@ $@; rmdir k\n"
-        with mock.patch("record.orders.overlap.LONG", 1.0), support.Project({"Makefile": makefile}) as project:
+        with mock.patch("record.orders.builds.QUIET", 1.0), support.Project({"Makefile": makefile}) as project:
             found = project.record(once=False)
         self.assertEqual((0, True), (found.status, "and more was to be tried out" in " ".join(found.text().split())), found.text())
 
