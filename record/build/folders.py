@@ -21,13 +21,14 @@ def add_folders(build: Build, names: Names, before: Dict[str, str]) -> None:
     for at, task in enumerate(build.tasks):
         known: Dict[str, int] = {}  # where it makes a folder, or looks for it
         for kind, path, place in task.events():
-            known.update({path: min(place, known.get(path, place))} if kind in SEEN + ABSENT + MADE else {})
+            if kind in SEEN + ABSENT + MADE:
+                known[path] = min(place, known.get(path, place))
         for kind, path, place in task.events():
             if kind in MAKES and (path in gone or before.get(path) != "d" and path not in names.above):  # guard: there-before-build
                 makers.setdefault(path, set()).add(at)
                 task.folders.setdefault("found" if kind == MADE_BEFORE and place < known.get(path, sys.maxsize) else "made", set()).add(path)  # guard: who-knows-that-it-is-there
-            task.folders.setdefault("used", set()).update({path, os.path.dirname(path.rstrip("/"))} & gone)
     for at, task in enumerate(build.tasks):
+        task.folders["used"] = {name for _, path, _ in task.events() for name in (path, os.path.dirname(path.rstrip("/"))) if name in gone} if gone else set()
         task.folders["seen"] = {path for kind, path, _ in task.events() if kind in SEEN and path in makers}
         task.folders = {how: paths for how, paths in task.folders.items() if paths}
     for at, task in enumerate(build.tasks) if makers else ():

@@ -9,7 +9,7 @@ a folder, and who uses it but has looked for it, or tried to make it.
 
 import os
 from dataclasses import dataclass
-from functools import lru_cache
+from functools import cache, lru_cache
 from typing import Dict, Iterable, Iterator, List, NamedTuple, Optional, Set, Tuple
 
 from record.trace.events import (
@@ -69,13 +69,14 @@ def owner(course: Course, number: int) -> Segment:
     return course, number
 
 
-def done_by(courses: List[Course]) -> Iterator[Did]:
-    """All that they did that counts here."""
+def done_by(courses: List[Course], changed: Set[str]) -> Iterator[Did]:
+    """All that they did that counts here: at what somebody changed, or below it."""
+    counts = cache(lambda path: path in changed or not changed.isdisjoint(above(path)))
     for course in courses:
         for number, events in enumerate(course.events_by_segment()):
             who = owner(course, number)
             for (kind, path), place in events.items():
-                if kind in KINDS or kind in HELD + LOCKED:
+                if kind in HELD + LOCKED or kind in KINDS and counts(path.rstrip("/")):
                     yield Did(place, *who, MAKE if path.endswith("/") else KINDS.get(kind, kind), path.rstrip("/"))
 
 
@@ -93,7 +94,7 @@ class Frontier:
 
     def __init__(self, courses: List[Course], changed: Set[str]) -> None:
         self.changed, self.inside = changed, {id(course) for course in courses}
-        rows = sorted(done_by(courses), key=lambda row: row.place)
+        rows = sorted(done_by(courses, changed), key=lambda row: row.place)
         self.made = {row.path for row in rows if row.kind in MAKE + REMOVED}
         self.held = {row.path for row in rows if row.kind in HELD + LOCKED}  # guard: files-of-locks-inside
         self.table: Dict[str, Dict[Tuple[int, int, str], Did]] = {}

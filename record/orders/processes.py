@@ -8,7 +8,7 @@ import time
 from collections.abc import Container, Iterator
 from contextlib import suppress
 from dataclasses import dataclass
-from pathlib import Path
+from functools import cache
 
 PATIENCE = 10.0  # seconds that killed processes have to end
 STILL = 0.3  # seconds without a sign of life, behind which a process waits for what no process of the build will do,
@@ -22,7 +22,8 @@ SLEEPS = ("nanosleep", "hrtimer_nanosleep", "do_nanosleep")  # a process that wa
 def shown(pid: int, name: str) -> str:
     """What the kernel shows of a process; nothing where it has ended."""
     try:
-        return Path("/proc", str(pid), name).read_text(errors="replace")
+        with open(f"/proc/{pid}/{name}", "rb", buffering=0) as file:
+            return file.read().decode(errors="replace")
     except OSError:
         return ""
 
@@ -69,14 +70,20 @@ def children_of(pid: int) -> list[int]:
     return [int(child) for thread in threads_of(pid) for child in shown(pid, f"task/{thread}/children").split()]
 
 
-def below(root: int, but: Container[int] = ()) -> Iterator[int]:
-    """A process, and all below it, except some and those below these."""
+def families(root: int, but: Container[int] = ()) -> Iterator[tuple[int, list[int]]]:
+    """A process, and all below it, except some and those below these, each with its children."""
     rest = [root]
     while rest:
         pid = rest.pop()
         if pid not in but:
-            yield pid
-            rest += children_of(pid)
+            children = children_of(pid)
+            yield pid, children
+            rest += children
+
+
+def below(root: int) -> Iterator[int]:
+    """A process, and all below it."""
+    return (pid for pid, _ in families(root))
 
 
 def is_timed(thread: int) -> bool:
@@ -91,12 +98,13 @@ def pulse(root: int, waiting: Container[int], held: Container[int]) -> tuple[flo
     its own, with all its threads; and how long each has run so far. Nothing where one runs, or lets a time pass. Those that wait at the gate do neither, and have
     started none; of those in `held` it is known."""
     found, still = [], 0.0
-    for pid in below(root, waiting):
-        if words_of(pid)[0] in "ZX" or pid in held:
+    state = cache(lambda pid: words_of(pid)[0])
+    for pid, children in families(root, waiting):
+        if state(pid) in "ZX" or pid in held:
             continue
-        has_own = not any(one in waiting or one not in held and words_of(one)[0] not in "ZX" for one in children_of(pid))  # guard: who-does-something-of-its-own
+        has_own = not any(one in waiting or one not in held and state(one) not in "ZX" for one in children)  # guard: who-does-something-of-its-own
         for thread in threads_of(pid) if has_own else [pid]:  # guard: threads-that-run
-            if words_of(thread)[0] not in "SZX" or any(one in shown(thread, "wchan") for one in SLEEPS):
+            if state(thread) not in "SZX" or any(one in shown(thread, "wchan") for one in SLEEPS):
                 return None
             is_until = has_own and is_timed(thread)
             still = max(still, TIMED if is_until else STILL if has_own else 0.0)
