@@ -15,7 +15,7 @@ GUARDS: List[Guard] = [
         ("what-build-changes", "found |= made if readers else set()", "configured.Configuring.template_that_a_recipe_changes", LOST_HOLE),
         ("what-build-changes", "found |= made if readers and not places else set()", "configured.Configuring.release", WITHHELD),
         ("what-build-changes", "found |= made if readers and (not places or status in written) else set()", "configured.Configuring.template_that_a_recipe_changes", LOST_HOLE),
-        ("texts-of-autoconf", "if not found:", "configured.Configured.text_of_somebody_else", LOST_HOLE),
+        ("texts-of-autoconf", "if machine.text(status):", "configured.Configured.text_of_somebody_else", LOST_HOLE),
         ("names-of-commands", "if True:", "configured.Configured.commands_are_no_files", LOST_HOLE),
         ("names-that-it-says", 'made.update((path, os.path.join(folder, "config.h")))', "configured.Configured.header_that_it_does_not_make", LOST_HOLE),
     ),
