@@ -158,28 +158,15 @@ class Graph:
 
     def covering(self, left: Sequence[int], after: Mapping[Key, set[Key]]) -> tuple[dict[Key, float], dict[Key, set[Key]]]:
         """An order that turns round many of some pairs; and which recipe waits for which so that these keep it where others run side by side."""
-        score = [0] * len(self.tasks)
+        front = [0] * len(self.tasks)
         for first, second in pairs_of(left):
-            score[second] += 1
-            score[first] -= 1
-        order: list[int] = []
-        held, done = self.held(after), 0
-        for wanted in self.wanted(score):
-            order += sorted(numbers((held[wanted] | 1 << wanted) & ~done), key=lambda at: size([held[at]]))
-            done |= held[wanted] | 1 << wanted
+            front[first] |= 1 << second
+        order = turning(front, self.held(after))
         place, apart = {at: place for place, at in enumerate(order)}, dict[Key, set[Key]]()
         for pair in pairs_of(left):
             early, late = (self.tasks[at].key or () for at in sorted(pair, key=place.__getitem__))
             apart.setdefault(late, set()).add(early)
         return self.places(order), apart
-
-    def wanted(self, score: Sequence[int]) -> list[int]:
-        """The tasks: always that one first which is wanted most, or for which such a one waits."""
-        best = list(score)
-        for at in reversed(range(len(self.tasks))):
-            for other in numbers(self.tasks[at].before) if best[at] > 0 else ():
-                best[other] = max(best[other], best[at])
-        return sorted(range(len(best)), key=lambda at: (best[at], score[at], at), reverse=True)
 
     def places(self, order: Sequence[int]) -> dict[Key, float]:
         """The places of recipes that are to begin in this order."""
@@ -199,7 +186,7 @@ class Graph:
 
     def users_first(self) -> Optional[dict[Key, float]]:
         """An order in which who uses a name, or lists a folder, begins before the several that make it; nothing where there is none."""
-        score = [0] * len(self.tasks)
+        front = [0] * len(self.tasks)
         for number, rows in self.rows.items():
             makers: dict[str, set[int]] = {}
             users: dict[str, set[int]] = {}
@@ -212,11 +199,9 @@ class Graph:
                     users.setdefault(file_of(self.whole(number, path)), set()).add(at)
             for path, who in makers.items():
                 others = {at for at in users.get(path, set()) - who if any(not self.is_ordered(at, one) for one in who)}
-                for at in others if len(who) > 1 else ():
-                    score[at] += len(who)
                 for at in who if len(who) > 1 else ():
-                    score[at] -= len(others)
-        return self.places(self.wanted(score)) if any(score) else None
+                    front[at] |= sum(1 << other for other in others)
+        return self.places(turning(front, self.held({}))) if any(front) else None
 
     def beside(self, one: int, other: int) -> dict[Key, float]:
         """An order in which a task runs right before another one, each with what runs inside of it, and what they need before both."""
@@ -253,6 +238,27 @@ class Graph:
 def pairs_of(sets: Sequence[int]) -> Iterator[Pair]:
     """For each recipe a set of earlier ones: all these pairs."""
     yield from ((first, second) for second, some in enumerate(sets) for first in numbers(some))
+
+
+def turning(front: Sequence[int], held: Sequence[int]) -> list[int]:
+    """The tasks in an order. `held`: for each task those that begin before it; `front`: those that are to. None begins before one that is to run in front of it, unless
+    nothing else can: then one does that is needed by the task for which the fewest pairs are given up."""
+    order, rest = list[int](), (1 << len(held)) - 1
+
+    def given_up(at: int) -> int:
+        need = held[at] | 1 << at
+        return size([front[one] & rest & ~need for one in free if need >> one & 1])
+
+    while rest:
+        free = [at for at in numbers(rest) if not held[at] & rest]
+        some = [at for at in free if not front[at] & rest]
+        if not some:
+            least = min(free, key=lambda at: size([front[at] & rest]))
+            needed = min(least, *numbers(front[least] & rest), key=given_up)
+            some = [at for at in free if (held[needed] | 1 << needed) >> at & 1][:1]
+        order += some
+        rest &= ~sum(1 << at for at in some)
+    return order
 
 
 def numbers(bits: int) -> Iterator[int]:

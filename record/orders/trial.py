@@ -253,7 +253,7 @@ class Trial:
 
     def behind(self, built: Built) -> Plan:
         """A build in which the recipes of another one begin in the same order, one behind the other."""
-        return replace(built.plan, name="behind", places=placed(built.began), after=self.after, at_once=1, meets=(), is_recorded=False)  # guard: order-of-the-build-that-differs
+        return replace(built.plan, name="behind", places=placed(built.began), after=self.after, apart={}, at_once=1, meets=(), is_recorded=False)  # guard: order-of-the-build-that-differs
 
     def made_again(self, *plans: Plan) -> list[Built]:
         """Makes builds in which something differs again, and a serial one beside them: that shows what goes by the time. What another build has shown is no

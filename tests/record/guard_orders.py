@@ -28,6 +28,7 @@ GUARDS: List[Guard] = [
         ("holes-of-other-orders", '"untried": bool(self.graph.pairs()) and (not self.is_whole or any(self.untried) or not self.graph.leaves().isdisjoint(unstable)),', "orders.Orders.record_of_another_order_with_a_hole"),
         ("what-differs-by-chance", "if False:", "orders.Orders.what_differs_by_chance"),
         ("what-differs-once-is-not-tried-out", "pass", "orders.Orders.what_differs_once_where_two_meet"),
+        ("order-of-the-build-that-differs", "return replace(built.plan, name=\"behind\", places=placed(built.began), after=self.after, at_once=1, meets=(), is_recorded=False)", "orders.Orders.case_fix_that_a_cover_has_turned_round"),
         ("order-of-the-build-that-differs", "return replace(built.plan, name=\"behind\", after=self.after, at_once=1, meets=())", "orders.Orders.order_in_which_a_build_ran"),
         ("order-of-all-where-two-meet", "pass", "orders.Orders.case_order_that_only_a_build_has_in_which_two_meet", UNSAID),
         ("meets-that-nothing-orders", "meets = built.plan.meets", "orders.Orders.case_folders_at_which_two_meet"),

@@ -30,6 +30,9 @@ CASES: Dict[str, Tuple[str, Dict[str, str], int, Tuple[str, ...]]] = {
         "  seen where c runs before a:", "    c: line 1 is `none`, and `some` after a serial build")),
     "user between two makers beside others": ("all: a c b x\na b: ; @echo > d/$@; echo > $@\nc: ; @ls d | grep -q . && echo some > c || echo none > c\nx: ; @echo > x\n", {"d/.k": ""}, 1, (
         "    c: line 1 is `none`, and `some` after a serial build",)),
+    "fix that a cover has turned round": (
+        "all: u see m p l q\nu p: ; @cat $@.x > $@ 2> /dev/null || true; touch $@\nsee: ; @ls d > see\nm: ; @echo > u.x; echo > d/m; touch m\np l q: see\nl: ; @touch l\nq: ; @echo > p.x; touch q\n", {"d/k": ""}, 1, (
+            "  seen where m runs before see:", "3 races on 3 files.")),
     "one order of three": ("all: c\n" + AB + "d: ; @echo d > d\nc: a b d ; @test b -nt a && test a -nt d && echo yes > c || echo no > c\n", {}, 1, ("  seen where d runs before a:",)),
     "build that fails": ("all: b/x u\nb/x: ; @mkdir -p b; echo x > b/x\nu: ; @cp src b/u && echo u > u\n", {"src": ""}, 1, ("  seen where u runs before b/x:", "    the build fails with status 2", "cp: ")),
     "folder that two make": ("all: a b\na b:\n\t@test -d d || mkdir d\n\t@echo > d/$@; echo > $@\n", {}, 1, (

@@ -59,8 +59,15 @@ class Graphs(unittest.TestCase):
         """The order turns round what is wanted, with what that needs first, and so it stays where the rest runs side by side."""
         graph = self.graph((None, [("a", [], [], []), ("n", [], [], []), ("b", ["n"], [], []), ("c", [], [], [])]))
         places, apart = graph.covering([0, 0, 1, 0], {})
-        self.assertEqual((["n", "b", "c", "a"], {(("/p", "a", 1),): {(("/p", "b", 1),)}}), (self.began(places), apart))
+        self.assertEqual((["n", "c", "b", "a"], {(("/p", "a", 1),): {(("/p", "b", 1),)}}), (self.began(places), apart))
         self.assertEqual(["n", "b", "a", "c"], self.began(graph.beside(2, 0)))
+
+    def test_cover_that_turns_all_round(self) -> None:
+        """What one needs waits for another one as well; and where two want to be first, the one does for which fewer pairs are given up."""
+        graph = self.graph((None, [("a", [], [], []), ("b", [], [], []), ("c", [], [], []), ("d", ["b"], [], [])]))
+        self.assertEqual(["c", "b", "d", "a"], self.began(graph.covering([0, 0, 0b10, 0b1], {})[0]))
+        graph = self.graph((None, [("a", [], [], []), ("b", [], [], []), ("c", ["a"], [], []), ("d", ["b"], [], []), ("e", ["b"], [], [])]))
+        self.assertEqual(["b", "d", "e", "a", "c"], self.began(graph.covering([0, 0, 0b10, 0b1, 0b1], {})[0]))
 
     def test_fix_that_turns_two_round(self) -> None:
         """A recipe may wait for one that came behind it in the serial build, and for what that needs."""
@@ -68,7 +75,7 @@ class Graphs(unittest.TestCase):
         after = {(("/p", "a", 1),): {(("/p", "b", 1),)}}
         self.assertEqual([0b110, 0, 0b10, 0], graph.held(after))
         self.assertEqual([0, 0, 0, 0b111], graph.apart(after))
-        self.assertEqual(["c", "n", "b", "a"], self.began(graph.covering([0, 0, 0, 1], after)[0]))
+        self.assertEqual(["n", "c", "b", "a"], self.began(graph.covering([0, 0, 0, 1], after)[0]))
 
     def test_parts(self) -> None:
         """A part of a recipe begins when that does, and what it runs is inside the recipe."""
