@@ -158,6 +158,7 @@ def label_about(build: Build, at: int, places: Places, leaves: Set[str]) -> Dict
         "folders": {how: names(paths) for how, paths in task.folders.items()},
         "order_only": task.kind == "recipe" and not machine.isfile(os.path.join(root, task.node.name)),  # guard: who-waits-for-what-leaves-no-file
         "place": [shown(edited[0]), edited[1]] if edited else [],
+        "expanded": task.kind == "recipe" and not any(work.lives for work in task.works),
     }
     return {"target": shown(task.node.name), "kind": task.kind, **place, **{key: value for key, value in more.items() if value not in (None, False, [], {})}}
 

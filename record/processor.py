@@ -10,7 +10,7 @@ from contextlib import suppress
 from typing import Callable, Iterator, List, Set
 
 from record.entry import traced
-from record.orders.processes import below, shown
+from record.orders.processes import families, shown
 
 STEP, OFTEN = 0.05, 5  # seconds between two looks; so many that are crowded, one behind the other, are enough
 WAITS = 0.12  # of that time strace waits where it is crowded
@@ -27,7 +27,7 @@ def threads_of(pid: int) -> Iterator[int]:
 
 def running(tracer: int) -> int:
     """How many threads of a build run."""
-    threads = (thread for pid in below(tracer) if pid != tracer for thread in threads_of(pid))
+    threads = (thread for pid in dict(families(tracer)) if pid != tracer for thread in threads_of(pid))
     return sum(shown(thread, "stat").rpartition(") ")[2][:1] in RUNS for thread in threads)
 
 

@@ -52,6 +52,7 @@ class Graph:
             self.inner.setdefault((within["build"], within["task"]) if within else ("", ""), []).append(number)
         self.add_all(("", ""), 0, 0, ())
         self.recipes = sum(1 << at for at, one in enumerate(self.tasks) if one.key is not None)
+        self.expanded = sum(1 << at for at in self.keys.values() if self.about(self.tasks[at].build, self.tasks[at].label).get("expanded"))  # they never wait to begin
         self.free = [self.recipes & ~one.before & ~one.around & ((1 << at) - 1) if one.key else 0 for at, one in enumerate(self.tasks)]
 
     def about(self, number: str, label: str) -> dict[str, Any]:
@@ -146,10 +147,13 @@ class Graph:
         """The same, and the first of them."""
         return self.pairs(), " and ".join(self.tasks[at].label for at in next(pairs_of(self.free), ()))
 
-    def turned(self, began: Sequence[Key]) -> list[int]:
-        """For each task those that came before it in the serial build, and behind it in another one, of which this is the log. A recipe that make runs by itself, as
-        `$(file >x)`, never begins."""
-        begun = [self.keys[key] for key in began if key in self.keys]
+    def turned(self, began: Sequence[Key], has_jobs: bool = True) -> list[int]:
+        """For each task those that came before it in the serial build, and behind it in another one, of which this is the log. Of a recipe that make runs by itself, as
+        `$(file >x)`, the log has nothing: with several jobs make does so as soon as all is over that it needs."""
+        begun = [at for at in (self.keys[key] for key in began if key in self.keys) if not self.expanded >> at & 1]
+        for at in numbers(self.expanded if has_jobs else 0):  # guard: recipes-that-make-runs-by-itself
+            need = self.tasks[at].before | self.tasks[at].around
+            begun.insert(1 + max((place for place, one in enumerate(begun) if need >> one & 1), default=-1), at)
         found, left = [0] * len(self.tasks), sum(1 << at for at in {*begun})  # guard: recipes-that-never-begin
         for at in begun:
             left &= ~(1 << at)
@@ -158,12 +162,14 @@ class Graph:
 
     def covering(self, left: Sequence[int], after: Mapping[Key, set[Key]]) -> tuple[dict[Key, float], dict[Key, set[Key]]]:
         """An order that turns round many of some pairs; and which recipe waits for which so that these keep it where others run side by side."""
-        front = [0] * len(self.tasks)
-        for first, second in pairs_of(left):
+        front, held, pairs = [0] * len(self.tasks), self.held(after), [*pairs_of(left)]
+        for first, second in [pair for pair in pairs if self.expanded >> pair[0] & 1]:  # it waits where something does that it needs
+            pairs += [(need, second) for need in [*numbers(self.tasks[first].before & self.recipes & ~held[second])][-1:]]  # guard: what-make-is-to-run-later
+        for first, second in pairs:
             front[first] |= 1 << second
-        order = turning(front, self.held(after))
+        order = turning(front, held)
         place, apart = {at: place for place, at in enumerate(order)}, dict[Key, set[Key]]()
-        for pair in pairs_of(left):
+        for pair in pairs:
             early, late = (self.tasks[at].key or () for at in sorted(pair, key=place.__getitem__))
             apart.setdefault(late, set()).add(early)
         return self.places(order), apart
@@ -191,14 +197,14 @@ class Graph:
             makers: dict[str, set[int]] = {}
             users: dict[str, set[int]] = {}
             for row in rows:
-                at, about = self.at[number, row["task"]], self.about(number, row["task"])
+                at, about = self.recipe_of(number, row["task"]), self.about(number, row["task"])
                 for path in (self.whole(number, path) for path in (*row["writes"], *about.get("leaves", ()))):
                     makers.setdefault(file_of(path), set()).add(at)
                     makers.setdefault(os.path.dirname(path), set()).add(at)
                 for path in (*row["reads"], *about.get("lists", ())):  # guard: who-lists-folder
                     users.setdefault(file_of(self.whole(number, path)), set()).add(at)
             for path, who in makers.items():
-                others = {at for at in users.get(path, set()) - who if any(not self.is_ordered(at, one) for one in who)}
+                others = {at for at in users.get(path, set()) - who if any(self.is_free(at, one) for one in who)}
                 for at in who if len(who) > 1 else ():
                     front[at] |= sum(1 << other for other in others)
         return self.places(turning(front, self.held({}))) if any(front) else None
@@ -219,11 +225,6 @@ class Graph:
     def inside(self, one: int) -> list[int]:
         """A task, and those that run inside of it."""
         return [one, *(at for at, task in enumerate(self.tasks) if task.around >> one & 1)]
-
-    def is_ordered(self, one: int, other: int) -> bool:
-        """Whether two tasks have one order in all builds."""
-        first, second = sorted((one, other))
-        return first == second or bool((self.tasks[second].before | self.tasks[second].around) >> first & 1)
 
     def together(self, one: Key, other: Key) -> Optional[tuple[str, str, str]]:
         """The build in which two recipes meet, and the labels there inside which they run; nothing where they are in one."""

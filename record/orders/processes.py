@@ -81,11 +81,6 @@ def families(root: int, but: Container[int] = ()) -> Iterator[tuple[int, list[in
             rest += children
 
 
-def below(root: int) -> Iterator[int]:
-    """A process, and all below it."""
-    return (pid for pid, _ in families(root))
-
-
 def is_timed(thread: int) -> bool:
     """Whether a thread waits until some time has passed at most."""
     call = shown(thread, "syscall").split()
@@ -134,7 +129,7 @@ def end(root: int) -> None:
     until = time.monotonic() + PATIENCE
     while time.monotonic() < until:
         session = [int(name) for name in os.listdir("/proc") if name.isdigit() and words_of(int(name))[3:4] == [str(root)]]
-        left = [pid for pid in {*below(root), *session} if words_of(pid)[0] not in "ZX"]
+        left = [pid for pid in {*dict(families(root)), *session} if words_of(pid)[0] not in "ZX"]
         if not left:
             return
         for pid in left:

@@ -11,7 +11,7 @@ from pathlib import Path
 from typing import Any, cast
 
 from record.folder import Record
-from record.orders.builds import FLIPPED, ONE, SERIAL, Built, Plan, Room, Running, side_by_side
+from record.orders.builds import FLIPPED, MANY, ONE, SERIAL, Built, Plan, Room, Running, side_by_side
 from record.orders.gate import Key
 from record.orders.graph import Graph, numbers, pairs_of, placed, size, without
 from record.orders.joined import Contest, contested
@@ -71,9 +71,9 @@ class Trial:
 
     @property
     def left(self) -> list[int]:
-        """Those of them that an order can turn round: both recipes begin at the gate."""
-        begin = sum(1 << self.graph.keys[key] for key in self.graph.keys.keys() & {*self.order})
-        return [some & begin if begin >> at & 1 else 0 for at, some in enumerate(self.untried)]
+        """Those of them that an order may turn round: both recipes begin at the gate, or one does, and make runs the other one by itself."""
+        begin, alone = sum(1 << self.graph.keys[key] for key in self.graph.keys.keys() & {*self.order}), self.graph.expanded
+        return [some & (begin | alone if begin >> at & 1 else begin if alone >> at & 1 else 0) for at, some in enumerate(self.untried)]
 
     @property
     def goes_on(self) -> bool:
@@ -249,7 +249,7 @@ class Trial:
             self.builds += 1
             (built,) = self.made_again(replace(built.plan, name="again", after=self.after))
         self.others += 1
-        self.turned = [one | earlier for one, earlier in zip(self.turned, self.graph.turned(built.began))]
+        self.turned = [one | earlier for one, earlier in zip(self.turned, self.graph.turned(built.began, built.plan.jobs == MANY))]
 
     def behind(self, built: Built) -> Plan:
         """A build in which the recipes of another one begin in the same order, one behind the other."""

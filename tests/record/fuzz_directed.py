@@ -103,7 +103,7 @@ class Watch:
 
 def is_idle(root: int, held: int) -> bool:
     """Whether all of a build waits: its processes sleep, and no more of them have no child than are held."""
-    found = [pid for pid in processes.below(root) if processes.words_of(pid)[0] not in "ZX"]
+    found = [pid for pid in dict(processes.families(root)) if processes.words_of(pid)[0] not in "ZX"]
     return all(processes.words_of(pid)[0] in "SD" for pid in found) and sum(not processes.children_of(pid) for pid in found) <= held
 
 

@@ -22,7 +22,7 @@ from record import folder as places
 from record.entry import STOPPING, end_traced, have_ended
 from record.folder import Missing, alone as alone_at, aside, come_back, move
 from record.messages import printable, reason
-from record.orders.processes import below, children_of, shown, words_of
+from record.orders.processes import children_of, families, shown, words_of
 from record.trace.pipe import Pipe
 from record.watch.lay import Watch
 
@@ -134,9 +134,9 @@ class Signals(unittest.TestCase):
             with support.Project(SLOW) as project:
                 process = started(project)
                 until = time.monotonic() + 60
-                while [words_of(pid)[:1] for pid in below(process.pid) if shown(pid, "comm") == "sleep\n"] != [["S"]] * 3 and time.monotonic() < until:
+                while [words_of(pid)[:1] for pid in dict(families(process.pid)) if shown(pid, "comm") == "sleep\n"] != [["S"]] * 3 and time.monotonic() < until:
                     time.sleep(0.05)
-                pids = [pid for pid in below(process.pid) if pid != process.pid]
+                pids = [pid for pid in dict(families(process.pid)) if pid != process.pid]
                 rooms = {place for pid in pids for place in re.findall(r"(/\S*/race-orders-\w+)/(?:serial|flipped)/", shown(pid, "maps"))}
                 os.killpg(process.pid, number) if to_all else process.send_signal(number)
                 self.assertEqual(3, process.wait(60))
@@ -148,10 +148,10 @@ class Signals(unittest.TestCase):
         with support.Project({"Makefile": "X := $(shell : > begun; sleep 4)\nall: a b\na b: ; sleep 1; touch $@\n"}) as project:
             process, until = started(project), time.monotonic() + 60
             for name, count in (("make\n", 3), ("hold\n", 1)):
-                while [shown(pid, "comm") for pid in below(process.pid)].count(name) < count and time.monotonic() < until:
+                while [shown(pid, "comm") for pid in dict(families(process.pid))].count(name) < count and time.monotonic() < until:
                     time.sleep(0.01)
                 os.killpg(process.pid, signal.SIGSTOP)
-            pids = [*map(str, below(process.pid))]
+            pids = [*map(str, dict(families(process.pid)))]
             os.killpg(process.pid, signal.SIGKILL)
             process.communicate(timeout=60)
             until = time.monotonic() + 15

@@ -30,6 +30,7 @@ CASES: Dict[str, Tuple[str, Dict[str, str], int, Tuple[str, ...]]] = {
         "  seen where c runs before a:", "    c: line 1 is `none`, and `some` after a serial build")),
     "user between two makers beside others": ("all: a c b x\na b: ; @echo > d/$@; echo > $@\nc: ; @ls d | grep -q . && echo some > c || echo none > c\nx: ; @echo > x\n", {"d/.k": ""}, 1, (
         "    c: line 1 is `none`, and `some` after a serial build",)),
+    "file that make writes by itself": ("all: g u e\ng: ; @touch g\nu: ; @cat x > u 2> /dev/null || echo none > u\n.PHONY: e\ne: g ; $(file >x,w)\n", {}, 1, ("  u: line 1 is `w`, and `none` after a serial build",)),
     "fix that a cover has turned round": (
         "all: u see m p l q\nu p: ; @cat $@.x > $@ 2> /dev/null || true; touch $@\nsee: ; @ls d > see\nm: ; @echo > u.x; echo > d/m; touch m\np l q: see\nl: ; @touch l\nq: ; @echo > p.x; touch q\n", {"d/k": ""}, 1, (
             "  seen where m runs before see:", "3 races on 3 files.")),

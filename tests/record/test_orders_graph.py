@@ -8,6 +8,7 @@ from typing import Any, Dict, List, Optional, Sequence, Tuple
 
 import support  # noqa: F401  (it finds the modules)
 
+from record.orders.gate import Key
 from record.orders.graph import Graph
 from record.orders.joined import join
 
@@ -68,6 +69,13 @@ class Graphs(unittest.TestCase):
         self.assertEqual(["c", "b", "d", "a"], self.began(graph.covering([0, 0, 0b10, 0b1], {})[0]))
         graph = self.graph((None, [("a", [], [], []), ("b", [], [], []), ("c", ["a"], [], []), ("d", ["b"], [], []), ("e", ["b"], [], [])]))
         self.assertEqual(["b", "d", "e", "a", "c"], self.began(graph.covering([0, 0, 0b10, 0b1, 0b1], {})[0]))
+
+    def test_recipe_that_make_runs_by_itself(self) -> None:
+        """With several jobs it comes as soon as all is over that it needs; so what it needs waits where it is to come late."""
+        graph = self.graph((None, [("g", [], [], []), ("e", ["g"], [], []), ("u", [], [], [])]), kinds={"e": {"expanded": True}})
+        logs: List[List[Key]] = [[(("/p", name, 1),) for name in names] for names in ("gu", "ug", "u")]
+        self.assertEqual([[0, 0, 0], [0, 0, 0b11], [0, 0, 0], [0, 0, 0b1]], [*map(graph.turned, logs), graph.turned(logs[1], False)])
+        self.assertEqual(["u", "g", "e"], self.began(graph.covering([0, 0, 0b10], {})[0]))
 
     def test_fix_that_turns_two_round(self) -> None:
         """A recipe may wait for one that came behind it in the serial build, and for what that needs."""
