@@ -43,7 +43,7 @@ def find_configured(owners: Owners, names: Names) -> Set[str]:
 
 def made_by(status: str) -> Tuple[Set[str], Set[str]]:
     """What a `config.status` answers that it makes, with the stamps of that, and what all of these and it itself are made of; and the stamps. Nothing where it is not
-    of autoconf. It begins with files of its own in the folder where it runs."""
+    of autoconf. Before it answers it makes files for a while where it runs: so that is /tmp."""
     helps = version = ""
     with suppress(OSError):
         if machine.text(status).split("\n", 2)[1:2] == [WRITTEN]:  # guard: texts-of-autoconf

@@ -151,7 +151,7 @@ class Graph:
         """For each task those that came before it in the serial build, and behind it in another one, of which this is the log. Of a recipe that make runs by itself, as
         `$(file >x)`, the log has nothing: with several jobs make does so as soon as all is over that it needs."""
         begun = [at for at in (self.keys[key] for key in began if key in self.keys) if not self.expanded >> at & 1]
-        for at in numbers(self.expanded if has_jobs else 0):  # guard: recipes-that-make-runs-by-itself
+        for at in reversed([*numbers(self.expanded if has_jobs else 0)]):  # of two that come at once the first one stays it  # guard: recipes-that-make-runs-by-itself
             need = self.tasks[at].before | self.tasks[at].around
             begun.insert(1 + max((place for place, one in enumerate(begun) if need >> one & 1), default=-1), at)
         found, left = [0] * len(self.tasks), sum(1 << at for at in {*begun})  # guard: recipes-that-never-begin

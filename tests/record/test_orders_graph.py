@@ -76,6 +76,8 @@ class Graphs(unittest.TestCase):
         logs: List[List[Key]] = [[(("/p", name, 1),) for name in names] for names in ("gu", "ug", "u")]
         self.assertEqual([[0, 0, 0], [0, 0, 0b11], [0, 0, 0], [0, 0, 0b1]], [*map(graph.turned, logs), graph.turned(logs[1], False)])
         self.assertEqual(["u", "g", "e"], self.began(graph.covering([0, 0, 0b10], {})[0]))
+        graph = self.graph((None, [("g", [], [], []), ("e", ["g"], [], []), ("f", ["g"], [], []), ("h", ["f"], [], [])]), kinds={name: {"expanded": True} for name in "efh"})
+        self.assertEqual([0, 0, 0, 0], graph.turned(logs[0]))
 
     def test_fix_that_turns_two_round(self) -> None:
         """A recipe may wait for one that came behind it in the serial build, and for what that needs."""
