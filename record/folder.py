@@ -289,8 +289,7 @@ def room_of_programs(tops: List[str]) -> str:
 
 @contextmanager
 def aside(folder: Path) -> Iterator[bool]:
-    """Takes an older record out of the tree, in which the build may look around, and says whether there was one. It comes back where no new one
-    is written."""
+    """Takes an older record out of the tree, in which the build may look around; whether there was one. It comes back where no new one is written."""
     room = Path(tempfile.mkdtemp(prefix="race-record-older-", dir=ROOMS))
     older, is_away = room / "record", False
     try:

@@ -168,7 +168,9 @@ def imported(record: Record, facts: Facts, warm: bool, out: str = "") -> Importe
 def complete(record: Record, facts: Facts, out: Path, options: argparse.Namespace) -> Imported:
     """Writes the record of a build that has ended."""
     found = imported(record, facts, options.warm, os.path.realpath(out))
-    record.known = known_of(found.lives[0].course, options.held) if options.held else set()
+    if options.held:
+        waited = options.waited.read_text().split() if options.waited.exists() else ()
+        record.known = known_of(found.lives[0].course, options.held, {*map(int, waited)})
     write_record(out, record, found.builds, found.assumed)
     for number, build in zip(record.builds, found.builds if options.footprints else ()):
         if isinstance(build, MakeBuild):

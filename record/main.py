@@ -35,6 +35,7 @@ from record.ninja.retry import JOBS, TRIES, by_hand, hints, undo
 from record.orders.builds import Plan, Room, Running, with_many
 from record.orders.graph import Graph
 from record.orders.exploring import MOST, beside, explore, new_room
+from record.orders.holding import WAITED
 from record.orders.result import tried, whatever
 from record.orders.trees import CannotTry
 from record.orders.waits import try_waits
@@ -271,7 +272,7 @@ def record_in_order(options: argparse.Namespace, tools: Dict[str, str], place: P
     """Records a build in a copy, whose recipes wait at a gate in its folder, or whose processes are held at their end; its status."""
     words, env = with_many(options.words, os.environ, plan.jobs)
     os.environ.update(env)
-    own = argparse.Namespace(**{**vars(options), "expected": 0.0, "held": plan.ends, "processor": options.processor + plan.processor})
+    own = argparse.Namespace(**{**vars(options), "expected": 0.0, "held": plan.ends, "waited": place / WAITED, "processor": options.processor + plan.processor})
     if not plan.ends:
         own.gate, own.missing, own.footprints, own.keep_trace = str(place / "gate"), False, False, False
     record = attempt(own, words, tools, place / "record")[0]

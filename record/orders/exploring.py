@@ -95,8 +95,7 @@ def explore(room: Room, record: Record, out: Path, race: str, most: int, running
 
 
 def fixes(graph: Graph, race: str, text: Path) -> dict[Key, set[Key]]:
-    """Which recipe has to wait for which so that no two conflict, by what `race` says, other than on what is tried out. `CannotTry` where it does not judge a
-    build."""
+    """Which recipe has to wait for which so that no two conflict, by what `race` says, other than on what is tried out. `CannotTry` where it gives no verdict."""
     after: dict[Key, set[Key]] = {}
     for number, build in graph.builds.items():
         with open(text, "w", encoding="utf-8") as file:

@@ -39,14 +39,8 @@ def held_words(pid: int) -> list[bytes]:
         return []
 
 
-def held_command(pid: int) -> str:
-    """The sum of the command that a process which waits is to run for a ninja: the last of its words."""
-    return command_sum(next(iter(held_words(pid)[-2:-1]), b""))
-
-
 class Came(NamedTuple):
-    """Whence a process comes that waits: its make or ninja, the target or the sum of its command, the recipe around that make, where that works, and when the
-    process began."""
+    """Whence a process comes that waits: its make or ninja, the target or the sum of its command, the recipe around that make, its folder, and when it began."""
 
     make: int
     name: str
@@ -130,8 +124,8 @@ class Gate:
     def bare(self, pid: int) -> tuple[int, str, Key]:
         """Of a process that waits: its make or ninja, the target or the sum, and its recipe, as the next of that name."""
         if pid not in self.come_from:
-            make = parent_of(pid)
-            self.come_from[pid] = Came(make, self.targets.get(pid) or held_command(pid), self.outer(make), shown(self.folder_of(make)), born(pid))
+            make, command = parent_of(pid), next(iter(held_words(pid)[-2:-1]), b"")  # of a ninja the last of its words
+            self.come_from[pid] = Came(make, self.targets.get(pid) or command_sum(command), self.outer(make), shown(self.folder_of(make)), born(pid))
         make, name, above, folder, _ = self.come_from[pid]
         return make, name, (*above, (folder, name, self.counts.get((*above, (folder, name, 0)), 0) + 1))
 

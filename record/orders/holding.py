@@ -2,7 +2,7 @@
 
 The kernel reports each process that is to end, and waits for an answer (reported.py). A process that is held ends when that which started it has ended;
 when nothing else can happen in the build, so that somebody waits for it, or for its pipes; and when it was held for long, as somebody looks at it again
-and again.
+and again. Where it alone is held and nothing else can happen, all that comes later waits for it: that is noted.
 """
 
 from __future__ import annotations
@@ -19,6 +19,7 @@ from record.orders.reported import Call, filter_of, go_on, is_reported, report
 from record.trace.lives import Address
 
 ENDS = {"x86_64": 231, "aarch64": 94}  # by machine: the number of exit_group
+WAITED = "waited"  # a file in the folder of the build: the numbers of processes for which all of it has waited
 LONG, OFTEN = 10.0, 3  # seconds that one is held at most; where so many were held so long, none is any more
 TRACER = re.compile(r"^TracerPid:\t(\d+)$", re.M)
 
@@ -89,5 +90,8 @@ class Ends(Gate):
             if parent_of(pid) != one.above or now - one.since > LONG:
                 self.let_end(pid)
         if self.held and self.stalled.is_so(root, self.waiting, self.held) and not is_reported(self.reports):  # guard: ends-that-nobody-has-heard-of
+            if len(self.held) == 1 and not self.stalled.is_timed():  # guard: who-alone-is-waited-for
+                with open(self.top / WAITED, "a", encoding="ascii") as file:
+                    print(*self.held, file=file)
             self.let_end(min(self.held, key=lambda pid: len(children_of(self.held[pid].above))))
         return False

@@ -123,6 +123,10 @@ class Stalled:
             return False
         return now - self.since >= found[0]
 
+    def is_timed(self) -> bool:
+        """Whether one would go on by itself when some time has passed."""
+        return self.last is not None and not all(ran for _, ran in self.last[1])
+
 
 def end(root: int) -> None:
     """Ends a process, those below it, and those of its session, and what these start meanwhile."""

@@ -107,8 +107,7 @@ class Trial:
             self.compare(*side_by_side(self.room, [SERIAL]))
 
     def begin(self, running: Running) -> tuple[Built, Built]:
-        """The second serial build, and the flipped one: those that ran beside the recorded build, where they count. `CannotTry` where the project cannot be built a
-        second time."""
+        """The second serial build, and the flipped one: those that ran beside the recorded build, where they count. `CannotTry` where a second build fails."""
         is_beside = SERIAL.name in running.children
         flip = FLIPPED if is_beside and not self.after else replace(FLIPPED, name="fixed", after=self.after)
         if not is_beside:

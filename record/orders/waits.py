@@ -1,8 +1,8 @@
 """Tries out waits that may have been luck: the project is built again in copies, in which processes are held at their end (holding.py).
 
 The last of its children for which a process waits is known (record/trace/lives.py), so one that is held until all others have ended shows by the trace
-whether it is waited for. Of children that run at once one is held in a build. A wait that is known in one of the builds is known; a race of one of them is a
-race of the project, and that record counts.
+whether it is waited for; so does one without whose end nothing goes on. Of children that run at once one is held in a build. A wait that is known in one
+of the builds is known; a race of one of them is a race of the project, and that record counts.
 """
 
 from __future__ import annotations
@@ -35,8 +35,7 @@ def races_of(record: Path, race: str) -> set[tuple[str, str, str, str]]:
 
 
 def try_waits(room: Room, record: Record, out: Path, race: str, most: int, meanwhile: Callable[[], object]) -> Record:
-    """The record that counts: with what is known of its waits, or another one that shows a race which this one does not. `meanwhile`: what is done as these
-    builds run."""
+    """The record that counts: with what is known of its waits, or another one with a race that is not in it. `meanwhile`: what is done as they are built."""
     plans = [Plan("held%d" % number, {}, OWN, is_recorded=True, ends=frozenset(row), processor=number + 2) for number, row in enumerate(record.apart[:min(MOST, most)])]
     say_how_many(len(plans), record, ", in which processes are held at their end")
     races = races_of(out, race) if plans else set()

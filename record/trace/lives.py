@@ -12,8 +12,9 @@ background by then, and does not wait for it again.
 """
 
 from bisect import bisect_right
+from contextlib import suppress
 from dataclasses import dataclass, field
-from functools import cached_property
+from functools import cached_property, reduce
 from typing import Container, Dict, Iterable, Iterator, List, Optional, Set, Tuple
 
 Key = Tuple[str, str]  # an event: its kind, and a path
@@ -260,12 +261,11 @@ def apart(courses: Iterable[Course]) -> List[Set[Address]]:
     return rows
 
 
-def known_of(first: Course, addresses: Iterable[Address]) -> Set[Child]:
-    """Those of some processes for which each build waits. `first`: the first process of the build."""
+def known_of(first: Course, addresses: Iterable[Address], waited: Container[int]) -> Set[Child]:
+    """Those of some processes for which each build waits. `first`: the first process of the build; `waited`: the numbers of those without whose end it did nothing."""
     found: Set[Child] = set()
     for address in addresses:
-        course: Optional[Course] = first
-        for number in address:
-            course = course.children[number] if course is not None and number < len(course.children) else None
-        found.update((course.name(),) if course is not None and course.is_known else ())
+        with suppress(IndexError):
+            course = reduce(lambda above, number: above.children[number], address, first)
+            found.update((course.name(),) if course.is_known or course.first.pid in waited else ())
     return found

@@ -87,6 +87,7 @@ GUARDS: List[Guard] = [
     ),
     *guards("orders/holding.py",
         ("ends-that-nobody-has-heard-of", "if self.held and self.stalled.is_so(root, self.waiting, self.held):", "holding.Looking.end_of_which_nobody_has_heard"),
+        ("who-alone-is-waited-for", "if len(self.held) == 1:", "holding.Holding.child_without_which_nothing_goes_on"),
     ),
     *guards("orders/waits.py",
         ("races-of-build-that-holds", "if False:", "waits.Waits.case_wait_for_another_one", YES),

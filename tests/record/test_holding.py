@@ -15,9 +15,10 @@ from unittest import mock
 import support  # noqa: F401  (where the recorder is)
 
 from record.orders import holding
-from record.orders.holding import Ends, Held
+from record.orders.holding import WAITED, Ends, Held
 from record.orders.processes import Stalled
 
+POLLS = "exec python3 -c 'import os, select; out, into = os.pipe(); os.fork() or os._exit(0); os.close(into); select.select([out], [], [], 4)'"  # at most so long
 TRACED = ["strace", "-f", "-q", "--seccomp-bpf", "-e", "trace=execve,wait4"]
 
 
@@ -28,7 +29,7 @@ class Holding(unittest.TestCase):
         """Runs a script; the programs that ended, in this order, and `first` where the shell has waited for the first one."""
         room = Path(tempfile.mkdtemp(prefix="race-ends-"))
         self.addCleanup(shutil.rmtree, room)
-        held = Ends(Path(), {}, ends=frozenset({(0,)}))
+        held = Ends(room, {}, ends=frozenset({(0,)}))
         with held.listen() as listener:
             root = os.fork()
             if root == 0:
@@ -39,6 +40,7 @@ class Holding(unittest.TestCase):
                     os._exit(9)
             self.assertTrue(held.serve(root, listener, lambda: 20.0))
         self.assertEqual(0, os.waitpid(root, 0)[1])
+        self.is_waited = (room / WAITED).exists()
         return self.order((room / "trace").read_text().split("\n"))
 
     def order(self, lines: List[str]) -> List[str]:
@@ -66,6 +68,12 @@ class Holding(unittest.TestCase):
         """It ends when its parent has."""
         self.assertEqual({"sh", "true"}, {*(found := self.ran("/bin/true & sleep .1; expr 1 > /dev/null; exit 0"))[2:]})
         self.assertEqual(["sleep", "expr"], found[:2])
+
+    def test_child_without_which_nothing_goes_on(self) -> None:
+        for script, is_waited in (("/bin/true & wait; exit 0", True), ("x=$(cat /dev/null); exit 0", True), ("/bin/true & sleep .1; exit 0", False), (POLLS, False)):
+            with self.subTest(script):
+                self.ran(script)
+                self.assertEqual(is_waited, self.is_waited)
 
     def test_child_whose_output_is_read_to_its_end(self) -> None:
         self.assertEqual(["cat", "sh"], [one for one in self.ran("x=$(cat /dev/null); exit 0") if one != "first"])
@@ -121,7 +129,12 @@ class Looking(unittest.TestCase):
             held.turn(os.getpid())
             self.assertFalse(let_end.called)
             here.recv(1)
-            held.turn(os.getpid())
+            with tempfile.TemporaryDirectory() as room:
+                held.top = Path(room)
+                held.turn(os.getpid())
+                held.held[os.getpid()] = Held(2, os.getppid(), holding.time.monotonic())
+                held.turn(os.getpid())
+                self.assertEqual("%d\n" % parent.pid, Path(room, WAITED).read_text())  # of two nobody knows which it is
             self.assertTrue(let_end.called)
         parent.kill()
         parent.wait()

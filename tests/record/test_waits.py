@@ -18,6 +18,7 @@ BASH = "SHELL = /bin/bash\n"
 ALL = "all: ; @%s; echo > all\n"
 USER = "all: one user\none: ; @%s; echo > one\nuser: one ; @cat o > user\n"
 LOOKS = "import subprocess, time\np = subprocess.Popen(['sh', '-c', 'echo x > o'])\ntime.sleep(0.3)\np.poll()\n"
+READS = "import subprocess, time\np = subprocess.Popen(['sh', '-c', 'echo x > o'], stdout=subprocess.PIPE)\np.stdout.read()\ntime.sleep(0.3)\np.poll()\n"
 WAITS = "import os\nfor i in range(2):\n    if os.fork() == 0:\n        open('x%d' % i, 'w').write('x')\n        os._exit(0)\nos.wait()\nos.wait()\nprint(open('x0').read(), open('x1').read())\n"
 # By name: the makefile, files that are there, the status, and what the report says.
 CASES: Dict[str, Tuple[str, Dict[str, str], int, str]] = {
@@ -29,6 +30,7 @@ CASES: Dict[str, Tuple[str, Dict[str, str], int, str]] = {
     "wait for two others": (ALL % "cp in a & p=$$!; cp in b & cp in c & q=$$!; wait $$p; wait $$q; sleep .2; cat b > d", {}, 1, "RACE  b  in all: cp in b, cat b\n"),
     "wait for an older one": (ALL % "(sleep .3; cp in a) & p=$$!; cp in b & wait $$p; cat b > d", {}, 1, "RACE  b  in all: cp in b, cat b\n"),
     "look of a program": (ALL % "python3 p.py; cat o", {"p.py": LOOKS}, 1, "RACE  o  in all: "),
+    "look behind all that was read": (ALL % "python3 p.py; cat o", {"p.py": READS}, 0, "SAFE"),
     "wait for all": (ALL % "cp in a & cp in b & wait; cat a b > c", {}, 0, "SAFE"),
     "wait for all in bash": (BASH + ALL % "cp in a & cp in b & wait; cat a b > c", {}, 0, "SAFE"),
     "wait for three": (ALL % "for i in 1 2 3; do cp in x$$i & done; wait; cat x1 x2 x3 > o", {}, 0, "SAFE"),
