@@ -1,8 +1,11 @@
 """What goes where: each file that an installation has, with its path below the prefix."""
 from __future__ import annotations
 
+import py_compile
+import tempfile
 from collections.abc import Iterator
 from dataclasses import dataclass
+from importlib.util import cache_from_source
 from pathlib import Path
 
 LIBRARY = "share/race"
@@ -38,15 +41,26 @@ printf '%s unproved\\n' "$text" || exit 3
 
 @dataclass(frozen=True)
 class Item:
-    """A file of an installation: its path below the prefix, and its bytes, which are those of a file or written here."""
+    """A file of an installation: its path below the prefix, and its bytes, which are those of a file or written here, or what this Python makes of a module."""
 
     path: str
     source: Path | None = None
     text: str = ""
     is_program: bool = False
+    is_compiled: bool = False
 
     def data(self) -> bytes:
+        if self.is_compiled:
+            return compiled(str(self.source))
         return self.source.read_bytes() if self.source else self.text.encode()
+
+
+def compiled(module: str) -> bytes:
+    """A module as Python keeps it, which counts as long as the text beside it is the same."""
+    with tempfile.TemporaryDirectory(prefix="race-install-") as room:
+        kept = f"{room}/kept"
+        py_compile.compile(module, kept, doraise=True, invalidation_mode=py_compile.PycInvalidationMode.CHECKED_HASH)
+        return Path(kept).read_bytes()
 
 
 def companions(top: Path) -> Iterator[Path]:
@@ -64,13 +78,16 @@ def program_items(program: Path, is_proved: bool) -> Iterator[Item]:
 
 
 def companion_items(top: Path) -> Iterator[Item]:
-    """The companions and their launchers, and the pages that one of them reads."""
+    """The companions and their launchers, their modules also as Python keeps them (a launcher lets it keep nothing there), and the pages that one of them reads."""
     for script in companions(top):
         folder = script.parent.name
         text = LAUNCHER.format(here=HERE, library=LIBRARY, folder=folder, name=script.name)
         yield Item(f"bin/{script.name}", text=text, is_program=True)
         for it in files_below(script.parent):
-            yield Item(f"{LIBRARY}/{folder}/{it.relative_to(script.parent)}", it, is_program=it == script)
+            path = f"{LIBRARY}/{folder}/{it.relative_to(script.parent)}"
+            yield Item(path, it, is_program=it == script)
+            if it.suffix == ".py":
+                yield Item(cache_from_source(path), it, is_compiled=True)
     yield from (Item(f"{LIBRARY}/docs/{it}", top / "docs" / it) for it in ("FAULTS.md", "RECORD.md", "MISSING.md"))
 
 
