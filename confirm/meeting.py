@@ -117,8 +117,8 @@ class Meeting(Gate):
             return False
         self.hear_makes()
         is_over = self.early.is_recipe and self.early.key in self.over
-        rows = [self.bare(pid) for pid in self.waiting]
-        if not is_over and any((make, name) in self.open or self.may_begin(key) for make, name, key in rows):
+        rows = [self.came(pid) for pid in self.waiting]
+        if not is_over and any(self.goes_on(one) or self.may_begin(one.key) for one in rows):
             return super().turn(root)
         self.is_reached |= is_over or not self.early.is_recipe
         for listener, number in self.held.values():

@@ -47,8 +47,7 @@ def lacked(makes: Sequence[Make], names: Names) -> List[str]:
 
 
 def passed_over(make: Make) -> str:
-    """What a make that failed had not come to, and may run with several jobs before that: a prerequisite of what it considered, or a goal. Nothing where
-    it had come to all of them."""
+    """What a make that failed had not come to, and may run with several jobs before that: a prerequisite of what it considered, or a goal."""
     for one in make.words.rounds[-1:]:
         base = one.base or Base()
         wanted = [name for node in one.nodes for name in (*base.prerequisites.get(node, ()), *base.order_only.get(node, ()))]

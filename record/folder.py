@@ -143,8 +143,7 @@ def callers(builds: List[Build]) -> Dict[int, Dict[str, str]]:
 
 
 def label_about(build: Build, at: int, places: Places, leaves: Set[str]) -> Dict[str, Any]:
-    """What the label of a task stands for. Who waits for a recipe that leaves no file under its target's name does so behind `|`: make would run it
-    again each time."""
+    """What the label of a task stands for. Who waits for a recipe that leaves no file under its target's name does so behind `|`, or make would run it each time."""
     task, root, own = build.tasks[at], build.folder, build.about(at)
     edited, part = places.of(task.node.name, own), task.part
 

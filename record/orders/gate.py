@@ -40,12 +40,11 @@ def held_words(pid: int) -> list[bytes]:
 
 
 class Came(NamedTuple):
-    """Whence a process comes that waits: its make or ninja, the target or the sum of its command, the recipe around that make, its folder, and when it began."""
+    """Whence a process comes that waits: its make or ninja, the target or the sum of its command, its recipe, as the next of that name, and when it began."""
 
     make: int
     name: str
-    above: Key
-    folder: str
+    key: Key
     born: tuple[int, int]
 
 
@@ -121,13 +120,13 @@ class Gate:
         """Where a make or ninja works."""
         return folder_of(make)
 
-    def bare(self, pid: int) -> tuple[int, str, Key]:
-        """Of a process that waits: its make or ninja, the target or the sum, and its recipe, as the next of that name."""
+    def came(self, pid: int) -> Came:
+        """Whence a process comes that waits."""
         if pid not in self.come_from:
             make, command = parent_of(pid), next(iter(held_words(pid)[-2:-1]), b"")  # of a ninja the last of its words
-            self.come_from[pid] = Came(make, self.targets.get(pid) or command_sum(command), self.outer(make), shown(self.folder_of(make)), born(pid))
-        make, name, above, folder, _ = self.come_from[pid]
-        return make, name, (*above, (folder, name, self.counts.get((*above, (folder, name, 0)), 0) + 1))
+            name, above, folder = self.targets.get(pid) or command_sum(command), self.outer(make), shown(self.folder_of(make))
+            self.come_from[pid] = Came(make, name, (*above, (folder, name, self.counts.get((*above, (folder, name, 0)), 0) + 1)), born(pid))
+        return self.come_from[pid]
 
     def note_end(self, make: int, name: str) -> None:
         """A recipe has ended."""
@@ -143,6 +142,10 @@ class Gate:
         """The processes that do nothing until this gate lets them."""
         return self.waiting
 
+    def goes_on(self, came: Came) -> bool:
+        """Whether a process is that of a further line of a recipe."""
+        return (came.make, came.name) in self.open
+
     def may_begin(self, key: Key) -> bool:
         """Whether a recipe waits for no other one besides."""
         return self.over.issuperset(self.after.get(key, ()))
@@ -151,10 +154,10 @@ class Gate:
         """Whether it is known for what a process waits: a make says that when it has started it."""
         return pid in self.targets or held_words(pid)[:1] == [os.fsencode(BY_NINJA)]
 
-    def beside(self, rows: Mapping[int, tuple[int, str, Key]], free: Sequence[int]) -> Sequence[int]:
+    def beside(self, rows: Mapping[int, Came], free: Sequence[int]) -> Sequence[int]:
         """Those of some processes that may begin beside what runs: none beside one that began before those for which it waits, since nothing else could. A recipe
         with a make in it runs what that starts."""
-        outer = {key[:length] for key in (*self.running, *(key for _, _, key in rows.values())) for length in range(1, len(key))}
+        outer = {key[:length] for key in (*self.running, *(one.key for one in rows.values())) for length in range(1, len(key))}
         return free if len(self.busy() - outer) < self.at_once and all(map(self.may_begin, self.running)) else []
 
     def busy(self) -> set[Key]:
@@ -167,22 +170,23 @@ class Gate:
         if not self.waiting or not is_idle and self.at_once == 1:
             return False
         self.hear_makes()
-        rows = {pid: self.bare(pid) for pid in self.waiting if is_idle or self.is_named(pid)}
-        further = [pid for pid, (make, name, _) in rows.items() if (make, name) in self.open]
-        free = [pid for pid, (_, _, key) in rows.items() if self.may_begin(key)]  # guard: fixes-hold
+        rows = {pid: self.came(pid) for pid in self.waiting if is_idle or self.is_named(pid)}
+        further = [pid for pid, one in rows.items() if self.goes_on(one)]
+        free = [pid for pid, one in rows.items() if self.may_begin(one.key)]  # guard: fixes-hold
         some = further or (free or [*rows] if is_idle else self.beside(rows, free))
         if some:
-            self.begin(max(some, key=lambda one: (self.places.get(rows[one][2], self.unknown), *(at if self.is_flipped else -at for at in self.come_from[one].born))), rows)  # guard: last-that-came
+            self.begin(max(some, key=lambda pid: (self.places.get(rows[pid].key, self.unknown), *(at if self.is_flipped else -at for at in rows[pid].born))))  # guard: last-that-came
         return bool(some)
 
-    def begin(self, pid: int, rows: Mapping[int, tuple[int, str, Key]]) -> None:
+    def begin(self, pid: int) -> None:
         """Lets a process begin."""
-        make, name, key = rows[pid]
+        make, name, key, _ = self.came(pid)
         if (make, name) not in self.open:
             self.began.append(key)
             self.open[make, name] = key
             self.running.add(key)
             self.counts[(*key[:-1], (*key[-1][:2], 0))] = key[-1][2]
+            self.come_from = {one: came for one, came in self.come_from.items() if came.key != key}  # the next of that name is another recipe
         self.owners[pid] = self.open[make, name]
         wait_for_tick()
         self.hear_end(pid, lambda: None if pid in self.targets else self.note_end(make, name))  # of a ninja the recipe has ended then

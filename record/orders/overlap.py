@@ -99,7 +99,8 @@ class Overlap(Gate):
 
     def may_go(self, pids: Iterable[int]) -> bool:
         """Whether one of some processes that wait may begin."""
-        return any((make, name) in self.open or self.may_begin(key) for make, name, key in map(self.bare, pids))
+        return any(self.goes_on(one) or self.may_begin(one.key) for one in map(self.came, pids))
+
     def turn(self, root: int) -> bool:
         is_over = self.over.issuperset(key for meet in self.meets for key in meet[:2])
         self.at_once = self.most if is_over or self.held and not any(meet.goes for meet in self.meets) else 1  # guard: nothing-else-while-two-meet

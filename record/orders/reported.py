@@ -58,8 +58,7 @@ def report(program: bytes) -> int:
 
 
 def reports_of(pid: int, channel: socket.socket, program: bytes) -> int:
-    """From here on the kernel reports calls of a process that waits at the gate (watch/hold.c), and of each that it starts; the descriptor by which it does, and -1
-    where it does not."""
+    """From here on the kernel reports calls of a process that waits at the gate (watch/hold.c), and of each that it starts; the descriptor by which it does, or -1."""
     try:
         channel.sendall(program)
         number, = struct.unpack("i", channel.recv(4, socket.MSG_WAITALL) if program else b"")

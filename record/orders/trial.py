@@ -142,8 +142,7 @@ class Trial:
         return found
 
     def note_other(self, flipped: Built) -> None:
-        """Takes in what the flipped build changed: names outside of the project, and since recipes could run at once; what is alike in both by then does not go
-        by jobs."""
+        """Takes in what the flipped build changed: names outside of the project, and since recipes could run at once: what is alike in both does not go by jobs."""
         file = self.room.place(flipped.plan) / "kept"
         other = cast(Record, pickle.loads(file.read_bytes())) if file.exists() else None
         self.late = self.late | other.late if other and None not in (self.late, other.late) else None  # type: ignore[operator]  # guard: what-another-order-changes

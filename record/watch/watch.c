@@ -33,7 +33,7 @@
 #include <sys/resource.h>
 #include <unistd.h>
 
-enum { RAISED = 0x107, HIGH = 900, LONGEST = 4096, REMEMBERED = 16 };
+enum { RAISED = 0x107, HIGH = 900, LONGEST = 4096, REMEMBERED = 16, DEEPEST = 1000 };
 
 extern char **environ;
 extern int __vfprintf_chk(FILE *, int, const char *, va_list);
@@ -46,6 +46,8 @@ static int is_raised;       /* make says what it considers */
 static int is_base;         /* the data base is being printed */
 static int is_open;         /* make has begun a line for people, and not ended it */
 static int is_cut;          /* a limit does not let the file grow */
+static int depth;           /* so many blanks make has put before a word */
+static int rounds;          /* so often it has begun to update targets */
 static int own;             /* the process: a child of make is another one */
 static char place[LONGEST]; /* the path of the file, without `make` at its end */
 static char *low, *high;    /* where make itself lies: what an object prints that make has loaded is none of its words */
@@ -278,30 +280,60 @@ static void note_text(int from_make, FILE *file, const char *text, size_t size) 
   is_open = text[size - 1] != '\n';
 }
 
-/* Whether make has said this of a child that lives: it says so of each of them whenever one ends. */
+/* Whether this is new, of what has been said last. */
+static int is_new(uint64_t sum) {
+  static uint64_t sums[1 << 16];
+  uint64_t *known = &sums[sum >> 48], last = *known;
+  *known = sum;
+  return last != sum;
+}
+
+static uint64_t sum_of(uint64_t sum, const char *text) { /* FNV-1a */
+  for (; *text; text++) sum = (sum ^ (unsigned char)*text) * 0x100000001b3;
+  return sum;
+}
+
+/* Whether make has said this before: whenever a child ends it goes over its targets again, and over the children that live. What a target
+   that is new stands below is written once more. */
 static int is_repeated(const char *format, va_list words) {
-  static uint64_t sums[1 << 14]; /* of lines, by FNV-1a */
-  uint64_t sum = 0xcbf29ce484222325;
+  static struct { char *line; int depth, is_written; } above[DEEPEST]; /* the targets that make looks at */
+  static int count;
+  int is_child = !strncmp(format, "Live child ", 11);
+  int is_target = !strncmp(format, "Considering target ", 19) || !strncmp(format, "Pruning file ", 13) || strstr(format, " was considered already.");
   char *line;
   va_list copy;
-  if (strncmp(format, "Live child ", 11)) return 0;
+  if (!strncmp(format, "Still updating ", 15)) return 1; /* nobody reads it */
+  if (!is_child && !is_target) return 0;
   va_copy(copy, words);
   int size = vasprintf(&line, format, copy);
   va_end(copy);
-  for (int at = 0; at < size; at++) sum = (sum ^ (unsigned char)line[at]) * 0x100000001b3;
-  if (size >= 0) free(line);
-  uint64_t *known = &sums[sum >> 50], last = *known;
-  *known = sum;
-  return size >= 0 && last == sum;
+  if (size < 0) return 0;
+  uint64_t sum = sum_of(0xcbf29ce484222325 + rounds, line);
+  if (is_child) return free(line), !is_new(sum);
+  while (count && (count == DEEPEST || above[count - 1].depth >= depth)) free(above[--count].line);
+  if (count) sum = sum_of(sum, above[count - 1].line);
+  above[count].line = line, above[count].depth = depth, above[count].is_written = is_new(sum);
+  for (int at = 0; above[count].is_written && at < count; at++) {
+    if (!above[at].is_written) fprintf(said, "%*s%s", above[at].depth, "", above[at].line);
+    above[at].is_written = 1;
+  }
+  return !above[count++].is_written;
+}
+
+static void put_blanks(void) {
+  for (; depth; depth--) fputc_unlocked(' ', said);
 }
 
 static int print(int from_make, int flag, const char *format, va_list words) {
   if (!is_word(from_make)) return flag < 0 ? vfprintf(stdout, format, words) : __vfprintf_chk(stdout, flag, format, words);
-  hold_after(in_english(format));
-  if (is_repeated(in_english(format), words)) return 0;
-  int done = vfprintf(said, in_english(format), words);
+  const char *english = in_english(format);
+  hold_after(english);
+  rounds += !strncmp(english, "Updating ", 9);
+  if (is_repeated(english, words)) return depth = 0;
+  put_blanks();
+  int done = vfprintf(said, english, words);
   if (!strcmp(format, "%s")) fputc_unlocked('\n', said); /* why an object cannot be loaded: make ends no line there */
-  end_word(in_english(format));
+  end_word(english);
   return done;
 }
 
@@ -327,13 +359,15 @@ int puts(const char *text) {
     is_open = 0;
     return done;
   }
+  put_blanks();
   fprintf(said, "%s\n", in_english(text));
   end_word(text);
   return 1;
 }
 
 static int put_sign(int from_make, int sign, FILE *file) {
-  if (file == stdout && is_word(from_make)) return fputc_unlocked(sign, said);
+  if (file == stdout && is_word(from_make) && !is_base && sign == ' ') return depth++, sign;
+  if (file == stdout && is_word(from_make)) return put_blanks(), fputc_unlocked(sign, said);
   if (file == stdout && sign == '\n') is_open = 0;
   return NEXT(fputc)(sign, file);
 }

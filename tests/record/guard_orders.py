@@ -51,7 +51,7 @@ GUARDS: List[Guard] = [
     ),
     *guards("orders/gate.py",
         ("names-as-a-record-has-them", "self.targets[int(found[2])] = os.fsdecode(found[1])", "orders.Orders.name_that_is_no_utf_8"),
-        ("last-that-came", "self.begin(max(further or free or rows, key=lambda one: (self.places.get(rows[one][2], self.unknown), rows[one][2])), rows)", "gate.Gates.last_that_came"),
+        ("last-that-came", "self.begin(max(further or free or rows, key=lambda pid: (self.places.get(rows[pid].key, self.unknown), rows[pid].key)))", "gate.Gates.last_that_came"),
         ("fixes-hold", "free = [*rows]", "gate.Gates.fixes"),
         ("further-lines-of-recipe", "found = self.owners.get(pid)", "gate.Gates.make_in_a_recipe"),
     ),

@@ -13,6 +13,7 @@ import support
 
 from record.watch import library
 from record.watch.elf import NotElf, Program
+from record.make.words import read_words
 from record.watch.files import files_in, open_file, read_start, without_values
 from record.watch.lay import Watch, makes_of, why_silent
 
@@ -51,6 +52,15 @@ class Said(unittest.TestCase):
         for text in ("Reading makefile 'Makefile'...", "Considering target file 'all'.", "Must remake target 'a'.", "# Make data base, printed on", "# Finished Make data base on"):
             self.assertIn(text, [line.strip() for line in lines])
         self.assertEqual(["(a)", "(b)"], [line.split()[3] for line in lines if line.startswith("Putting child ")])
+
+    def test_targets_that_it_goes_over_again(self) -> None:
+        """With several jobs that is whenever a child ends: it is written once, and what is new below what needs it."""
+        names = ["t%d" % number for number in range(30)]
+        rules = "all: {0} last\n{0}: ; @sleep .1\nlast: {0} new ; @sleep .1\nnew: t1 ; @sleep .1\n".format(" ".join(names))
+        (lines,), _ = self.run_make(rules, ["-s", "-j40"])
+        self.assertEqual(dict.fromkeys(names, 1), {name: sum(line.strip() == "Considering target file '%s'." % name for line in lines) for name in names})
+        goals = read_words(1, 0, lines).rounds[-1]
+        self.assertEqual({**dict.fromkeys(names, []), "all": [*names, "last"], "last": [*names, "new"], "new": ["t1"]}, {name: [*node.prerequisites] for name, node in goals.nodes.items()})
 
     def test_patterns(self) -> None:
         (lines,), _ = self.run_make("F = *.$(1)\nX := $(call F,c)\nall: $(wildcard $(X) [ab]) $(foreach d,x y,$(wildcard $d/*)) ;\n")
