@@ -47,9 +47,9 @@ def left(orders: Orders) -> str:
 
 
 def premise(orders: Orders) -> list[str]:
-    """What a yes takes for granted of other orders."""
+    """What a yes takes for granted of other orders, if there are any."""
     more = "" if not orders or orders.get("whole", True) else ", and more was to be tried out"
-    return ["each recipe does in every order what it did in these builds (%d of %d pairs ran both ways%s)" % (orders["turned"], orders["pairs"], more)] if orders else []
+    return ["each recipe does in every order what it did in these builds (%d of %d pairs ran both ways%s)" % (orders["turned"], orders["pairs"], more)] if orders and (orders["pairs"] or more) else []
 
 
 def uncompared(orders: Orders, folder: str, most: int) -> list[str]:
