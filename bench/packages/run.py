@@ -1,11 +1,11 @@
 #!/usr/bin/env python3
-"""Times race-record on the packages of the golden traces (tests/record/golden/packages.py), each configured, and then built with one job.
+"""Times race-record on the packages of the golden traces (tests/record/golden/packages.py) and some larger ones, each configured, and then built with one job.
 
     bench/packages/run.py [--race PROGRAM] [--folder DIR] [--jobs N] [PACKAGE ..]
 
     bench/packages/run.py bzip2 lua5.4       two of them
     bench/packages/run.py --jobs 4 bzip2     the build with four jobs, recorded once
-    bench/packages/run.py --race race        all of them, with the program race on PATH: half an hour
+    bench/packages/run.py --race race        all of them, with the program race on PATH: an hour
 
 As root on Debian 12, with its sources among those of apt (deb-src): what a package is built with gets installed. A row has the seconds of the plain build,
 and of race-record with builds in other orders, or with --once where jobs are given; the peak memory of one of its processes; and what it said. The last row
@@ -27,12 +27,19 @@ TOP = Path(__file__).resolve().parents[2]
 sys.path[:0] = [str(TOP), str(TOP / "bench"), str(TOP / "tests" / "record" / "golden")]
 
 from measure import Run, head, once, row  # noqa: E402
-from packages import PACKAGES, Package  # noqa: E402
+from packages import CONFIGURE, PACKAGES, Package  # noqa: E402
 
 from record.command import with_jobs  # noqa: E402
 from record.judge import find_race, no_race  # noqa: E402
 
 RECORDER = TOP / "record" / "race-record"
+LARGER = {package.name: package for package in (
+    Package("autoconf", "Perl and m4", "make", CONFIGURE, "help2man m4"),
+    Package("klibc", "kbuild", "make -f debian/rules override_dh_auto_build", "", "linux-libc-dev"),
+    Package("git", "makefile by hand", "make", "", "zlib1g-dev libcurl4-gnutls-dev libexpat1-dev libssl-dev gettext"),
+    Package("u-boot", "kbuild", "make tools-only", "make tools-only_defconfig", "bison flex bc libssl-dev libgnutls28-dev uuid-dev"),
+    Package("ocaml", "OCaml", "make world", CONFIGURE),
+)}
 VERDICT = re.compile(r"^(?:SAFE|RACE|NO VERDICT|WARM)\b", re.M)
 
 
@@ -80,9 +87,10 @@ def main() -> None:
     os.environ["DEBIAN_FRONTEND"] = "noninteractive"
     head("package", "plain, s", "recorded, s", "ratio", "memory, MiB", "verdict")
     ratios: list[float] = []
-    for name in args.packages or PACKAGES:
+    packages = PACKAGES | LARGER
+    for name in args.packages or packages:
         with tempfile.TemporaryDirectory(prefix="race-bench-", dir=args.folder) as room:
-            plain, recorded = measured(PACKAGES[name], Path(room), race, args.jobs)
+            plain, recorded = measured(packages[name], Path(room), race, args.jobs)
         ratios.append(recorded.seconds / plain.seconds)
         row("`%s`" % name, "%.1f" % plain.seconds, "%.1f" % recorded.seconds, "%.1f" % ratios[-1], "%.0f" % recorded.memory, *VERDICT.findall(recorded.out.decode(errors="replace"))[-1:])
     row("median", "", "", "%.1f" % statistics.median(ratios), "", "")
