@@ -113,7 +113,8 @@ class Imported:
         for pid in sorted({int(path.name.split(".")[0]) for path in self.facts.said.glob("*.cut")}):
             words = next((" ".join(life.argv)[:100] for life in self.lives if life.pid == pid and life.is_make), "make")
             holes.append("a limit on the size of files (ulimit -f) cuts what a make says: " + words)
-        holes += replay.holes + self.owners.holes + names.mounted({*mounts_below(*names.tops)}) + names.too_long() + twice(names, self.lives, self.makes)  # guard: paths-that-are-too-long
+        holes += replay.holes + self.owners.holes + names.mounted({*mounts_below(*names.tops)}) + twice(names, self.lives, self.makes)  # guard: names-of-two-spellings
+        holes += ["a path of the project is longer than 4,095 bytes, and cannot be looked at: below %.200s" % path for path in names.long]  # guard: paths-that-are-too-long
         holes += ["--fresh copied %s, which has a name outside of the folder too, and the build writes it" % path for path in replay.hard_links if path in names.shared]  # guard: name-outside
         holes += ["nobody knows who started a process: " + one for one in replay.strays()]
         holes += ["a make ran past the recorder: " + words for words in replay.unheard.values()]  # guard: makes-without-library

@@ -230,7 +230,7 @@ class Trial:
         """Takes in a build. What differs is narrowed down to two recipes, and the build made again where these keep the order of the serial one."""
         if built.otherwise:
             once, (built,) = built, self.made_again(self.behind(built))
-            if not built.otherwise:
+            if not built.otherwise and (once.status != 0 or self.names(once.held) or {*once.began} != {*built.began}):  # guard: what-a-serial-build-explains
                 self.doubt(once)  # guard: what-differs-once
         while built.otherwise:
             found = self.narrow(built)

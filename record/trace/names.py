@@ -15,7 +15,6 @@ from record import machine
 from record.trace.spelling import folds, has_two_names
 
 LINK_LIMIT = 40
-SHOWN = 200  # so much of a path that is too long is shown
 MOUNT_ESCAPE = re.compile(r"\\([0-7]{3})")
 
 
@@ -137,10 +136,6 @@ class Names:
         """A folder has one name, except where it is mounted a second time."""
         known = self.numbers.setdefault((found.st_dev, found.st_ino), path)
         self.twice += [(known, path)] if known != path else []  # guard: folders-with-two-names
-
-    def too_long(self) -> List[str]:
-        """What is wrong with paths that nobody can ask for."""
-        return ["a path of the project is longer than 4,095 bytes, and cannot be looked at: below " + (path if len(path) < SHOWN else path[:SHOWN] + "..") for path in self.long]
 
     def mounted(self, mounts: Set[str]) -> List[str]:
         """What is wrong with names of which a mount has made two: the other name of a file may be anywhere."""

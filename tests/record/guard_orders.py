@@ -25,6 +25,7 @@ GUARDS: List[Guard] = [
         ("what-another-order-changes", "pass", "orders.Orders.name_that_jobs_alone_leave_out"),
         ("what-was-there-by-then", "return paths", "orders.Orders.what_was_there_before_jobs_ran"),
         ("what-differs-once", "pass", "orders.Orders.what_differs_once"),
+        ("what-a-serial-build-explains", "if not built.otherwise:", "orders.Orders.what_a_serial_build_shows_later"),
         ("holes-of-other-orders", '"untried": bool(self.graph.pairs()) and (not self.is_whole or any(self.untried) or not self.graph.leaves().isdisjoint(unstable)),', "orders.Orders.record_of_another_order_with_a_hole"),
         ("what-differs-by-chance", "if False:", "orders.Orders.what_differs_by_chance"),
         ("what-differs-once-is-not-tried-out", "pass", "orders.Orders.what_differs_once_where_two_meet"),

@@ -7,7 +7,7 @@ import time
 import unittest
 from dataclasses import replace
 from pathlib import Path
-from typing import Dict, Tuple
+from typing import Dict, List, Tuple
 from unittest import mock
 
 import support
@@ -298,6 +298,18 @@ class Orders(unittest.TestCase):
                 with support.Project({"Makefile": makefile, **files}) as project:
                     found = project.record(once=False)
                 self.assertEqual((status, True), (found.status, says in found.text()), found.text())
+
+    def test_what_a_serial_build_shows_later(self) -> None:
+        """It leaves nothing to be tried out."""
+        made_again = Trial.made_again
+
+        def made(trial: Trial, *plans: Plan) -> List[Built]:
+            trial.unstable[0].add("list")
+            return [replace(one, otherwise=[]) for one in made_again(trial, *plans)]
+
+        with mock.patch.object(Trial, "made_again", made), mock.patch("record.orders.builds.have_own_ports", return_value=False), support.Project({"Makefile": LISTS, "d/k": ""}) as project:
+            found = project.record(once=False)
+        self.assertEqual((0, False), (found.status, "more was to be tried out" in found.text()), found.text())
 
     def test_record_of_another_order_with_a_hole(self) -> None:
         """What it lacks is not tried out."""
