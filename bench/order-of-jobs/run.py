@@ -34,7 +34,7 @@ sys.path.insert(0, str(TOP / "bench"))
 from measure import head, once, row
 from sizes import READING, SIZES
 
-LIBRARIES = "mk_decide mk_cert mk_proof mk_foot mk_graph mk_rules mk_macro mk_jobs mk_text mk_name".split()
+LIBRARIES = "mk_decide mk_cert mk_proof mk_foot mk_graph mk_rules mk_include mk_macro mk_lines mk_jobs mk_text mk_name".split()
 CALLS = ["read", "plan", "footprints", "attach", "rows", "least", "pairs", "decide", "accept"]
 
 
