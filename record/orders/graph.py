@@ -251,12 +251,12 @@ def turning(front: Sequence[int], held: Sequence[int]) -> list[int]:
         return size([front[one] & rest & ~need for one in free if need >> one & 1])
 
     while rest:
-        free = [at for at in numbers(rest) if not held[at] & rest]
+        free = [at for at in numbers(rest) if not held[at] & rest] or [next(numbers(rest))]  # of a circle the first
         some = [at for at in free if not front[at] & rest]
         if not some:
             least = min(free, key=lambda at: size([front[at] & rest]))
             needed = min(least, *numbers(front[least] & rest), key=given_up)
-            some = [at for at in free if (held[needed] | 1 << needed) >> at & 1][:1]
+            some = [at for at in free if (held[needed] | 1 << needed) >> at & 1][:1] or [least]
         order += some
         rest &= ~sum(1 << at for at in some)
     return order
