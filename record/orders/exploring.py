@@ -106,6 +106,6 @@ def fixes(graph: Graph, race: str, text: Path) -> dict[Key, set[Key]]:
             raise CannotTry("no verdict on build %s" % number)
         for late, _, early in (line.partition(": ") for line in verdict.fix):
             keys = [graph.tasks[graph.recipe_of(number, label)].key if (number, label) in graph.at else None for label in (late, early)]
-            if keys[0] and keys[1]:
+            if keys[0] and keys[1] and keys[0] != keys[1]:  # guard: fixes-inside-a-recipe
                 after.setdefault(keys[0], set()).add(keys[1])
     return after

@@ -251,12 +251,13 @@ def turning(front: Sequence[int], held: Sequence[int]) -> list[int]:
         return size([front[one] & rest & ~need for one in free if need >> one & 1])
 
     while rest:
-        free = [at for at in numbers(rest) if not held[at] & rest] or [next(numbers(rest))]  # of a circle the first
+        free = [at for at in numbers(rest) if not held[at] & rest]
         some = [at for at in free if not front[at] & rest]
-        if not some:
+        if free and not some:
             least = min(free, key=lambda at: size([front[at] & rest]))
             needed = min(least, *numbers(front[least] & rest), key=given_up)
-            some = [at for at in free if (held[needed] | 1 << needed) >> at & 1][:1] or [least]
+            some = [at for at in free if (held[needed] | 1 << needed) >> at & 1][:1]
+        some = some or [next(numbers(rest))]  # of a circle the first
         order += some
         rest &= ~sum(1 << at for at in some)
     return order

@@ -7,6 +7,7 @@ from guard import UNSAID, YES, Guard, guards
 GUARDS: List[Guard] = [
     *guards("orders/exploring.py",
         ("what-is-tried-out-is-judged-no-more", "pass", "orders.Orders.case_name_for_which_make_asks"),
+        ("fixes-inside-a-recipe", "if keys[0] and keys[1]:", "orders.Orders.case_list_of_a_recipe_with_a_race_of_its_own", UNSAID),
         ("builds-that-turn-nothing-round", "if False:", "orders.Orders.where_one_job_is_asked_for"),
         ("makes-of-other-users", "pass", "laid.Covered.another_user"),
         ("room-of-the-tmpfs", "return size < int(words[1]) * 512 and runs_programs(TMPFS)", "orders.Orders.room_of_the_tmpfs"),

@@ -21,6 +21,8 @@ AB = "a: ; @echo a > a\nb: ; @echo b > b\n"
 # By name: the makefile, files that are there, the status, and what the report says.
 CASES: Dict[str, Tuple[str, Dict[str, str], int, Tuple[str, ...]]] = {
     "list of a folder": (LISTS, {"d/k": ""}, 1, ("RACE  list", "  seen where list runs before d/a:", "    list: line 1 is `k`, and `a` after a serial build", "fix: list: d/a")),
+    "list of a recipe with a race of its own": ("all: d/a list\nd/a: ; @echo a > d/a\nlist: ; @cp d/k y & cat y > /dev/null 2>&1; wait; ls d > list\n", {"d/k": ""}, 1, (
+        "RACE  y  in list: ", "  seen where list runs before d/a:")),
     "list that nobody keeps": ("all: a b\na: ; @echo a > a\nb: ; @ls > /dev/null; echo b > b\n", {}, 0, (
         "0 pairs that conflict are in order; 1 build in other orders left the same 3 files.", "what it did in these builds (1 of 1 pairs")),
     "names that a list has shown": ("all: a b\na: ; @echo a > d/a; touch a\nb: ; @ls -s d > /dev/null; echo b > b\n", {"d/k": ""}, 0, ("1 build in other orders left the same",)),

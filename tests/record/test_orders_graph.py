@@ -9,7 +9,7 @@ from typing import Any, Dict, List, Optional, Sequence, Tuple
 import support  # noqa: F401  (it finds the modules)
 
 from record.orders.gate import Key
-from record.orders.graph import Graph
+from record.orders.graph import Graph, turning
 from record.orders.joined import join
 
 Row = Tuple[str, Sequence[str], Sequence[str], Sequence[str]]  # label, after, reads, writes
@@ -69,6 +69,11 @@ class Graphs(unittest.TestCase):
         self.assertEqual(["c", "b", "d", "a"], self.began(graph.covering([0, 0, 0b10, 0b1], {})[0]))
         graph = self.graph((None, [("a", [], [], []), ("b", [], [], []), ("c", ["a"], [], []), ("d", ["b"], [], []), ("e", ["b"], [], [])]))
         self.assertEqual(["b", "d", "e", "a", "c"], self.began(graph.covering([0, 0, 0b10, 0b1, 0b1], {})[0]))
+
+    def test_circle(self) -> None:
+        """The order has all of them."""
+        self.assertEqual([2, 0, 1], turning([0, 0, 0], [0b10, 0b01, 0]))
+        self.assertEqual([1, 0, 2], turning([0b100, 0, 0], [0, 0, 0b101]))
 
     def test_recipe_that_make_runs_by_itself(self) -> None:
         """With several jobs it comes as soon as all is over that it needs; so what it needs waits where it is to come late."""
