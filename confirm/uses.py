@@ -52,11 +52,8 @@ def paths_of(call: Call, where: str) -> list[str]:
     for place in where.split():
         text = os.fsdecode(memory_of(call.pid, call.given[int(place[-1])], LONGEST).partition(b"\0")[0])
         folder = ctypes.c_int(call.given[int(place[0])] & 0xFFFFFFFF).value if len(place) > 1 else HERE
-        try:
-            above = leads_to(call.pid, "cwd" if folder == HERE else f"fd/{folder}") if text[:1] != "/" else "/"
-        except OSError:
-            continue
-        if text:
+        above = "/" if text[:1] == "/" else leads_to(call.pid, "cwd" if folder == HERE else f"fd/{folder}")
+        if text and above:
             found.append(os.path.normpath(os.path.join(above, text)))
     return found
 

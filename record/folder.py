@@ -197,10 +197,10 @@ def write_record(folder: Path, record: Record, builds: List[Build], assumed: Ass
         record.builds.append("%03d" % number)
         write_build(folder / "builds" / ("%03d" % number), build, within.get(id(build.make.life)), record)
     record.assumptions = assumed.rows()
-    record.lucky = {example: {course.name() for course in waits} for example, waits in assumed.lucky.items()}
+    record.lucky = {example: {course.name for course in waits} for example, waits in assumed.lucky.items()}
     lucky = set().union(*assumed.lucky.values())
     record.apart = apart(lucky)
-    record.known |= {one.name() for course in lucky if course.waiter is not None for one in course.waiter.children if one.is_known}
+    record.known |= {one.name for waiter in {course.waiter for course in lucky} if waiter is not None for one in waiter.children if one.is_known}
     rewrite(folder, record)
 
 

@@ -7,22 +7,16 @@ others have this one, too.
 
 import os
 from contextlib import suppress
-from typing import Callable, Iterator, List, Set
+from typing import Callable, List, Set
 
 from record.entry import traced
-from record.orders.processes import families, shown
+from record.orders.processes import families, shown, threads_of
 
 STEP, OFTEN = 0.05, 5  # seconds between two looks; so many that are crowded, one behind the other, are enough
 WAITS = 0.12  # of that time strace waits where it is crowded
 MOST = 64  # processors of which the answer has room, whoever asks
 ANSWERS = (5, 11)  # the first strace that gives one
 RUNS = ("R", "D", "t")  # the states of who runs, or would: strace holds who is `t`
-
-
-def threads_of(pid: int) -> Iterator[int]:
-    """The threads of a process."""
-    with suppress(OSError):  # it has ended
-        yield from map(int, os.listdir("/proc/%d/task" % pid))
 
 
 def running(tracer: int) -> int:

@@ -15,7 +15,7 @@ from typing import Dict, Iterable, Iterator, List, NamedTuple, Optional, Set, Tu
 from record.trace.events import (
     ABSENT, BY_LIST, CREATED, ENTERED, FOLDER_REMOVED, HELD, LOCKED, MADE, MADE_BEFORE, OUTPUT, READ, REMOVED, SEEN, WRITTEN,
 )
-from record.trace.lives import Course, Life, Segment, before
+from record.trace.lives import Course, Life, Segment, before, forks_above
 
 MAKE, USE, LOOKED_USE = "K", "p", "q"  # a folder was made; a name below it was used, or used by who had looked for it
 KINDS = {READ: READ, SEEN: SEEN, BY_LIST: BY_LIST, ENTERED: SEEN, ABSENT: ABSENT, WRITTEN: WRITTEN, OUTPUT: OUTPUT, CREATED: CREATED, REMOVED: REMOVED,
@@ -144,5 +144,5 @@ class Frontier:
 
 def fork_of(first: Segment, second: Segment) -> Optional[Course]:
     """The process from which two segments come."""
-    ups = {id(course) for course in first[0].up()}
-    return next((course for course in second[0].up() if id(course) in ups), None)
+    above = forks_above(*second)
+    return next((course for course in first[0].up() if id(course) in above), None)

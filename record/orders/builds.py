@@ -70,7 +70,7 @@ class Plan:
     processor: int = 1  # where it is recorded
 
 
-SERIAL = Plan("serial", {}, OWN)
+SERIAL, SECOND = (Plan(name, {}, OWN) for name in ("serial", "second"))
 FLIPPED = Plan("flipped", {}, is_recorded=True, is_flipped=True)
 
 

@@ -20,7 +20,7 @@ from typing import NamedTuple
 
 from record.build.text import shown
 from record.ninja.runs import BY_NINJA, command_sum
-from record.orders.processes import Stalled, born, folder_of, parent_of
+from record.orders.processes import Stalled, born, leads_to, parent_of
 from record.orders.reported import Call, is_reported, receive
 
 Key = tuple[tuple[str, str, int], ...]  # a recipe: from the outermost make or ninja on its folder, the target, and which of those of that name it is
@@ -118,7 +118,7 @@ class Gate:
 
     def folder_of(self, make: int) -> str:
         """Where a make or ninja works."""
-        return folder_of(make)
+        return leads_to(make, "cwd")
 
     def came(self, pid: int) -> Came:
         """Whence a process comes that waits."""

@@ -11,11 +11,12 @@ from dataclasses import dataclass
 from functools import cache
 
 PATIENCE = 10.0  # seconds that killed processes have to end
-STILL = 0.3  # seconds without a sign of life, behind which a process waits for what no process of the build will do,
+STILL = 0.3  # seconds without a sign of life, behind which a process waits for what no process of the build will do; none where nobody else could,
 TIMED = 3.0  # and where it would go on by itself, which a server does for ever
 # By machine: calls that wait for something, and until some time has passed, with the place of that; no time is 0 or -1: poll, select, pselect6, ppoll, epoll_wait,
 # epoll_pwait, futex, rt_sigtimedwait.
 UNTIL = {"x86_64": {7: 2, 23: 4, 270: 4, 271: 2, 232: 3, 281: 3, 202: 3, 128: 2}, "aarch64": {72: 4, 73: 2, 22: 3, 98: 3, 137: 2}}.get(os.uname().machine, {})
+CHILDREN, READ = {"x86_64": ({61, 247}, 0), "aarch64": ({260, 95}, 63)}.get(os.uname().machine, (set[int](), -1))  # wait4, waitid; read
 SLEEPS = ("nanosleep", "hrtimer_nanosleep", "do_nanosleep")  # a process that waits for a time to pass, and not for another one
 
 
@@ -44,17 +45,13 @@ def born(pid: int) -> tuple[int, int]:
 
 
 def leads_to(pid: int, name: str) -> str:
-    """Where a link of a process leads (proc(5), `cwd`, `fd/3`), from its own root on: of one with other mounts the system names the root of a chroot, too."""
-    path, root = (os.readlink(f"/proc/{pid}/{it}") for it in (name, "root"))
-    return path.removeprefix(root.rstrip("/")) or "/"  # guard: folders-in-a-chroot
-
-
-def folder_of(pid: int) -> str:
-    """The folder in which a process works."""
+    """Where a link of a process leads (proc(5), `cwd`, `fd/3`), from its own root on: of one with other mounts the system names the root of a chroot, too. Nothing
+    where it has ended."""
     try:
-        return leads_to(pid, "cwd")
+        path, root = (os.readlink(f"/proc/{pid}/{it}") for it in (name, "root"))
     except OSError:
         return ""
+    return path.removeprefix(root.rstrip("/")) or "/"  # guard: folders-in-a-chroot
 
 
 def threads_of(pid: int) -> list[int]:
@@ -81,11 +78,12 @@ def families(root: int, but: Container[int] = ()) -> Iterator[tuple[int, list[in
             rest += children
 
 
-def is_timed(thread: int) -> bool:
-    """Whether a thread waits until some time has passed at most."""
-    call = shown(thread, "syscall").split()
-    place = UNTIL.get(int(call[0]), -1) if len(call) > 6 else -1
-    return place >= 0 and int(call[1 + place], 16) not in (0, 0xffffffff, 0xffffffffffffffff)  # guard: who-waits-until-a-time
+def patience(thread: int) -> float:
+    """How many seconds a thread that waits may be still: whether it does until some time has passed at most, or for a process of its own, or at a pipe."""
+    call, *given = [int(word, 0) for word in shown(thread, "syscall").split() if word != "running"] or [-1]
+    if call in UNTIL and given[UNTIL[call]] not in (0, 0xffffffff, 0xffffffffffffffff):  # guard: who-waits-until-a-time
+        return TIMED
+    return 0.0 if call in CHILDREN or call == READ and leads_to(thread, "fd/%d" % given[0]).startswith("pipe:") else STILL  # guard: servers-of-others
 
 
 def pulse(root: int, waiting: Container[int], held: Container[int]) -> tuple[float, list[tuple[int, str]]] | None:
@@ -101,9 +99,9 @@ def pulse(root: int, waiting: Container[int], held: Container[int]) -> tuple[flo
         for thread in threads_of(pid) if has_own else [pid]:  # guard: threads-that-run
             if state(thread) not in "SZX" or any(one in shown(thread, "wchan") for one in SLEEPS):
                 return None
-            is_until = has_own and is_timed(thread)
-            still = max(still, TIMED if is_until else STILL if has_own else 0.0)
-            found.append((thread, "" if is_until else shown(thread, "schedstat")))
+            own = patience(thread) if has_own else 0.0
+            still = max(still, own)
+            found.append((thread, "" if own == TIMED else shown(thread, "schedstat")))
     return still, found
 
 

@@ -11,7 +11,7 @@ from pathlib import Path
 from typing import Any, cast
 
 from record.folder import Record
-from record.orders.builds import FLIPPED, MANY, ONE, SERIAL, Built, Plan, Room, Running, side_by_side
+from record.orders.builds import FLIPPED, MANY, ONE, SECOND, SERIAL, Built, Plan, Room, Running, side_by_side
 from record.orders.gate import Key
 from record.orders.graph import Graph, numbers, pairs_of, placed, size, without
 from record.orders.joined import Contest, contested
@@ -82,17 +82,16 @@ class Trial:
 
     # ---------------------------------------------------------------- which builds
     def run(self, running: Running, say: Callable[[int], object]) -> None:
-        """All builds: the two that began beside the recorded one; others that say more, of which the first run beside a third serial build, where one is needed; and
-        those that cover what is left, as long as they turn round more. `say` takes how many follow."""
+        """All builds: the two that began beside the recorded one; a third serial one, where it is needed; others that say more; and those that cover what is left, as
+        long as they turn round more. `say` takes how many follow."""
         again, flipped = self.begin(running)
         plans = [*self.orders(), *self.covers(without(self.left, self.graph.turned(flipped.began))), *self.overlaps()]
-        chance = [differing(one, other) for one, other in zip(self.recorded, again.held)]  # or as it ran several recipes at once, or the copies are another place
-        is_clean = flipped.status == 0 and all(differing(one, other) <= known for one, other, known in zip(again.held, flipped.held, chance))
-        more = [replace(SERIAL, name="second")] * any(chance)
-        self.builds = 2 + len(more)
-        say(len(more) + len(plans))
-        running.begin(*more, *(early := self.next_of(plans) if is_clean else []))
-        for base in (running.result(plan.name) for plan in more):
+        is_clean = flipped.status == 0 and all(differing(one, other) <= differing(one, first) for first, one, other in zip(self.recorded, again.held, flipped.held))
+        second = running.children.keys() & {SECOND.name}
+        self.builds = 2 + len(second)
+        say(len(second) + len(plans))
+        running.begin(*(early := self.next_of(plans) if is_clean else []))
+        for base in map(running.result, second):
             if base.status == 0:  # guard: copies-among-themselves
                 self.serial, self.trees = base.held, self.room.trees(base.plan)
         self.compare(again)
@@ -121,6 +120,8 @@ class Trial:
             return self.begin_anew(running, SERIAL)
         if again.status != 0:
             raise CannotTry("of a second serial build, in a copy: " + "; ".join(again.message()))
+        if any(map(differing, self.recorded, again.held)):  # by chance, or as it ran several recipes at once, or the copies are another place
+            running.begin(SECOND)
         self.order, flipped = again.began, running.result(flip.name)
         self.note_other(flipped)
         return self.begin_anew(running, SERIAL, flip) if is_beside and self.met else (again, flipped)  # guard: names-that-both-use

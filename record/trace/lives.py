@@ -14,7 +14,7 @@ background by then, and does not wait for it again.
 from bisect import bisect_right
 from contextlib import suppress
 from dataclasses import dataclass, field
-from functools import cached_property, reduce
+from functools import cached_property, lru_cache, reduce
 from typing import Container, Dict, Iterable, Iterator, List, Optional, Set, Tuple
 
 Key = Tuple[str, str]  # an event: its kind, and a path
@@ -98,7 +98,8 @@ class Course:
     def __init__(self, life: Life) -> None:
         self.lives = [life]  # the process, and its threads
         self.parent: Optional["Course"] = None
-        self.waiter: Optional["Course"] = None  # whose child it is: of its parent, or of who started that
+        self.waiter: Optional["Course"] = None  # whose child it is: of its parent, or of who started that; and which of these
+        self.which = 0
         self.forked = 0  # it began when this segment of its parent ended
         self.is_lent = False  # its parent waits until it runs a program
         self.marks: List[int] = []  # where in the trace its later segments begin
@@ -151,6 +152,7 @@ class Course:
         """It has started a process, which is the child of `real`: itself, or who started it."""
         self.end_row(False)
         child.parent, child.waiter, child.forked, child.is_lent = self, real, self.at, is_lent
+        child.which = len(real.children)
         real.children.append(child)
         real.left += 1
         self.mark(place)
@@ -199,13 +201,15 @@ class Course:
                 self.wait(child, place, True, True)
 
     # ---------------------------------------------------------------- order
+    @cached_property
     def address(self) -> Address:
         """Where it is among all processes of the build."""
-        return (*self.waiter.address(), self.waiter.children.index(self)) if self.waiter is not None else ()
+        return (*self.waiter.address, self.which) if self.waiter is not None else ()
 
+    @cached_property
     def name(self) -> Child:
         """How it is known in another build."""
-        return self.address(), self.waiter.words if self.waiter is not None else ""
+        return self.address, self.waiter.words if self.waiter is not None else ""
 
     @cached_property
     def words(self) -> str:
@@ -220,11 +224,15 @@ class Course:
             course = course.parent
 
 
+@lru_cache(1)
+def forks_above(course: Course, number: int) -> Dict[int, int]:
+    """By process: its last segment that comes before a segment of it, or of a process below it."""
+    return {id(course): number, **{id(up.parent): up.forked for up in course.up()}}
+
+
 def before(first: Segment, second: Segment, by_luck: bool) -> bool:
     """Whether a segment has ended when another one begins; `by_luck`: in the recorded build, else in each."""
-    last, number = second
-    todo, seen = [first], {id(last): ALWAYS}
-    above = {id(last): number, **{id(up.parent): up.forked for up in last.up()}}  # for each of these its last segment that comes before `second`
+    todo, seen, above = [first], {id(second[0]): ALWAYS}, forks_above(*second)
     while todo:
         course, at = todo.pop()
         if seen.get(id(course), ALWAYS) <= at:
@@ -257,7 +265,7 @@ def apart(courses: Iterable[Course]) -> List[Set[Address]]:
             at = next((at for at, end in enumerate(row) if end <= course.forked), len(row))  # guard: one-child-at-a-time
             row[at:at + 1] = [course.waited[1]]
             rows += [set()] if at == len(rows) else []
-            rows[at].add(course.address())
+            rows[at].add(course.address)
     return rows
 
 
@@ -267,5 +275,5 @@ def known_of(first: Course, addresses: Iterable[Address], waited: Container[int]
     for address in addresses:
         with suppress(IndexError):
             course = reduce(lambda above, number: above.children[number], address, first)
-            found.update((course.name(),) if course.is_known or course.first.pid in waited else ())
+            found.update((course.name,) if course.is_known or course.first.pid in waited else ())
     return found

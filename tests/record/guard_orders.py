@@ -97,7 +97,8 @@ GUARDS: List[Guard] = [
     *guards("orders/processes.py",
         ("folders-in-a-chroot", "return path", "gate.Gates.fixes_in_a_chroot"),
         ("who-does-something-of-its-own", "has_own = False", "gate.Gates.order_while_one_sleeps"),
-        ("who-waits-until-a-time", "return False", "orders.Orders.case_wait_for_a_time_by_select", UNSAID),
+        ("who-waits-until-a-time", "if False:", "orders.Orders.case_wait_for_a_time_by_select", UNSAID),
+        ("servers-of-others", "return 0.0", "holding.Holding.child_while_a_message_is_to_come"),
         ("threads-that-run", "for thread in [pid]:", "orders.Orders.case_thread_that_goes_on", UNSAID),
     ),
 ]

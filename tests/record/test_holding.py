@@ -9,6 +9,7 @@ import sys
 import tempfile
 import unittest
 from pathlib import Path
+from threading import Timer
 from typing import Dict, List
 from unittest import mock
 
@@ -82,6 +83,14 @@ class Holding(unittest.TestCase):
     def test_child_at_which_somebody_looks_again_and_again(self) -> None:
         with mock.patch.object(holding, "LONG", 0.5):
             self.assertEqual("true", [one for one in self.ran("/bin/true & while kill -0 $!; do sleep .1; done 2> /dev/null; exit 0") if one != "sleep"][0])
+
+    def test_child_while_a_message_is_to_come(self) -> None:
+        """It comes from a process outside of the build."""
+        with tempfile.TemporaryDirectory() as room:
+            os.mkfifo(room + "/f")
+            with open(room + "/f", "r+b", 0) as message:
+                Timer(0.25, message.write, [b"x\n"]).start()
+                self.assertEqual(["head", "true", "first", "sh"], self.ran("/bin/true & head -n1 %s/f > /dev/null; wait; exit 0" % room))
 
     def test_child_that_is_killed(self) -> None:
         self.assertIn("expr", self.ran("/bin/true & sleep .1; kill -9 $!; wait; expr 1 > /dev/null; exit 0"))

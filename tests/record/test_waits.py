@@ -95,7 +95,7 @@ class Names(unittest.TestCase):
 
     def test_names(self) -> None:
         """Of another program they are others."""
-        names = [lives_of(played(line, FORK % (1, 2), FORK % (2, 3)), 3)[0].course.name() for line in (TWO[0], TWO[0].replace('["tool"]', '["tool", "x"]'))]
+        names = [lives_of(played(line, FORK % (1, 2), FORK % (2, 3)), 3)[0].course.name for line in (TWO[0], TWO[0].replace('["tool"]', '["tool", "x"]'))]
         self.assertEqual([(0, 0)] * 2, [address for address, _ in names])
         self.assertNotEqual(*names)
 
