@@ -94,10 +94,11 @@ class Frontier:
 
     def __init__(self, courses: List[Course], changed: Set[str]) -> None:
         self.changed, self.inside = changed, {id(course) for course in courses}
+        self.makes = {id(course): self.make_of(course) for course in courses}
         rows = sorted(done_by(courses, changed), key=lambda row: row.place)
         self.made = {row.path for row in rows if row.kind in MAKE + REMOVED}
         self.held = {row.path for row in rows if row.kind in HELD + LOCKED}  # guard: files-of-locks-inside
-        self.table: Dict[str, Dict[Tuple[int, int, str], Did]] = {}
+        self.table: Dict[str, Dict[int, Dict[Tuple[int, str], Did]]] = {}  # by path, and make
         self.asked: Set[Tuple[int, str]] = set()  # who has looked for which folder, or tried to make it
         self.found: Dict[Conflict, None] = {}
         for row in rows:
@@ -116,30 +117,31 @@ class Frontier:
                 is_asked = any((id(up), folder) in self.asked for up in row.course.up())  # guard: who-tries-to-make-folder
                 self.meet(row._replace(path=folder, kind=LOOKED_USE if is_asked else USE))
 
-    def is_of_make(self, course: Optional[Course]) -> bool:
-        """Whether a process from which two come is a make or ninja, or is below one inside of the recipe: what that orders is judged in its own build."""
-        if course is None or id(course) not in self.inside:
-            return True
-        above = (up.first for up in course.up() if id(up) in self.inside)
-        return any(life.is_make and life.number >= 0 or life.is_ninja for life in above)  # guard: what-make-inside-orders
+    def make_of(self, course: Course) -> int:
+        """The outermost make or ninja inside of the recipe that a process is, or is below: what that orders is judged in its own build. 0 where there is none."""
+        ups = ((id(up), up.first) for up in course.up())
+        return [0, *(own for own, life in ups if own in self.inside and (life.is_make and life.number >= 0 or life.is_ninja))][-1]
 
     def meet(self, row: Did) -> None:
         """Holds it against what was done to its path before."""
-        rows = self.table.setdefault(row.path, {})
-        gone = []
-        for key, old in rows.items():
-            is_pair = frozenset((old.kind, row.kind)) in PAIRS
-            if old.course is row.course:
-                gone += [key] if old.kind == row.kind else []
-            elif is_pair or old.kind == row.kind:
-                first, second = (old.course, old.number), (row.course, row.number)
-                if before(first, second, False):
-                    gone += [key] if old.kind == row.kind or row.kind in GIVES else []
-                elif is_pair and not self.is_of_make(fork_of(first, second)):
-                    self.found[Conflict(row.path, first, second, before(first, second, True))] = None
-        for key in gone:
-            del rows[key]
-        rows[id(row.course), row.number, row.kind] = row
+        tables, own = self.table.setdefault(row.path, {}), self.makes.get(id(row.course), 0)
+        for make, rows in tables.items():
+            if make != own or own == 0:  # guard: what-make-inside-orders
+                for key in [key for key, old in rows.items() if self.is_done(old, row)]:
+                    del rows[key]
+        tables.setdefault(own, {})[id(row.course), row.kind] = row
+
+    def is_done(self, old: Did, row: Did) -> bool:
+        """Holds one thing that was done to a path against a later one; whether all that comes behind this comes behind the first one."""
+        is_pair = frozenset((old.kind, row.kind)) in PAIRS
+        if old.course is row.course or not is_pair and old.kind != row.kind:
+            return False
+        first, second = (old.course, old.number), (row.course, row.number)
+        if before(first, second, False):
+            return old.kind == row.kind or row.kind in GIVES
+        if is_pair and id(fork_of(first, second)) in self.inside:
+            self.found[Conflict(row.path, first, second, before(first, second, True))] = None
+        return False
 
 
 def fork_of(first: Segment, second: Segment) -> Optional[Course]:
