@@ -11,7 +11,7 @@ from dataclasses import dataclass
 from functools import cache
 
 PATIENCE = 10.0  # seconds that killed processes have to end
-STILL = 0.3  # seconds without a sign of life, behind which a process waits for what no process of the build will do; none where nobody else could,
+STILL = 0.3  # seconds without a sign of life, behind which a process waits for what no process of the build will do,
 TIMED = 3.0  # and where it would go on by itself, which a server does for ever
 # By machine: calls that wait for something, and until some time has passed, with the place of that; no time is 0 or -1: poll, select, pselect6, ppoll, epoll_wait,
 # epoll_pwait, futex, rt_sigtimedwait.
@@ -78,12 +78,12 @@ def families(root: int, but: Container[int] = ()) -> Iterator[tuple[int, list[in
             rest += children
 
 
-def patience(thread: int) -> float:
-    """How many seconds a thread that waits may be still: whether it does until some time has passed at most, or for a process of its own, or at a pipe."""
+def patience(thread: int, has_held: bool) -> float:
+    """How many seconds a thread that waits may be still: whether it does until some time has passed at most, or for a child that is held, if it has one, or its pipe."""
     call, *given = [int(word, 0) for word in shown(thread, "syscall").split() if word != "running"] or [-1]
     if call in UNTIL and given[UNTIL[call]] not in (0, 0xffffffff, 0xffffffffffffffff):  # guard: who-waits-until-a-time
         return TIMED
-    return 0.0 if call in CHILDREN or call == READ and leads_to(thread, "fd/%d" % given[0]).startswith("pipe:") else STILL  # guard: servers-of-others
+    return 0.0 if has_held and (call in CHILDREN or call == READ and leads_to(thread, "fd/%d" % given[0]).startswith("pipe:")) else STILL  # guard: servers-of-others
 
 
 def pulse(root: int, waiting: Container[int], held: Container[int]) -> tuple[float, list[tuple[int, str]]] | None:
@@ -99,7 +99,7 @@ def pulse(root: int, waiting: Container[int], held: Container[int]) -> tuple[flo
         for thread in threads_of(pid) if has_own else [pid]:  # guard: threads-that-run
             if state(thread) not in "SZX" or any(one in shown(thread, "wchan") for one in SLEEPS):
                 return None
-            own = patience(thread) if has_own else 0.0
+            own = patience(thread, any(one in held for one in children) and not any(state(one) in "ZX" for one in children)) if has_own else 0.0  # guard: who-has-heard-of-a-child
             still = max(still, own)
             found.append((thread, "" if own == TIMED else shown(thread, "schedstat")))
     return still, found

@@ -219,7 +219,7 @@ class Trial:
         more = began - order if order <= known else began & known - order  # guard: recipes-that-the-record-has
         less, turn = order & known - began, -1 if built.plan.jobs == ONE else 1  # guard: which-of-two-builds-is-serial
         both = zip(("does not run", "runs, and does not in a serial build"), (less, more)[::turn])
-        text = ["the recipe of %s %s" % (key[-1][1], how) for how, keys in both for key in sorted(keys) if target_of(key) not in self.markers]
+        text = ["the recipe of %s %s" % (key[-1][1], how) for how, keys in both for key in sorted(keys) if os.path.normpath(os.path.join(*key[-1][:2])) not in self.markers]
         text += [str(difference(name, *(self.trees[number], self.room.trees(built.plan)[number])[::turn])) for number, name in names[:SHOWN]]
         built.otherwise = text[:SHOWN] if built.status == 0 else built.message()
         built.path = next((self.whole(number, name) for number, name in names), "")
@@ -364,9 +364,3 @@ def between(order: Sequence[Key], log: Sequence[Key], steps: int) -> tuple[list[
             last, left = (found[at - count], key), left - count
             found.insert(at - count, found.pop(at))
     return found, last, steps - left
-
-
-def target_of(key: Key) -> str:
-    """The path of the target of a recipe."""
-    folder, name, _ = key[-1]
-    return os.path.normpath(os.path.join(folder, name))

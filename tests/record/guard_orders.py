@@ -98,6 +98,7 @@ GUARDS: List[Guard] = [
         ("folders-in-a-chroot", "return path", "gate.Gates.fixes_in_a_chroot"),
         ("who-does-something-of-its-own", "has_own = False", "gate.Gates.order_while_one_sleeps"),
         ("who-waits-until-a-time", "if False:", "orders.Orders.case_wait_for_a_time_by_select", UNSAID),
+        ("who-has-heard-of-a-child", "own = patience(thread, any(one in held for one in children)) if has_own else 0.0", "holding.Looking.child_of_which_its_parent_is_to_hear"),
         ("servers-of-others", "return 0.0", "holding.Holding.child_while_a_message_is_to_come"),
         ("threads-that-run", "for thread in [pid]:", "orders.Orders.case_thread_that_goes_on", UNSAID),
     ),

@@ -17,7 +17,7 @@ import support  # noqa: F401  (where the recorder is)
 
 from record.orders import holding
 from record.orders.holding import WAITED, Ends, Held
-from record.orders.processes import Stalled
+from record.orders.processes import STILL, Stalled, children_of, pulse, words_of
 
 POLLS = "exec python3 -c 'import os, select; out, into = os.pipe(); os.fork() or os._exit(0); os.close(into); select.select([out], [], [], 4)'"  # at most so long
 TRACED = ["strace", "-f", "-q", "--seccomp-bpf", "-e", "trace=execve,wait4"]
@@ -125,6 +125,17 @@ class Looking(unittest.TestCase):
             self.assertFalse(held.serve(root, listener, lambda: 0.2))
         os.kill(root, signal.SIGKILL)
         os.waitpid(root, 0)
+
+    def test_child_of_which_its_parent_is_to_hear(self) -> None:
+        """It has ended, beside one that is held."""
+        for first, states, still in (("", "S", 0.0), ("os.fork() or os._exit(0); ", "SZ", STILL)):
+            text = "import os; %sheld = os.fork() or os.execvp('sleep', ['sleep', '9']); os.waitpid(held, 0)" % first
+            with self.subTest(states), subprocess.Popen([sys.executable, "-c", text]) as parent:
+                while sorted(words_of(one)[0] for one in children_of(parent.pid)) != [*states] or words_of(parent.pid)[0] != "S":
+                    holding.time.sleep(0.01)
+                held = {one for one in children_of(parent.pid) if words_of(one)[0] == "S"}
+                self.assertEqual(still, (pulse(parent.pid, (), held) or (None,))[0])
+                os.kill(held.pop(), signal.SIGKILL)
 
     def test_end_of_which_nobody_has_heard(self) -> None:
         """Its parent is to end, and the kernel has reported that since."""
