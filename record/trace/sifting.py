@@ -26,7 +26,8 @@ LOOKING = (
     + r'|wait4\(-1, [^\n]*WNOHANG[^\n]* = (?:0|-1 ECHILD [^\n]*)(?=\n|$)'  # guard: waits-that-find-child
     + r'|fcntl\(\d+<[^/\n][^>\n]*>, F_DUPFD(?:_CLOEXEC|)\b[^\n]*= ' + RESULT  # guard: doubles-of-files
     + r'|(?:fcntl|ioctl)\(\d+(?:<[^>\n]*>|)(?:\(deleted\)|), (?:F_[GS]ETF[DL]|FIOCLEX|TCGETS|TIOCG\w+)\b[^\n]*= ' + RESULT + ")")  # guard: not-sifted-where-they-say
-NAMES = r"(?:creat|rename\w*|unlink\w*|rmdir|mkdir\w*|mknod\w*|link\w*|symlink\w*|truncate|[fl]?ch(?:mod|own)\w*|utime\w*|futimesat)\("
+TARGET = r'symlink\w*\("(?:[^"\\]|\\.)*",'  # what a link says is no name that changes
+NAMES = r"(?:(?:creat|rename\w*|unlink\w*|rmdir|mkdir\w*|mknod\w*|link\w*|truncate|[fl]?ch(?:mod|own)\w*|utime\w*|futimesat)\(|" + TARGET + ")"
 FLAGS = r"O_(?:WRONLY|RDWR|CREAT|TRUNC)"
 # A name may be relative to a folder of the system: strace shows which file was opened, and where a call with a folder starts from.
 CHANGING = (

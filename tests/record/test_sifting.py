@@ -42,6 +42,7 @@ class Skips(unittest.TestCase):
     def test_look_where_somebody_changes_a_relative_name(self) -> None:
         for change in ('openat(AT_FDCWD</usr/lib>, "x", O_WRONLY|O_CREAT, 0666) = 3</usr/lib/x>', 'openat(3</w>, "../usr/lib/x", O_WRONLY) = 4</usr/lib/x>',
                        'openat(AT_FDCWD</w>, "link/x", O_WRONLY) = 3</usr/lib/x>', 'mkdirat(3</usr/lib>, "x", 0777) = 0', 'unlinkat(3</usr>, "x", 0) = 0',
+                       'symlinkat("a", 3</usr>, "x") = 0',
                        'mkdir("../usr/x", 0777) = 0', 'chdir("/usr/lib") = 0', 'chdir("../../usr/lib") = 0', "fchdir(3</usr/lib>) = 0"):
             self.assertEqual(2, self.kept([self.LOOK, "8 " + change], ["/w"]), change)
 
@@ -76,8 +77,8 @@ class Skips(unittest.TestCase):
             self.assertEqual(calls, self.kept([change, self.LOOK], ["/w"]), change)
 
     def test_changes_elsewhere_change_nothing_there(self) -> None:
-        others = ['8 unlink("/w/usr/x") = 0', '8 openat(AT_FDCWD</usr>, "x", O_RDONLY) = 3</usr/x>']
-        self.assertEqual(2, self.kept([self.LOOK, *others], ["/w"]))
+        others = ['8 unlink("/w/usr/x") = 0', '8 symlink("/usr/x", "a") = 0', '8 symlinkat("/usr/x", 3</w>, "a") = 0', '8 openat(AT_FDCWD</usr>, "x", O_RDONLY) = 3</usr/x>']
+        self.assertEqual(len(others), self.kept([self.LOOK, *others], ["/w"]))
 
     def test_look_below_a_top(self) -> None:
         self.assertEqual(1, self.kept([self.LOOK], ["/usr/lib"]))
