@@ -8,8 +8,8 @@
     bench/packages/run.py --race race        all of them, with the program race on PATH: an hour
 
 As root on Debian 12, with its sources among those of apt (deb-src): what a package is built with gets installed. A row has the seconds of the plain build,
-and of race-record with builds in other orders, or with --once where jobs are given; the peak memory of one of its processes; and what it said. The last row
-has the median. Nothing here is a test.
+and of race-record with builds in other orders, or with --once where jobs are given; the peak memory of one of its processes; and what it said, or which command
+failed. The last row has the median. Nothing here is a test.
 """
 from __future__ import annotations
 
@@ -43,11 +43,16 @@ LARGER = {package.name: package for package in (
 VERDICT = re.compile(r"^(?:SAFE|RACE|NO VERDICT|WARM)\b", re.M)
 
 
+class Fails(Exception):
+    """A command failed, such as one for sources that the archive has no more."""
+
+
 def quietly(folder: Path, *words: str) -> None:
-    """Runs a command that has to end well."""
+    """Runs a command that has to end well (`Fails`)."""
     ran = subprocess.run(words, cwd=folder, stdin=subprocess.DEVNULL, stdout=subprocess.PIPE, stderr=subprocess.STDOUT, check=False)
     if ran.returncode:
-        sys.exit("%s ended with %d:\n%s" % (" ".join(words), ran.returncode, ran.stdout.decode(errors="replace")[-2000:]))
+        print(ran.stdout.decode(errors="replace")[-2000:], file=sys.stderr)
+        raise Fails("%s ended with %d" % (" ".join(words), ran.returncode))
 
 
 def configured(package: Package, room: Path) -> Path:
@@ -90,10 +95,14 @@ def main() -> None:
     packages = PACKAGES | LARGER
     for name in args.packages or packages:
         with tempfile.TemporaryDirectory(prefix="race-bench-", dir=args.folder) as room:
-            plain, recorded = measured(packages[name], Path(room), race, args.jobs)
+            try:
+                plain, recorded = measured(packages[name], Path(room), race, args.jobs)
+            except Fails as fault:
+                row("`%s`" % name, "", "", "", "", str(fault))
+                continue
         ratios.append(recorded.seconds / plain.seconds)
         row("`%s`" % name, "%.1f" % plain.seconds, "%.1f" % recorded.seconds, "%.1f" % ratios[-1], "%.0f" % recorded.memory, *VERDICT.findall(recorded.out.decode(errors="replace"))[-1:])
-    row("median", "", "", "%.1f" % statistics.median(ratios), "", "")
+    row("median", "", "", "%.1f" % statistics.median(ratios) if ratios else "", "", "")
 
 
 if __name__ == "__main__":
