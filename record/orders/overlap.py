@@ -10,13 +10,13 @@ import os
 import socket
 import time
 from collections import Counter
-from collections.abc import Container, Iterable, Sequence
+from collections.abc import Container, Iterable, Mapping, Sequence
 from dataclasses import dataclass, field
 from functools import partial
 from typing import NamedTuple
 
 from record.build.tasks import grouped
-from record.orders.gate import Gate, Key
+from record.orders.gate import LAST, Came, Gate, Key
 from record.orders.reported import Call, filter_of, go_on, reports_of
 
 # By machine: the numbers of calls that make a folder, each with the place of its path, and of those by which a process goes on: rmdir, unlinkat, openat, exit_group.
@@ -37,8 +37,8 @@ class Meet(NamedTuple):
 
 @dataclass
 class Overlap(Gate):
-    """`meets`: who meets where. Others run side by side only when all that is over, and those that are held when what they were held for is. Where the folder stays,
-    those that meet come side by side."""
+    """`meets`: who meets where. Where the folder stays, they come side by side; before them what they need does, and all else when that is over. Those that are held go
+    on when what they were held for is over."""
 
     meets: Sequence[Meet] = ()
     held: dict[int, tuple[Key, int, int]] = field(default_factory=dict)  # by process: its recipe, the descriptor by which the kernel reports it, and the report
@@ -47,7 +47,7 @@ class Overlap(Gate):
     since: float = 0.0  # when the last one was held
 
     def __post_init__(self) -> None:
-        self.most, self.of = self.at_once, grouped((key, meet) for meet in self.meets for key in meet[:2])  # by recipe: where it meets others
+        self.of = grouped((key, meet) for meet in self.meets for key in meet[:2])  # by recipe: where it meets others
         self.around = {key[:length] for key in self.of for length in range(1, len(key))}  # recipes inside of which these run
 
     def let_go(self, pid: int, channel: socket.socket) -> None:
@@ -94,6 +94,13 @@ class Overlap(Gate):
         above = (key[:length] for length in range(1, len(key) + 1))
         return super().may_begin(key) and (not held or key in self.around or any(not held.isdisjoint(meet[:2]) for one in above for meet in self.of.get(one, ())))
 
+    def beside(self, rows: Mapping[int, Came], free: Sequence[int]) -> Sequence[int]:
+        left = self.of.keys() - self.over
+        if left and (not self.held or any(meet.goes for meet in self.meets)):
+            first = LAST if self.held or not left.isdisjoint(self.running) else max(self.places.get(key, self.unknown) for key in left)
+            free = [pid for pid in free if self.places.get(rows[pid].key, self.unknown) > first]  # guard: nothing-else-while-two-meet
+        return super().beside(rows, free)
+
     def busy(self) -> set[Key]:
         return {one for one in self.running if not any(own[:len(one)] == one for own, _, _ in self.held.values())}
 
@@ -102,13 +109,11 @@ class Overlap(Gate):
         return any(self.goes_on(one) or self.may_begin(one.key) for one in map(self.came, pids))
 
     def turn(self, root: int) -> bool:
-        is_over = self.over.issuperset(key for meet in self.meets for key in meet[:2])
-        self.at_once = self.most if is_over or self.held and not any(meet.goes for meet in self.meets) else 1  # guard: nothing-else-while-two-meet
         if not self.held:
             return super().turn(root)
         self.hear_makes()
         free = [pid for pid, (own, _, _) in self.held.items() if all(self.over.issuperset(meet[:1 + meet.goes]) for meet in self.of[own])]  # guard: until-the-first-has-ended
-        if not free or len(self.busy()) >= self.most:
+        if not free or len(self.busy()) >= self.at_once:
             if self.may_go(filter(self.is_named, self.waiting)):
                 return super().turn(root)
             if not self.is_idle(root):

@@ -56,7 +56,7 @@ class Trial:
     is_whole: bool = True  # all that was to be tried out was, and no build came to something that it did not when it was made again
 
     def __post_init__(self) -> None:
-        self.turned = [0] * len(self.graph.tasks)  # for each recipe the earlier ones that have run behind it
+        self.turned, self.planned = ([0] * len(self.graph.tasks) for _ in range(2))  # for each recipe the earlier ones that have run behind it; that were to in a cover
         self.records: list[Graph] = []  # what builds in other orders recorded
         self.contests: dict[tuple[int, str, bool], set[int]] = {}  # by who makes a folder first, and whether it goes again: who has met it there
         self.met_builds = 0
@@ -71,9 +71,9 @@ class Trial:
 
     @property
     def left(self) -> list[int]:
-        """Those of them that an order may turn round: both recipes begin at the gate, or one does, and make runs the other one by itself."""
+        """Those of them that an order may turn round, and that none was to: both recipes begin at the gate, or one does, and make runs the other one by itself."""
         begin, alone = sum(1 << self.graph.keys[key] for key in self.graph.keys.keys() & {*self.order}), self.graph.expanded
-        return [some & (begin | alone if begin >> at & 1 else begin if alone >> at & 1 else 0) for at, some in enumerate(self.untried)]
+        return [some & (begin | alone if begin >> at & 1 else begin if alone >> at & 1 else 0) for at, some in enumerate(without(self.untried, self.planned))]
 
     @property
     def goes_on(self) -> bool:
@@ -82,8 +82,7 @@ class Trial:
 
     # ---------------------------------------------------------------- which builds
     def run(self, running: Running, say: Callable[[int], object]) -> None:
-        """All builds: the two that began beside the recorded one; a third serial one, where it is needed; others that say more; and those that cover what is left, as
-        long as they turn round more. `say` takes how many follow."""
+        """All builds: the two that began beside the recorded one; a third serial one, where it is needed; others that say more; covers. `say` takes how many follow."""
         again, flipped = self.begin(running)
         plans = [*self.orders(), *self.covers(without(self.left, self.graph.turned(flipped.began))), *self.overlaps()]
         is_clean = flipped.status == 0 and all(differing(one, other) <= differing(one, first) for first, one, other in zip(self.recorded, again.held, flipped.held))
@@ -97,10 +96,8 @@ class Trial:
         self.compare(again)
         self.take([flipped, *(running.result(plan.name) for plan in early)])
         self.try_all(plans)
-        left = 0
-        while size(self.left) != left and self.goes_on:
-            left = size(self.left)
-            self.try_all(self.covers(self.left))
+        while self.goes_on and (plans := self.covers(self.left)):
+            self.try_all(plans)
         self.try_all([*self.overlaps()])
         if not self.shown and self.doubted():
             self.compare(*side_by_side(self.room, [SERIAL]))
@@ -165,8 +162,11 @@ class Trial:
         found: list[Plan] = []
         while any(left) and len(found) < AT_ONCE // 2:
             places, apart = self.graph.covering(left, self.after)
+            turned = self.graph.turned(sorted(places, key=places.__getitem__, reverse=True))
+            if not any(one & some for one, some in zip(left, turned)):
+                break
             found.append(Plan("cover%d-%d" % (self.builds, len(found)), places, after=self.after, apart=apart, at_once=os.cpu_count() or 1, is_recorded=self.graph.may_show_more(left)))
-            left = without(left, self.graph.turned(sorted(places, key=places.__getitem__, reverse=True)))
+            left, self.planned = without(left, turned), [one | some for one, some in zip(self.planned, turned)]
         return found
 
     def try_all(self, plans: list[Plan]) -> None:

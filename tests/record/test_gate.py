@@ -10,7 +10,7 @@ from typing import Callable, Dict, List, Sequence
 
 import support
 
-from record.orders.gate import Gate, Key
+from record.orders.gate import Came, Gate, Key
 from record.orders.overlap import Meet, Overlap
 from record.orders.processes import end
 from record.watch.lay import BELOW, BIND, Watch, leave, makes_of, mount
@@ -146,6 +146,15 @@ class Overlaps(unittest.TestCase):
         gate.held.clear()
         gate.over.add(one)
         self.assertTrue(gate.may_begin(other))
+
+    def test_what_runs_beside(self) -> None:
+        """Before two meet, what they need; beside them nothing, and all when both are over."""
+        one, other, need, rest = ((("/p", name, 1),) for name in "abcd")
+        gate = Overlap(Path("nowhere"), {need: 4, one: 3, other: 2, rest: 1}, at_once=4, meets=[Meet(one, other, "/p/d", False)])
+        rows = {pid: Came(9, "", key, (0, pid)) for pid, key in ((1, need), (2, rest))}
+        for running, over, beside in (({need}, set(), [1]), ({one}, set(), []), (set(), {one}, [1]), (set(), {one, other}, [1, 2])):
+            gate.running, gate.over = running, over
+            self.assertEqual(beside, gate.beside(rows, [1, 2]))
 
 
 class Places(Dict[Key, float]):

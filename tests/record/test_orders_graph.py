@@ -70,6 +70,11 @@ class Graphs(unittest.TestCase):
         graph = self.graph((None, [("a", [], [], []), ("b", [], [], []), ("c", ["a"], [], []), ("d", ["b"], [], []), ("e", ["b"], [], [])]))
         self.assertEqual(["b", "d", "e", "a", "c"], self.began(graph.covering([0, 0, 0b10, 0b1, 0b1], {})[0]))
 
+    def test_cover_that_begins_with_the_one_of_most_pairs(self) -> None:
+        """Three are to run before the first one, and behind two that need it."""
+        graph = self.graph((None, [("a", [], [], []), *((name, [], [], []) for name in "xyz"), ("g", ["a"], [], []), ("h", ["a"], [], [])]))
+        self.assertEqual(["a", "g", "h", "x", "y", "z"], self.began(graph.covering([0, 0b1, 0b1, 0b1, 0b1110, 0b1110], {})[0]))
+
     def test_circle(self) -> None:
         """The order has all of them."""
         self.assertEqual([2, 0, 1], turning([0, 0, 0], [0b10, 0b01, 0]))
@@ -81,6 +86,8 @@ class Graphs(unittest.TestCase):
         logs: List[List[Key]] = [[(("/p", name, 1),) for name in names] for names in ("gu", "ug", "u")]
         self.assertEqual([[0, 0, 0], [0, 0, 0b11], [0, 0, 0], [0, 0, 0b1]], [*map(graph.turned, logs), graph.turned(logs[1], False)])
         self.assertEqual(["u", "g", "e"], self.began(graph.covering([0, 0, 0b10], {})[0]))
+        graph = self.graph((None, [("g", [], [], []), ("e", ["g"], [], []), ("u", [], [], []), ("v", [], [], [])]), kinds={"e": {"expanded": True}})
+        self.assertEqual(["u", "v", "g", "e"], self.began(graph.covering([0, 0, 0b10, 0b10], {})[0]))
         graph = self.graph((None, [("g", [], [], []), ("e", ["g"], [], []), ("f", ["g"], [], []), ("h", ["f"], [], [])]), kinds={name: {"expanded": True} for name in "efh"})
         self.assertEqual([0, 0, 0, 0], graph.turned(logs[0]))
 
