@@ -168,7 +168,7 @@ class Graph:
         for first, second in pairs:
             front[first] |= 1 << second
         most = max(range(len(left)), key=lambda at: size([left[at]]))  # or this one first of all, with what it needs
-        order = min((turning(front, held, head) for head in (0, held[most] | 1 << most)), key=lambda one: size(without(left, self.turned([self.tasks[at].key or () for at in one]))))
+        order = min((turning(front, held), turning(front, held, self.needs([most], after))), key=lambda one: size(without(left, self.turned([self.tasks[at].key or () for at in one]))))
         place, apart = {at: place for place, at in enumerate(order)}, dict[Key, set[Key]]()
         for pair in pairs:
             early, late = (self.tasks[at].key or () for at in sorted(pair, key=place.__getitem__))
@@ -242,10 +242,10 @@ def pairs_of(sets: Sequence[int]) -> Iterator[Pair]:
     yield from ((first, second) for second, some in enumerate(sets) for first in numbers(some))
 
 
-def turning(front: Sequence[int], held: Sequence[int], head: int = 0) -> list[int]:
+def turning(front: Sequence[int], held: Sequence[int], head: Sequence[int] = ()) -> list[int]:
     """The tasks in an order, `head` first of all. `held`: for each task those that begin before it; `front`: those that are to. None begins before one that is to run in
     front of it, unless nothing else can: then one does that is needed by the task for which the fewest pairs are given up."""
-    order, rest = [*numbers(head)], (1 << len(held)) - 1 & ~head
+    order, rest = [*head], (1 << len(held)) - 1 & ~sum(1 << at for at in head)
 
     def given_up(at: int) -> int:
         need = held[at] | 1 << at

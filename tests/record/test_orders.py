@@ -329,6 +329,15 @@ class Orders(unittest.TestCase):
                 found = project.record(once=False)
         self.assertEqual((0, True), (found.status, "note: two builds in one order differ in list" in found.text()), found.text())
 
+    def test_pairs_that_no_build_turns_round(self) -> None:
+        """One cover is to turn them round, and no further one."""
+        settle, made = Trial.settle, []
+        for counts in (True, False):
+            with mock.patch.object(Trial, "settle", lambda trial, built: settle(trial, built) if counts or built.plan.is_flipped else None):
+                with support.Project({"Makefile": "all: p a b c d e\nb: p\np a b c d e: ; @touch $@\n"}) as project:
+                    made.append(project.record(once=False).record["orders"]["made"])
+        self.assertEqual([3, 3], made)
+
     def test_what_differs_once_where_two_meet(self) -> None:
         """The same holds; and it is not tried out then."""
         step = Trial.step
