@@ -37,6 +37,7 @@ SMALL: Dict[str, Small] = {
     "project_below_dev": Small("race", "all: a b\na: ; echo a > a\nb: ; cp a b\n", below="/dev/shm"),
     # what make itself looks at in its first pass
     "look_of_a_leaf": Small("safe", "all: t gen\nt: p ; touch t\ngen: ; echo x > p; touch gen\n", {"p": "p", "t": "t"}, OLD + "t"),
+    "read_behind_a_write_and_a_read": Small("race", "all: ; @(sleep .2; cat f > c) & sh -c 'sh -c \"echo x > f\"; cat f > b'; wait; touch all\n"),
     "look_behind_its_writer": Small("race", "all: gen t\nt: p ; touch t\ngen: ; echo x > p; touch gen\n", {"p": "p", "t": "t"}, OLD + "t"),
     # numbers of jobs
     "inner_make_of_one_job": Small("race", "JOBS = 1\nall: ; $(MAKE) -j$(JOBS) -f in.mk\n", {"in.mk": IN_ORDER}),
