@@ -8,7 +8,7 @@ as `./configure && make` does, all of it is there and up to date when make begin
 import os
 import re
 from contextlib import suppress
-from typing import Iterator, Set, Tuple
+from typing import Set, Tuple
 
 from record import machine
 from record.make.owners import Owners
@@ -62,12 +62,7 @@ def made_by(status: str) -> Tuple[Set[str], Set[str]]:
                 made.add(path)  # guard: names-that-it-says
             if kind in ("files", "headers"):
                 made.update(machine.realpath(os.path.join(sources, one)) for one in templates or [name + ".in"])
-            if kind == "headers":
-                all_stamps.update(stamps_in(os.path.dirname(path)))
+            with suppress(OSError):
+                around = machine.listdir(os.path.dirname(path)) if kind == "headers" else ()
+                all_stamps.update(os.path.join(os.path.dirname(path), one) for one in around if STAMP.fullmatch(one))
     return made | all_stamps, all_stamps
-
-
-def stamps_in(folder: str) -> Iterator[str]:
-    """The stamps of headers in a folder."""
-    with suppress(OSError):
-        yield from (os.path.join(folder, name) for name in machine.listdir(folder) if STAMP.fullmatch(name))

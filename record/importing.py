@@ -128,10 +128,6 @@ class Imported:
             self.record.holes.append("%s was absent, and something else made it while the build ran, so its recipe did not run: let nothing else build here, and record again" % path)
         self.builds.sort(key=lambda build: start_of(build.make.life))  # guard: when-a-make-began
 
-    def first_makefiles(self) -> Set[str]:
-        """Those that a make begins with which no recipe runs: without it there is no such build."""
-        return {self.names.find(make.folder, name, True).path for make in self.makes if not is_inside(make.life) for start in make.words.read[:1] for name in start[:1]}
-
     def finish(self, out: str, warm: bool) -> None:
         """What is known when all builds are: whether they were cold."""
         record, names = self.record, self.names
@@ -145,7 +141,8 @@ class Imported:
             part = came_with(record.first, there, statuses, written)
             record.up_to_date = sorted(part - written)
             before = {path: kind for path, kind in names.before.items() if not is_gone(moves, path, last)}
-            there = there - part | left_behind(record.first, before, self.lives, self.builds, out, names) - self.first_makefiles() - configured
+            first = {names.find(make.folder, name, True).path for make in self.makes if not is_inside(make.life) for start in make.words.read[:1] for name in start[:1]}  # else there is no build
+            there = there - part | left_behind(record.first, before, self.lives, self.builds, out, names) - first - configured
         alone = there if stand_alone(there, self.builds, self.ninjas) else set()
         record.warm = sorted(there - alone)
         start = sorted(there if warm else alone)

@@ -83,13 +83,13 @@ def explore(room: Room, record: Record, out: Path, race: str, most: int, running
     after = fixes(graph, race, room.top / "tasks")
     trial = Trial(room, graph, [held_by(Path(top), str(out)) for top in room.tops], after, most, {*record.markers}, record.late is not None, record.late, record.outside)
     trial.run(running, lambda count: say_how_many(count, record, "; one more for each step where something differs"))
-    if graph.pairs() and not (any(trial.turned) or trial.shown or after):  # guard: builds-that-turn-nothing-round
+    if any(graph.free) and not (any(trial.turned) or trial.shown or after):  # guard: builds-that-turn-nothing-round
         raise CannotTry("no two recipes change places there, as where a script calls make with -j1")
     for other in trial.records:
         join(graph, other)
     found = trial.result()
-    if not found["untried"]:
-        pass_questions(graph)  # guard: what-is-tried-out-is-judged-no-more
+    if trial.is_sure:
+        pass_questions(graph, trial.untried)  # guard: what-is-tried-out-is-judged-no-more
     keep(graph)
     return found
 
@@ -100,7 +100,7 @@ def fixes(graph: Graph, race: str, text: Path) -> dict[Key, set[Key]]:
     for number, build in graph.builds.items():
         with open(text, "w", encoding="utf-8") as file:
             for row in graph.rows[number]:
-                file.write(json.dumps(judged(build, row)) + "\n")
+                file.write(json.dumps(judged(graph, number, row)) + "\n")
         verdict = judge(race, text, build["folder"])
         if verdict.refused:
             raise CannotTry("no verdict on build %s" % number)

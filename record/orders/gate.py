@@ -101,7 +101,7 @@ class Gate:
             self.read[path] = self.read.get(path, 0) + len(lines)
             for found in filter(None, map(OF_CHILD.match, lines.split(b"\n"))):
                 if found[3]:
-                    self.note_end(int(path.name.partition(".")[0]), self.targets.get(int(found[3]), ""))
+                    self.note_end(self.open.get((int(path.name.partition(".")[0]), self.targets.get(int(found[3]), "")), ()))
                 else:
                     self.targets[int(found[2])] = shown(os.fsdecode(found[1]))  # guard: names-as-a-record-has-them
 
@@ -128,11 +128,10 @@ class Gate:
             self.come_from[pid] = Came(make, name, (*above, (folder, name, self.counts.get((*above, (folder, name, 0)), 0) + 1)), born(pid))
         return self.come_from[pid]
 
-    def note_end(self, make: int, name: str) -> None:
+    def note_end(self, key: Key) -> None:
         """A recipe has ended."""
-        if (make, name) in self.open:
-            self.over.add(self.open[make, name])
-            self.running.discard(self.open[make, name])
+        self.over.add(key)
+        self.running.discard(key)
 
     def is_idle(self, root: int) -> bool:
         """Whether nothing else can happen in the build: the first of two looks may show what has happened since the last one."""
@@ -143,8 +142,8 @@ class Gate:
         return self.waiting
 
     def goes_on(self, came: Came) -> bool:
-        """Whether a process is that of a further line of a recipe."""
-        return (came.make, came.name) in self.open
+        """Whether a process is that of a further line of a recipe: one of another rule with two colons comes when the last one has ended."""
+        return self.open.get((came.make, came.name)) in self.running  # guard: recipes-of-one-name
 
     def may_begin(self, key: Key) -> bool:
         """Whether a recipe waits for no other one besides."""
@@ -180,16 +179,16 @@ class Gate:
 
     def begin(self, pid: int) -> None:
         """Lets a process begin."""
-        make, name, key, _ = self.came(pid)
-        if (make, name) not in self.open:
+        came = self.came(pid)
+        key = self.owners[pid] = self.open[came.make, came.name] if self.goes_on(came) else came.key
+        if key not in self.running:
             self.began.append(key)
-            self.open[make, name] = key
+            self.open[came.make, came.name] = key
             self.running.add(key)
             self.counts[(*key[:-1], (*key[-1][:2], 0))] = key[-1][2]
             self.come_from = {one: came for one, came in self.come_from.items() if came.key != key}  # the next of that name is another recipe
-        self.owners[pid] = self.open[make, name]
         wait_for_tick()
-        self.hear_end(pid, lambda: None if pid in self.targets else self.note_end(make, name))  # of a ninja the recipe has ended then
+        self.hear_end(pid, lambda: None if pid in self.targets else self.note_end(key))  # of a ninja the recipe has ended then
         self.let_go(pid, self.waiting.pop(pid))
 
     def let_go(self, pid: int, channel: socket.socket) -> None:

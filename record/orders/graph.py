@@ -88,13 +88,14 @@ class Graph:
             ended[label] = earlier | (1 << len(self.tasks)) - (1 << at)
 
     def key_of(self, number: str, label: str, outer: Key) -> Optional[Key]:
-        """The recipe of a label, or of a part of one, as the gate knows it; all rules with two colons of one target are one recipe there."""
+        """The recipe of a label, or of a part of one, as the gate knows it; one that make runs by itself has no number there."""
         found = self.about(number, label)
-        if found.get("kind") not in ("recipe", "part") or found.get("colons", 0) > 1:
+        if found.get("kind") not in ("recipe", "part"):
             return None
-        folder, name, count = self.builds[number]["folder"], found.get("sum") or found["target"], 1
+        step = -1 if found.get("expanded") else 1  # guard: recipes-without-number
+        folder, name, count = self.builds[number]["folder"], found.get("sum") or found["target"], min(step + 1, 1)
         while (*outer, (folder, name, count)) in self.keys:
-            count += 1
+            count += step
         return (*outer, (folder, name, count - 1 if found.get("left") and count > 1 else count))
 
     def recipe_of(self, number: str, label: str) -> int:
@@ -102,7 +103,7 @@ class Graph:
         labels, found = self.builds[number]["labels"], self.about(number, label)
         if found.get("kind") != "part":
             return self.at[number, label]
-        return next((self.at[number, other] for other, one in labels.items() if one["kind"] == "recipe" and one["target"] == found["target"]), self.at[number, label])
+        return next((self.at[number, other] for other, one in labels.items() if one["kind"] == "recipe" and all(one.get(it) == found.get(it) for it in ("target", "colons"))), self.at[number, label])
 
     def leaves(self) -> set[str]:
         """All that recipes leave."""
@@ -139,13 +140,9 @@ class Graph:
         """Whether two tasks are recipes that nothing orders."""
         return bool(self.free[max(one, other)] >> min(one, other) & 1)
 
-    def pairs(self) -> int:
-        """How many pairs of recipes nothing orders."""
-        return size(self.free)
-
     def free_pairs(self) -> tuple[int, str]:
-        """The same, and the first of them."""
-        return self.pairs(), " and ".join(self.tasks[at].label for at in next(pairs_of(self.free), ()))
+        """How many pairs of recipes nothing orders, and the first of them."""
+        return size(self.free), " and ".join(self.tasks[at].label for at in next(pairs_of(self.free), ()))
 
     def turned(self, began: Sequence[Key], has_jobs: bool = True) -> list[int]:
         """For each task those that came before it in the serial build, and behind it in another one, of which this is the log. Of a recipe that make runs by itself, as

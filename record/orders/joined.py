@@ -10,7 +10,7 @@ from typing import Any, NamedTuple
 
 from record.folder import replace
 from record.kinds import is_of_folder
-from record.orders.graph import Graph
+from record.orders.graph import Graph, numbers, pairs_of
 
 
 class Contest(NamedTuple):
@@ -29,17 +29,25 @@ def join(graph: Graph, other: Graph) -> None:
         rows = {row["task"]: row for row in other.rows.get(there, ())}
         for row in graph.rows[number]:
             about, own = graph.about(number, row["task"]), other.about(there, row["task"]) if row["task"] in rows else {}
-            also = judged(other.builds[there], rows[row["task"]]) if own and about.get("command") == own.get("command") else row  # guard: parts-of-other-numbers
+            also = judged(other, there, rows[row["task"]]) if own and about.get("command") == own.get("command") else row  # guard: parts-of-other-numbers
             leaves = chain(*(one.get("leaves", ()) for one in (about, own) if about["kind"] == "recipe"))
             writes = {*row["writes"], *also["writes"], *leaves}  # guard: what-one-task-alone-writes-in-each
             row["reads"], row["writes"] = sorted({*row["reads"], *also["reads"]} - writes), sorted(writes)
 
 
-def pass_questions(graph: Graph) -> None:
-    """Leaves out of the tasks of a record what other orders have tried out. They turn no process round for which its recipe does not wait."""
-    for number, build in graph.builds.items():
-        left = {path for row in graph.rows[number] if graph.about(number, row["task"]).get("left") for path in (*row["reads"], *row["writes"])}
-        graph.rows[number] = [judged(build, row, left) for row in graph.rows[number]]
+def pass_questions(graph: Graph, untried: Sequence[int]) -> None:
+    """Leaves out of the tasks of a record what other orders have tried out. What two recipes name stays where they have not run both ways: for each recipe the earlier ones
+    are given. And orders turn no process round for which its recipe does not wait."""
+    names, kept = ([set[str]() for _ in graph.tasks] for _ in range(2))
+    for number, rows in graph.rows.items():
+        for row in rows:
+            names[graph.recipe_of(number, row["task"])] |= {graph.whole(number, path) for path in (*row["reads"], *row["writes"])}
+    for one, other in pairs_of(untried):
+        for at in numbers(1 << one | 1 << other | graph.tasks[one].around | graph.tasks[other].around):
+            kept[at] |= names[one] & names[other]  # guard: questions-of-pairs-not-turned
+    for number, rows in graph.rows.items():
+        left = {graph.whole(number, path) for row in rows if graph.about(number, row["task"]).get("left") for path in (*row["reads"], *row["writes"])}
+        graph.rows[number] = [judged(graph, number, row, left | kept[graph.recipe_of(number, row["task"])]) for row in rows]
 
 
 def keep(graph: Graph) -> None:
@@ -48,11 +56,11 @@ def keep(graph: Graph) -> None:
         replace(graph.record / "builds" / number / "tasks", "".join(json.dumps(row, ensure_ascii=False, separators=(",", ":")) + "\n" for row in rows))
 
 
-def judged(build: Mapping[str, Any], row: Mapping[str, Any], kept: Container[str] = ()) -> dict[str, Any]:
+def judged(graph: Graph, number: str, row: Mapping[str, Any], kept: Container[str] = ()) -> dict[str, Any]:
     """A task of a build without what is tried out in other orders, other than some names: that a folder is there, and the names for which make alone asks."""
-    asks = build["labels"].get(row["task"], {}).get("asks", ())
-    return {**row, "reads": [path for path in row["reads"] if path in kept or not is_of_folder(path) and path not in asks],
-            "writes": [path for path in row["writes"] if path in kept or not is_of_folder(path)]}  # guard: what-a-left-process-meets
+    asks = graph.about(number, row["task"]).get("asks", ())
+    return {**row, "reads": [path for path in row["reads"] if not is_of_folder(path) and path not in asks or graph.whole(number, path) in kept],
+            "writes": [path for path in row["writes"] if not is_of_folder(path) or graph.whole(number, path) in kept]}  # guard: what-a-left-process-meets
 
 
 def contested(graph: Graph, records: Sequence[Graph]) -> list[Contest]:

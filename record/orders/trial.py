@@ -61,13 +61,18 @@ class Trial:
         self.contests: dict[tuple[int, str, bool], set[int]] = {}  # by who makes a folder first, and whether it goes again: who has met it there
         self.met_builds = 0
         self.serial, self.trees = self.recorded, [*map(Path, self.room.tops)]  # what a serial build left, and where that stands
-        self.unstable: list[set[str]] = [set() for _ in self.serial]  # names in which serial builds differ
+        self.unstable: set[tuple[int, str]] = set()  # in which serial builds differ: the tree, and the name in it
         self.passing: list[list[re.Pattern[str]]] = [[] for _ in self.serial]
 
     @property
     def untried(self) -> list[int]:
         """The pairs that no other order has tried yet: for each recipe the earlier ones."""
         return without(self.graph.apart(self.after), self.turned)
+
+    @property
+    def is_sure(self) -> bool:
+        """Whether what differs by the order of two recipes has been seen, where they ran both ways."""
+        return not any(self.graph.free) or self.is_whole and all(one.has_all for one in self.records) and self.graph.leaves().isdisjoint(self.whole(*one) for one in self.unstable)  # guard: holes-of-other-orders
 
     @property
     def left(self) -> list[int]:
@@ -199,14 +204,14 @@ class Trial:
         """Takes in another serial build."""
         self.order = again.began
         for number, (one, other) in enumerate(zip(self.serial, again.held)):
-            self.unstable[number] |= differing(one, other)
+            self.unstable |= {(number, name) for name in differing(one, other)}
             self.passing[number] += passing(one.keys() - other.keys(), other.keys() - one.keys())
         self.room.forget(again.plan)
 
     def names(self, held: Sequence[dict[str, str]]) -> list[tuple[int, str]]:
         """What a build left otherwise: the tree, and the name in it."""
-        return [(number, name) for number, (one, other) in enumerate(zip(self.serial, held)) for name in sorted(differing(one, other) - self.unstable[number])
-                if name in self.serial[number] or not any(it.fullmatch(name) for it in self.passing[number])]  # guard: names-that-a-serial-build-leaves
+        return [(number, name) for number, (one, other) in enumerate(zip(self.serial, held)) for name in sorted(differing(one, other))
+                if (number, name) not in self.unstable and (name in self.serial[number] or not any(it.fullmatch(name) for it in self.passing[number]))]  # guard: names-that-a-serial-build-leaves
 
     def whole(self, number: int, name: str) -> str:
         """The path of a name in a tree."""
@@ -270,8 +275,7 @@ class Trial:
             return
         self.is_whole = False  # guard: what-differs-once-is-not-tried-out
         if once.status == 0 and self.goes_on:  # guard: what-was-not-made-again
-            for number, name in self.names(once.held):
-                self.unstable[number].add(name)
+            self.unstable.update(self.names(once.held))
         elif once.status is not None:
             how = "failed, and did not when it was made again" if self.goes_on else "came to something else, and no more may be built"
             self.failed.append("a build in another order %s: %s" % (how, "; ".join(once.otherwise)))
@@ -340,11 +344,10 @@ class Trial:
     # ---------------------------------------------------------------- what is kept
     def result(self) -> dict[str, Any]:
         """What a record keeps of it."""
-        unstable = sorted(self.whole(number, name) for number, found in enumerate(self.unstable) for name in found)
-        return {"builds": self.others, "failed": self.failed, "made": self.builds, "pairs": self.graph.pairs(), "turned": size(self.turned), "whole": self.is_whole,
-                "untried": bool(self.graph.pairs()) and (not self.is_whole or not all(one.has_all for one in self.records) or any(self.untried) or not self.graph.leaves().isdisjoint(unstable)),  # guard: holes-of-other-orders
+        return {"builds": self.others, "failed": self.failed, "made": self.builds, "pairs": size(self.graph.free), "turned": size(self.turned), "whole": self.is_whole,
+                "untried": not self.is_sure or any(self.untried),
                 "files": sum(text.startswith("file") for held in self.serial for text in held.values()),
-                "unstable": unstable, "apart": [self.whole(*one) for one in self.names(self.recorded)], "doubted": self.doubted(), "met": sorted(filter(os.path.lexists, self.met)), "shown": [*map(self.shown_labels, self.shown)]}
+                "unstable": sorted(self.whole(*one) for one in self.unstable), "apart": [self.whole(*one) for one in self.names(self.recorded)], "doubted": self.doubted(), "met": sorted(filter(os.path.lexists, self.met)), "shown": [*map(self.shown_labels, self.shown)]}
 
     def shown_labels(self, one: Shown) -> dict[str, Any]:
         """A difference, by the build and the labels of its two recipes."""

@@ -40,6 +40,8 @@ CASES: Dict[str, Tuple[str, Dict[str, str], int, Tuple[str, ...]]] = {
     "build that fails": ("all: b/x u\nb/x: ; @mkdir -p b; echo x > b/x\nu: ; @cp src b/u && echo u > u\n", {"src": ""}, 1, ("  seen where u runs before b/x:", "    the build fails with status 2", "cp: ")),
     "folder that two make": ("all: a b\na b:\n\t@test -d d || mkdir d\n\t@echo > d/$@; echo > $@\n", {}, 1, (
         "RACE  b", "  seen where b runs beside a:", "    the build fails with status 2", "  fix: b: a")),
+    "later rule with two colons": ("all: t x\nt::\n\t@touch a\n\t@touch b\nt:: ; @test -d e || mkdir e && touch e/t\nx: ; @test -d e || mkdir e && touch e/x x\n", {}, 1, ("  seen where x runs beside t@rule2:",)),
+    "later rule with two colons behind one that starts nothing": ("all: t x\nt:: ; @:\nt:: ; @test -d e || mkdir e && touch e/t\nx: ; @test -d e || mkdir e && touch e/x x\n", {}, 1, ("  seen where x runs beside t@rule2:",)),
     "folders at which two meet": ("all: a x b y\na b: ; @test -d d || mkdir d && touch $@\nx y: ; @test -d e || mkdir e && touch $@\n", {}, 1, (
         "RACE  b", "  seen where b runs beside a:", "RACE  y", "  seen where y runs beside x:", "2 races on 2 files.")),
     "order that only a build has in which two meet": (
@@ -125,6 +127,14 @@ class Orders(unittest.TestCase):
         with support.Project({"Makefile": makefile}) as project:
             found = project.record(options=("--orders", "4"), once=False)
         self.assertEqual((2, True), (found.status, "a build in another order came to something else, and no more may be built: bad: is there" in found.text()), found.text())
+
+    def test_pair_that_no_build_turns_round(self) -> None:
+        """What both look at is judged; what others do is tried out."""
+        makes = "@$(if $(wildcard %s),,$(shell mkdir -p %s))"
+        d, e = (makes % (one, one) for one in "de")
+        with support.Project({"Makefile": "all: a b c\na: ; %stouch d/a a\nb: ; %s%stouch d/b e/b b\nc: a ; %stouch e/c c\n" % (d, d, e[1:], e)}) as project:
+            found = project.record(options=("--orders", "2"), once=False)
+        self.assertEqual((1, True, True), (found.status, "that the folder e is there" in found.text(), "\n1 race on 1 file." in found.text()), found.text())
 
     def test_folder_behind_a_whole_link(self) -> None:
         with support.Project({"Makefile": "all: a b\na b: ; @test -d l/d || mkdir l/d && touch $@\n", "r/k": ""}) as project:
@@ -306,7 +316,7 @@ class Orders(unittest.TestCase):
         made_again = Trial.made_again
 
         def made(trial: Trial, *plans: Plan) -> List[Built]:
-            trial.unstable[0].add("list")
+            trial.unstable.add((0, "list"))
             return [replace(one, otherwise=[]) for one in made_again(trial, *plans)]
 
         with mock.patch.object(Trial, "made_again", made), mock.patch("record.orders.builds.have_own_ports", return_value=False), support.Project({"Makefile": LISTS, "d/k": ""}) as project:

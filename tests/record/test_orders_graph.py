@@ -9,7 +9,7 @@ from typing import Any, Dict, List, Optional, Sequence, Tuple
 import support  # noqa: F401  (it finds the modules)
 
 from record.orders.gate import Key
-from record.orders.graph import Graph, turning
+from record.orders.graph import Graph, size, turning
 from record.orders.joined import join
 
 Row = Tuple[str, Sequence[str], Sequence[str], Sequence[str]]  # label, after, reads, writes
@@ -38,16 +38,21 @@ class Graphs(unittest.TestCase):
 
     def test_pairs(self) -> None:
         graph = self.graph((None, [("a", [], [], []), ("b", [], [], []), ("c", ["a"], [], [])]))
-        self.assertEqual(2, graph.pairs())
+        self.assertEqual(2, size(graph.free))
 
     def test_makes_inside(self) -> None:
         """A recipe is ordered with those that run inside it, and those of two makes by the recipes around them."""
         graph = self.graph((None, [("a", [], [], []), ("b", [], [], [])]), ({"build": "001", "task": "a"}, [("x", [], [], []), ("y", [], [], [])]),
                            ({"build": "001", "task": "b"}, [("z", [], [], [])]))
         self.assertEqual([(("/p", "a", 1),), (("/p", "a", 1), ("/p", "x", 1)), (("/p", "a", 1), ("/p", "y", 1)), (("/p", "b", 1),), (("/p", "b", 1), ("/p", "z", 1))], [*graph.keys])
-        self.assertEqual(7, graph.pairs())
+        self.assertEqual(7, size(graph.free))
         self.assertEqual(("001", "a", "b"), graph.together((("/p", "a", 1), ("/p", "x", 1)), (("/p", "b", 1), ("/p", "z", 1))))
         self.assertEqual([0, 0, 0b10, 0, 0], graph.apart({(("/p", "b", 1),): {(("/p", "a", 1),)}}))  # x and y alone
+
+    def test_part_of_a_later_rule_with_two_colons(self) -> None:
+        rows: List[Row] = [("t", [], [], []), ("p", ["t"], [], []), ("t@rule2", ["p"], [], [])]
+        graph = self.graph((None, rows), kinds={"t": {"colons": 1}, "p": {"kind": "part", "target": "t", "colons": 2}, "t@rule2": {"target": "t", "colons": 2}})
+        self.assertEqual((2, [(("/p", "t", 1),), (("/p", "t", 2),)]), (graph.recipe_of("001", "p"), [*graph.keys]))
 
     def test_order_of_what_runs_inside(self) -> None:
         """A recipe has the place of the first that runs inside it: that waits for it."""
