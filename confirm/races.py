@@ -100,9 +100,7 @@ def choice(number: int, race: Race, graph: Graph) -> Chosen:
     folder, sides = about["folder"], []
     for side, recipe in zip(SIDES, (race.first.recipe, race.second.recipe)):
         label = about["labels"].get(recipe.label, {})
-        kind, sum_ = label.get("kind", ""), label.get("sum")
-        own = (it.key for it in graph.tasks if it.build == race.build and it.key is not None and it.key[-1][:2] == (folder, sum_ or recipe.target))
-        key = graph.tasks[graph.at[race.build, recipe.label]].key or next(own, None) or ()  # all rules with two colons of a target are one recipe
+        kind, key = label.get("kind", ""), graph.tasks[graph.recipe_of(race.build, recipe.label)].key or ()
         sides.append(Held(side, recipe.target, folder, kind in ("recipe", "part"), key, graph.at[race.build, recipe.label], kind == "part"))
     path = file_in(about, race.path)
     whole = os.path.normpath(os.path.join(folder, path))
