@@ -9,7 +9,6 @@ from confirm.failed import STATUS
 from confirm.races import CannotConfirm, Chosen
 from confirm.reach import Reach
 from confirm.schedules import Schedule, serial_order, tries
-from record.orders.trees import Difference
 from confirm.trial import Left, Trial, errors_of, how_ended, some
 
 
@@ -24,7 +23,7 @@ class Finding:
     number: int = 0
     status: int | None = 0
     errors: list[str] = field(default_factory=list)
-    differences: list[Difference] = field(default_factory=list)
+    differences: list[str] = field(default_factory=list)
     builds: int = 0
     reached: int = 0
     stuck: int = 0
@@ -109,7 +108,7 @@ class Search:
         """Notes what differs besides, the first time that something does, and which race may do that."""
         if self.finding.others or not found:
             return
-        self.finding.others = how_ended(left.status, errors_of(left.built)) if STATUS in found else [str(left.how[it]) for it in sorted(found)]
+        self.finding.others = how_ended(left.status, errors_of(left.built)) if STATUS in found else [left.how[it] for it in sorted(found)]
         others = ((number, race) for number, race in enumerate(self.trial.races, 1) if number != self.race.number)
         can = (number for number, race in others if Reach(self.trial.tasks, race).blame(found, left.files, left.built.output).own)
         self.finding.other_race = next(can, 0)

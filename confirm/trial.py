@@ -18,7 +18,7 @@ from confirm.schedules import Schedule
 from record.orders.builds import MANY, OWN, Built, Plan
 from record.orders.gate import Key
 from record.orders.graph import Graph, placed
-from record.orders.trees import Difference, difference, differing, passing, remove
+from record.orders.trees import difference, differing, passing, remove
 from report.model import Race
 
 SERIAL, PARALLEL = "serial", "parallel"  # the first build, and the last of the others
@@ -35,7 +35,7 @@ class Left:
 
     built: Built
     gate: Meeting
-    how: dict[str, Difference] = field(default_factory=dict)
+    how: dict[str, str] = field(default_factory=dict)
 
     @property
     def status(self) -> int | None:
@@ -134,7 +134,7 @@ class Trial:
         """A build with a schedule, and what differs in it."""
         left = self.left(schedule.text(race), self.plan(race, schedule), race, schedule)
         found = self.differs(left)
-        left.how = {it: difference(it, self.tree(SERIAL), self.tree(PARALLEL)) for it in sorted(found - {STATUS})}
+        left.how = {it: f"{it}: {difference(self.tree(SERIAL) / it, self.tree(PARALLEL) / it)}" for it in sorted(found - {STATUS})}
         return left, found
 
     def tree(self, name: str) -> Path:

@@ -43,7 +43,7 @@ from record.processor import Processor
 from record.progress import Progress
 from record.report import Judged, colours, read_json, report
 from record.trace.classes import shown_as_numbers, traced
-from record.trace.unfollowed import Older
+from record.trace.unfollowed import run_older
 from record.trace.pipe import Pipe
 from record.trace.sifting import sift
 from record.watch.lay import Watch, makes_of, why_silent
@@ -106,13 +106,13 @@ def refuse_silent(word: str) -> None:
             raise Missing(SILENT % (path, why))
 
 
-def enter(processor: Processor, watch: Watch, older: Older, heard: object, held: Set[signal.Signals]) -> None:
+def enter(processor: Processor, watch: Watch, held: Set[signal.Signals]) -> None:
     """What the process does first that becomes strace. `held`: the signals that it does not hear."""
     processor.enter()
     if watch.covered:
         watch.lay()
-    older.enter(heard)
-    for one in STOPPING[1:]:
+    run_older()
+    for one in STOPPING:
         if signal.getsignal(one) is not signal.SIG_IGN:
             signal.signal(one, signal.SIG_DFL)
     for one in UNHEARD:
@@ -139,13 +139,13 @@ def run_build(words: List[str], spool: Path, tops: List[str], watch: Watch, proc
     began = time.monotonic()
     interrupts: List[int] = []  # the build hears them too, and may go on all the same
     old = signal.getsignal(signal.SIGINT)
-    heard = old if old in (signal.SIG_IGN, signal.SIG_DFL) else signal.SIG_DFL
-    signal.signal(signal.SIGINT, lambda number, _: interrupts.append(number))
-    older, pipe = Older(), Pipe(spool)
+    if old is not signal.SIG_IGN:
+        signal.signal(signal.SIGINT, lambda number, _: interrupts.append(number))
+    pipe = Pipe(spool)
     with ThreadPoolExecutor(4) as pool:
         words = STRACE + processor.words() + ["-o", str(pipe.path), "--"] + words
         held = cast(Set[signal.Signals], signal.pthread_sigmask(signal.SIG_BLOCK, STOPPING))  # until what has begun would be ended  # guard: signal-when-build-has-just-begun
-        process = subprocess.Popen(words, env=env, close_fds=False, preexec_fn=lambda: enter(processor, watch, older, heard, held))  # what the caller has opened for the build stays open  # guard: descriptors-of-caller
+        process = subprocess.Popen(words, env=env, close_fds=False, preexec_fn=lambda: enter(processor, watch, held))  # what the caller has opened for the build stays open  # guard: descriptors-of-caller
         watch.note(process.pid)
         ended, filled = threading.Event(), threading.Event()
         progress = Progress(expected, process.pid)

@@ -7,6 +7,7 @@ import os
 import tempfile
 from collections.abc import Callable, Iterator, Sequence
 from contextlib import closing, contextmanager
+from functools import partial
 from pathlib import Path
 from typing import Any
 
@@ -70,7 +71,7 @@ def clock(seconds: float) -> str:
     return "about %.0f seconds" % seconds if seconds > 1 else "a second or less"
 
 
-def say_how_many(count: int, record: Record, more: str) -> None:
+def say_how_many(record: Record, more: str, count: int) -> None:
     """Says how many builds will follow, and of what kind."""
     many, each = ("s", " each") if count > 1 else ("", "")
     if count:
@@ -80,9 +81,9 @@ def say_how_many(count: int, record: Record, more: str) -> None:
 def explore(room: Room, record: Record, out: Path, race: str, most: int, running: Running) -> dict[str, Any]:
     """Builds in other orders; what the record keeps of them."""
     graph = Graph(out)
-    after = fixes(graph, race, room.top / "tasks")
-    trial = Trial(room, graph, [held_by(Path(top), str(out)) for top in room.tops], after, most, {*record.markers}, record.late is not None, record.late, record.outside)
-    trial.run(running, lambda count: say_how_many(count, record, "; one more for each step where something differs"))
+    after, say = fixes(graph, race, room.top / "tasks"), partial(say_how_many, record, "; one more for each step where something differs")
+    trial = Trial(room, graph, [held_by(Path(top), str(out)) for top in room.tops], after, most, say, {*record.markers}, record.late is not None, record.late, record.outside)
+    trial.run(running)
     if any(graph.free) and not (any(trial.turned) or trial.shown or after):  # guard: builds-that-turn-nothing-round
         raise CannotTry("no two recipes change places there, as where a script calls make with -j1")
     for other in trial.records:

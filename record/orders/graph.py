@@ -157,6 +157,17 @@ class Graph:
             found[at] = left & self.free[at]
         return found
 
+    def last_first(self, after: Mapping[Key, set[Key]]) -> list[Key]:
+        """The recipes as they begin where the last one always does of those that wait."""
+        held, left, rest = self.held(after), (1 << len(self.tasks)) - 1, [*range(len(self.tasks))]
+        order, waiting = list[int](), list[int]()
+        while rest or waiting:
+            waiting += [at for at in rest if not held[at] & left]
+            rest = [at for at in rest if held[at] & left]
+            order.append(waiting.pop() if waiting else rest.pop(0))  # of a circle the first
+            left &= ~(1 << order[-1])
+        return [self.tasks[at].key or () for at in order]
+
     def covering(self, left: Sequence[int], after: Mapping[Key, set[Key]]) -> tuple[dict[Key, float], dict[Key, set[Key]]]:
         """An order that turns round many of some pairs; and which recipe waits for which so that these keep it where others run side by side."""
         front, held, pairs = [0] * len(self.tasks), self.held(after), [*pairs_of(left)]

@@ -8,7 +8,6 @@ import re
 import shutil
 import subprocess
 from collections.abc import Iterable
-from dataclasses import dataclass
 from pathlib import Path
 
 from record.ninja.manifest import OWN
@@ -91,17 +90,6 @@ def passing(ones: Iterable[str], others: Iterable[str]) -> list[re.Pattern[str]]
     return [re.compile(it) for it in sorted(found)]
 
 
-@dataclass(frozen=True)
-class Difference:
-    """A name that a parallel build left in another way than the serial one, and how."""
-
-    name: str
-    how: str
-
-    def __str__(self) -> str:
-        return f"{self.name}: {self.how}"
-
-
 def first_lines(serial: bytes, parallel: bytes) -> str:
     """The first line that differs, where both are text of few lines."""
     if b"\0" in serial + parallel or len(serial) + len(parallel) > CHUNK:
@@ -115,20 +103,19 @@ def first_lines(serial: bytes, parallel: bytes) -> str:
     return "the ends of its lines differ"
 
 
-def difference(name: str, serial: Path, parallel: Path) -> Difference:
-    """How a name differs between two trees."""
-    one, other = serial / name, parallel / name
+def difference(one: Path, other: Path) -> str:
+    """How what a parallel build left under a name, `other`, differs from what the serial one did."""
     if not os.path.lexists(other):
-        return Difference(name, "is missing")
+        return "is missing"
     if not os.path.lexists(one):
-        return Difference(name, "is there, and is not after a serial build")
+        return "is there, and is not after a serial build"
     if all(it.is_file() and not it.is_symlink() for it in (one, other)):
         was, got = one.read_bytes(), other.read_bytes()
-        return Difference(name, first_lines(was, got) if was != got else f"has mode {mode_of(other)}, and {mode_of(one)} after a serial build")
+        return first_lines(was, got) if was != got else f"has mode {mode_of(other)}, and {mode_of(one)} after a serial build"
     kinds = [digest(it).partition(" ")[0] for it in (other, one)]
     if kinds[0] != kinds[1]:
-        return Difference(name, f"is a {kinds[0]}, and a {kinds[1]} after a serial build")
-    return Difference(name, "leads elsewhere" if kinds[0] == "link" else f"has mode {mode_of(other)}, and {mode_of(one)} after a serial build")
+        return f"is a {kinds[0]}, and a {kinds[1]} after a serial build"
+    return "leads elsewhere" if kinds[0] == "link" else f"has mode {mode_of(other)}, and {mode_of(one)} after a serial build"
 
 
 def mode_of(path: Path) -> str:

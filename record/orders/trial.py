@@ -43,12 +43,12 @@ class Trial:
     recorded: list[dict[str, str]]  # what the recorded build left
     after: dict[Key, set[Key]]  # which recipe waits for which besides: what ends the conflicts
     most: int
+    say: Callable[[int], object]  # takes how many builds follow
     markers: set[str]  # files that say that a folder is there: which of the recipes runs that make one depends on the order
     is_parallel: bool = False  # a make of the recorded build ran several recipes at once
     late: set[str] | None = None  # what was changed since then; nothing where nobody knows
     outside: set[str] = field(default_factory=set)  # names outside of the project that the recorded build changed
     met: set[str] = field(default_factory=set)  # of these those that another build touched, too: their names are not drawn
-    order: list[Key] = field(default_factory=list)  # recipes as they begin in a serial build
     builds: int = 0
     others: int = 0  # builds in other orders that left the same
     shown: list[Shown] = field(default_factory=list)
@@ -60,6 +60,8 @@ class Trial:
         self.records: list[Graph] = []  # what builds in other orders recorded
         self.contests: dict[tuple[int, str, bool], set[int]] = {}  # by who makes a folder first, and whether it goes again: who has met it there
         self.met_builds = 0
+        self.begun, self.plans = list[Plan](), list[Plan]()  # builds in other orders that have begun, and more that are to follow
+        self.order = [key for key, at in self.graph.keys.items() if not self.graph.expanded >> at & 1]  # recipes as they begin in a serial build
         self.serial, self.trees = self.recorded, [*map(Path, self.room.tops)]  # what a serial build left, and where that stands
         self.unstable: set[tuple[int, str]] = set()  # in which serial builds differ: the tree, and the name in it
         self.passing: list[list[re.Pattern[str]]] = [[] for _ in self.serial]
@@ -86,21 +88,23 @@ class Trial:
         return self.builds < self.most and all(one.recipes for one in self.shown)
 
     # ---------------------------------------------------------------- which builds
-    def run(self, running: Running, say: Callable[[int], object]) -> None:
-        """All builds: the two that began beside the recorded one; a third serial one, where it is needed; others that say more; covers. `say` takes how many follow."""
+    def run(self, running: Running) -> None:
+        """All builds: the two that began beside the recorded one; a third serial one, where it is needed; others that say more; covers."""
         again, flipped = self.begin(running)
-        plans = [*self.orders(), *self.covers(without(self.left, self.graph.turned(flipped.began))), *self.overlaps()]
-        is_clean = flipped.status == 0 and all(differing(one, other) <= differing(one, first) for first, one, other in zip(self.recorded, again.held, flipped.held))
+        one = [Plan("one", placed(self.order), ONE, self.after)] * self.is_parallel  # guard: jobs-of-the-recorded-build
+        later = [*one, *self.covers(without(self.left, self.graph.turned(flipped.began))), *self.overlaps()]
         second = running.children.keys() & {SECOND.name}
-        self.builds = 2 + len(second)
-        say(len(second) + len(plans))
-        running.begin(*(early := self.next_of(plans) if is_clean else []))
+        self.builds += len(second)
+        self.say(len(second) + len(later))
+        self.plans += later
+        if flipped.status == 0 and all(differing(one, other) <= differing(one, first) for first, one, other in zip(self.recorded, again.held, flipped.held)):
+            self.begin_next(running)
         for base in map(running.result, second):
             if base.status == 0:  # guard: copies-among-themselves
                 self.serial, self.trees = base.held, self.room.trees(base.plan)
         self.compare(again)
-        self.take([flipped, *(running.result(plan.name) for plan in early)])
-        self.try_all(plans)
+        self.take([flipped, *(running.result(plan.name) for plan in self.begun)])
+        self.try_all(self.plans)
         while self.goes_on and (plans := self.covers(self.left)):
             self.try_all(plans)
         self.try_all([*self.overlaps()])
@@ -108,7 +112,8 @@ class Trial:
             self.compare(*side_by_side(self.room, [SERIAL]))
 
     def begin(self, running: Running) -> tuple[Built, Built]:
-        """The second serial build, and the flipped one: those that ran beside the recorded build, where they count. `CannotTry` where a second build fails."""
+        """The second serial build, and the flipped one: those that ran beside the recorded build, where they count; others begin meanwhile, such as covers of what the
+        flipped one is not to turn round. `CannotTry` where a second build fails."""
         is_beside = SERIAL.name in running.children
         flip = FLIPPED if is_beside and not self.after else replace(FLIPPED, name="fixed", after=self.after)
         if not is_beside:
@@ -116,6 +121,10 @@ class Trial:
         elif self.after:  # it began before anybody knew the fixes
             running.close(FLIPPED.name)
             running.begin(flip)
+        self.builds, self.begun, self.planned = 2, [], [0] * len(self.planned)
+        self.plans = [*self.orders(), *self.covers(without(self.left, self.graph.turned(self.graph.last_first(self.after))))]
+        self.say(len(self.plans))
+        self.begin_next(running)
         again = running.result(SERIAL.name)
         if again.status != 0 and not self.room.has_net:
             self.room.has_net = True  # guard: builds-that-need-other-machines
@@ -135,14 +144,16 @@ class Trial:
             self.room.forget(plan)
         return self.begin(running)
 
+    def begin_next(self, running: Running) -> None:
+        """Begins some of the builds that are to follow."""
+        running.begin(*(some := self.next_of(self.plans)))
+        self.begun += some
+
     def orders(self) -> list[Plan]:
-        """What a look finds may depend on several: builds that turn round each pair alone, and where there are many, one in which all users come first. Where the
-        recorded build ran several recipes at once, also one with one job: make goes through targets in another order then."""
+        """What a look finds may depend on several: builds that turn round each pair alone, and where there are many, one in which all users come first."""
         pairs = [pair[::-1] for pair in pairs_of(self.left)] if 1 < size(self.left) <= FEW else []
         orders = [self.graph.beside(*pair) for pair in pairs] or filter(None, [self.graph.users_first()])
-        found = [Plan("alone%d" % number, places, after=self.after) for number, places in enumerate(orders)]
-        found += [Plan("one", placed(self.order), ONE, self.after)] * self.is_parallel  # guard: jobs-of-the-recorded-build
-        return found
+        return [Plan("alone%d" % number, places, after=self.after) for number, places in enumerate(orders)]
 
     def note_other(self, flipped: Built) -> None:
         """Takes in what the flipped build changed: names outside of the project, and since recipes could run at once: what is alike in both does not go by jobs."""
@@ -225,7 +236,7 @@ class Trial:
         less, turn = order & known - began, -1 if built.plan.jobs == ONE else 1  # guard: which-of-two-builds-is-serial
         both = zip(("does not run", "runs, and does not in a serial build"), (less, more)[::turn])
         text = ["the recipe of %s %s" % (key[-1][1], how) for how, keys in both for key in sorted(keys) if os.path.normpath(os.path.join(*key[-1][:2])) not in self.markers]
-        text += [str(difference(name, *(self.trees[number], self.room.trees(built.plan)[number])[::turn])) for number, name in names[:SHOWN]]
+        text += [name + ": " + difference(*(trees[number] / name for trees in (self.trees, self.room.trees(built.plan))[::turn])) for number, name in names[:SHOWN]]
         built.otherwise = text[:SHOWN] if built.status == 0 else built.message()
         built.path = next((self.whole(number, name) for number, name in names), "")
         self.records += self.read(built) if built.plan.is_recorded and not built.plan.is_flipped else []

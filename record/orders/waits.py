@@ -37,7 +37,7 @@ def races_of(record: Path, race: str) -> set[tuple[str, str, str, str]]:
 def try_waits(room: Room, record: Record, out: Path, race: str, most: int, meanwhile: Callable[[], object]) -> Record:
     """The record that counts: with what is known of its waits, or another one with a race that is not in it. `meanwhile`: what is done as they are built."""
     plans = [Plan("held%d" % number, {}, OWN, is_recorded=True, ends=frozenset(row), processor=number + 2) for number, row in enumerate(record.apart[:min(MOST, most)])]
-    say_how_many(len(plans), record, ", in which processes are held at their end")
+    say_how_many(record, ", in which processes are held at their end", len(plans))
     races = races_of(out, race) if plans else set()
     with closing(Running(room)) as running:
         running.begin(*plans)

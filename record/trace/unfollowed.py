@@ -7,10 +7,10 @@ older way, which is traced: such as CMake, whose loop of events asks for io_urin
 
 import ctypes
 import errno
-import platform
-import signal
+import os
 import struct
-from typing import Any
+
+from record.watch.lay import LIBC
 
 # The kernel's numbers for machines whose new calls have the numbers of all others: the machine's own, and that of its 32 bits.
 MACHINES = {"x86_64": (0xC000003E, 0x40000003), "i686": (0x40000003,), "aarch64": (0xC00000B7, 0x40000028), "armv7l": (0x40000028,), "riscv64": (0xC00000F3,),
@@ -30,19 +30,9 @@ def filter_of(machine: str) -> bytes:
     return b"".join(struct.pack("=HBBI", *step) for step in steps) if kinds else b""
 
 
-class Older:
-    """Makes the process that calls `enter`, and all that it starts, run as on a kernel without these calls."""
-
-    def __init__(self) -> None:
-        self.text = filter_of(platform.machine())
-        self.prctl = ctypes.CDLL(None).prctl
-
-    def enter(self, heard: Any) -> None:
-        """For the process that becomes strace; it hears an interrupt so. Where the system takes no filter, strace has none either, and sees all calls."""
-        signal.signal(signal.SIGINT, heard)
-        if not self.text:
-            return
-        kept = ctypes.create_string_buffer(self.text, len(self.text))
-        program = struct.pack("@HP", len(self.text) // 8, ctypes.addressof(kept))
-        self.prctl(NO_NEW_RIGHTS, ctypes.c_ulong(1), ctypes.c_ulong(0), ctypes.c_ulong(0), ctypes.c_ulong(0))
-        self.prctl(SECCOMP, ctypes.c_ulong(FILTER), program, ctypes.c_ulong(0), ctypes.c_ulong(0))  # guard: calls-without-names-do-not-run
+def run_older() -> None:
+    """Makes this process, and all that it starts, run as on a kernel without these calls. Where the system takes no filter, strace has none either, and sees all."""
+    text = filter_of(os.uname().machine)
+    kept = ctypes.create_string_buffer(text, len(text))
+    LIBC.prctl(NO_NEW_RIGHTS, *map(ctypes.c_ulong, (1, 0, 0, 0)))
+    LIBC.prctl(SECCOMP, ctypes.c_ulong(FILTER), struct.pack("@HP", len(text) // 8, ctypes.addressof(kept)), ctypes.c_ulong(0), ctypes.c_ulong(0))  # guard: calls-without-names-do-not-run

@@ -9,7 +9,7 @@ from pathlib import Path
 
 from confirm.schedules import Points, inner
 from confirm.uses import is_it
-from record.orders.trees import Difference, difference, passing
+from record.orders.trees import difference, passing
 
 
 class Parts(unittest.TestCase):
@@ -43,7 +43,7 @@ class Parts(unittest.TestCase):
             (serial / "gone").touch()
             os.symlink("text", serial / "link")
             os.symlink("bytes", parallel / "link")
-            found = [difference(it, serial, parallel) for it in ("text", "bytes", "gone", "link")]
+            found = [difference(serial / it, parallel / it) for it in ("text", "bytes", "gone", "link")]
         wanted = ["line 2 is `three`, and `two` after a serial build", "other bytes (11 bytes, 9 after a serial build)",
                   "is missing", "leads elsewhere"]
-        self.assertEqual([Difference(*it) for it in zip(("text", "bytes", "gone", "link"), wanted)], found)
+        self.assertEqual(wanted, found)

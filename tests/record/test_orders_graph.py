@@ -61,6 +61,12 @@ class Graphs(unittest.TestCase):
         places, _ = graph.covering([0, 0, 1, 0], {})
         self.assertEqual(places[("/p", "b", 1),], places[("/p", "b", 1), ("/p", "x", 1)])
 
+    def test_last_that_waits(self) -> None:
+        """What comes last begins first, also of those that come when others have run."""
+        graph = self.graph((None, [("a", [], [], []), ("b", [], [], []), ("c", ["a"], [], []), ("d", ["b"], [], [])]))
+        self.assertEqual(["b", "d", "a", "c"], [key[-1][1] for key in graph.last_first({})])
+        self.assertEqual(["a", "c", "b", "d"], [key[-1][1] for key in graph.last_first({(("/p", "b", 1),): {(("/p", "c", 1),)}})])
+
     def test_covers(self) -> None:
         """The order turns round what is wanted, with what that needs first, and so it stays where the rest runs side by side."""
         graph = self.graph((None, [("a", [], [], []), ("n", [], [], []), ("b", ["n"], [], []), ("c", [], [], [])]))
