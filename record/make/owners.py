@@ -6,7 +6,7 @@ import re
 from bisect import bisect
 from dataclasses import dataclass, field
 from functools import cached_property
-from typing import Dict, Iterable, Iterator, List, Set
+from typing import Dict, Iterable, Iterator, List, Optional, Set
 
 from record.build.parts import divide
 from record.build.tasks import Job
@@ -17,6 +17,12 @@ from record.trace.lives import Life
 
 MAGIC = re.compile(r"[*?\[]")
 LOOSE = re.compile(r"\\.|\[[!^]?\]?[^\]/]*\]|\[")  # what stands for one sign in a pattern of `glob`: more names fit `?`
+
+
+def first_of(numbers: List[int], lives: List[Life]) -> List[Optional[Life]]:
+    """Of some processes in a row the first ones that have these numbers, in their order; nothing behind the last one that is found."""
+    rest = iter(lives)
+    return [next((life for life in rest if life.pid == number), None) for number in numbers]
 
 
 @dataclass(eq=False)
@@ -98,15 +104,15 @@ class Owners:
 
     def match_jobs(self, make: Make) -> None:
         """Make names the processes of its jobs in the order in which it starts them. In a long build another that it starts may have had the number of one."""
-        numbers = [pid for pid, _ in make.words.processes]
-        kids = sorted((life for life in make.life.children if life.pid in numbers), key=lambda life: life.born)
+        numbers, kids = [pid for pid, _ in make.words.processes], sorted(make.life.children, key=lambda life: life.born)
+        found, last = first_of(numbers, kids), first_of(numbers[::-1], kids[::-1])[::-1]
         lost = set(numbers) - {life.pid for life in kids}
         if lost:
             self.holes.append("a recipe that ran has no process: " + next(job.target for pid, job in make.words.processes if pid in lost))
-        elif numbers != [life.pid for life in kids]:  # guard: jobs-that-do-not-fit
+        elif found != last:  # guard: jobs-that-do-not-fit
             self.holes.append("a process number came again, or the jobs of make are not in the order of the trace: make " + make.words.args)
         else:
-            self.jobs.update((id(life), job) for life, (_, job) in zip(kids, make.words.processes))
+            self.jobs.update((id(life), job) for life, (_, job) in zip(found, make.words.processes))
 
     def at_once(self, make: Make) -> Iterator[int]:
         """Where a recipe of a make begins before another one has ended."""

@@ -99,9 +99,7 @@ def fixes(graph: Graph, race: str, text: Path) -> dict[Key, set[Key]]:
     """Which recipe has to wait for which so that no two conflict, by what `race` says, other than on what is tried out. `CannotTry` where it gives no verdict."""
     after: dict[Key, set[Key]] = {}
     for number, build in graph.builds.items():
-        with open(text, "w", encoding="utf-8") as file:
-            for row in graph.rows[number]:
-                file.write(json.dumps(judged(graph, number, row)) + "\n")
+        text.write_text("".join(json.dumps(judged(graph, number, row)) + "\n" for row in graph.rows[number]), encoding="utf-8")
         verdict = judge(race, text, build["folder"])
         if verdict.refused:
             raise CannotTry("no verdict on build %s" % number)

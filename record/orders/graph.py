@@ -4,7 +4,7 @@ from __future__ import annotations
 
 import json
 import os
-from collections.abc import Iterator, Mapping, Sequence
+from collections.abc import Iterable, Iterator, Mapping, Sequence
 from dataclasses import dataclass, field
 from pathlib import Path
 from typing import Any, Optional
@@ -159,8 +159,7 @@ class Graph:
 
     def last_first(self, after: Mapping[Key, set[Key]]) -> list[Key]:
         """The recipes as they begin where the last one always does of those that wait."""
-        held, left, rest = self.held(after), (1 << len(self.tasks)) - 1, [*range(len(self.tasks))]
-        order, waiting = list[int](), list[int]()
+        held, left, rest, waiting, order = self.held(after), (1 << len(self.tasks)) - 1, [*range(len(self.tasks))], list[int](), list[int]()
         while rest or waiting:
             waiting += [at for at in rest if not held[at] & left]
             rest = [at for at in rest if held[at] & left]
@@ -245,7 +244,7 @@ class Graph:
         return None
 
 
-def pairs_of(sets: Sequence[int]) -> Iterator[Pair]:
+def pairs_of(sets: Iterable[int]) -> Iterator[Pair]:
     """For each recipe a set of earlier ones: all these pairs."""
     yield from ((first, second) for second, some in enumerate(sets) for first in numbers(some))
 

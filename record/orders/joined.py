@@ -36,13 +36,13 @@ def join(graph: Graph, other: Graph) -> None:
 
 
 def pass_questions(graph: Graph, untried: Sequence[int]) -> None:
-    """Leaves out of the tasks of a record what other orders have tried out. What two recipes name stays where they have not run both ways: for each recipe the earlier ones
-    are given. And orders turn no process round for which its recipe does not wait."""
+    """Leaves out of the tasks of a record what other orders have tried out. What two recipes name stays where they have not run both ways, or the later one and what the
+    earlier one needs, since make may look as soon as that has ended: for each recipe the earlier ones are given. And orders turn no process round that is left."""
     names, kept = ([set[str]() for _ in graph.tasks] for _ in range(2))
-    for number, rows in graph.rows.items():
-        for row in rows:
-            names[graph.recipe_of(number, row["task"])] |= {graph.whole(number, path) for path in (*row["reads"], *row["writes"])}
-    for one, other in pairs_of(untried):
+    for number, row in ((number, row) for number, rows in graph.rows.items() for row in rows):
+        names[graph.recipe_of(number, row["task"])] |= {graph.whole(number, path) for path in (*row["reads"], *row["writes"])}
+    behind = [sum(1 << at for at in numbers(free) if some and graph.tasks[at].before & some) for some, free in zip(untried, graph.free)]  # guard: questions-of-who-waits
+    for one, other in pairs_of(some | more for some, more in zip(untried, behind)):
         for at in numbers(1 << one | 1 << other | graph.tasks[one].around | graph.tasks[other].around):
             kept[at] |= names[one] & names[other]  # guard: questions-of-pairs-not-turned
     for number, rows in graph.rows.items():

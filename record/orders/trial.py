@@ -98,7 +98,8 @@ class Trial:
         self.say(len(second) + len(later))
         self.plans += later
         if flipped.status == 0 and all(differing(one, other) <= differing(one, first) for first, one, other in zip(self.recorded, again.held, flipped.held)):
-            self.begin_next(running)
+            self.begun += (more := self.next_of(self.plans))
+            running.begin(*more)
         for base in map(running.result, second):
             if base.status == 0:  # guard: copies-among-themselves
                 self.serial, self.trees = base.held, self.room.trees(base.plan)
@@ -121,10 +122,11 @@ class Trial:
         elif self.after:  # it began before anybody knew the fixes
             running.close(FLIPPED.name)
             running.begin(flip)
-        self.builds, self.begun, self.planned = 2, [], [0] * len(self.planned)
+        self.builds, self.planned = 2, [0] * len(self.planned)
         self.plans = [*self.orders(), *self.covers(without(self.left, self.graph.turned(self.graph.last_first(self.after))))]
         self.say(len(self.plans))
-        self.begin_next(running)
+        self.begun = self.next_of(self.plans)
+        running.begin(*self.begun)
         again = running.result(SERIAL.name)
         if again.status != 0 and not self.room.has_net:
             self.room.has_net = True  # guard: builds-that-need-other-machines
@@ -143,11 +145,6 @@ class Trial:
         for plan in plans:
             self.room.forget(plan)
         return self.begin(running)
-
-    def begin_next(self, running: Running) -> None:
-        """Begins some of the builds that are to follow."""
-        running.begin(*(some := self.next_of(self.plans)))
-        self.begun += some
 
     def orders(self) -> list[Plan]:
         """What a look finds may depend on several: builds that turn round each pair alone, and where there are many, one in which all users come first."""

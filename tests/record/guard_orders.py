@@ -88,6 +88,7 @@ GUARDS: List[Guard] = [
         ("what-a-left-process-meets", '"writes": [path for path in row["writes"] if not is_of_folder(path)]}', "orders.Orders.case_folder_of_a_process_that_is_left", UNSAID),
         ("who-looks-before-the-other-makes-it", "rows.setdefault(late, [late]).append(early)", "orders.Orders.case_folder_that_one_makes_by_p", UNSAID),
         ("questions-of-pairs-not-turned", "pass", "orders.Orders.pair_that_no_build_turns_round"),
+        ("questions-of-who-waits", "behind = [0] * len(untried)", "orders_graph.Graphs.questions_of_pairs_not_turned"),
         ("parts-of-other-numbers", "also = judged(other, there, rows[row[\"task\"]]) if own else row", "orders_graph.Graphs.parts_of_other_numbers"),
     ),
     *guards("orders/holding.py",

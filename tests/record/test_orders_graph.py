@@ -10,7 +10,7 @@ import support  # noqa: F401  (it finds the modules)
 
 from record.orders.gate import Key
 from record.orders.graph import Graph, size, turning
-from record.orders.joined import join
+from record.orders.joined import join, pass_questions
 
 Row = Tuple[str, Sequence[str], Sequence[str], Sequence[str]]  # label, after, reads, writes
 
@@ -53,6 +53,13 @@ class Graphs(unittest.TestCase):
         rows: List[Row] = [("t", [], [], []), ("p", ["t"], [], []), ("t@rule2", ["p"], [], [])]
         graph = self.graph((None, rows), kinds={"t": {"colons": 1}, "p": {"kind": "part", "target": "t", "colons": 2}, "t@rule2": {"target": "t", "colons": 2}})
         self.assertEqual((2, [(("/p", "t", 1),), (("/p", "t", 2),)]), (graph.recipe_of("001", "p"), [*graph.keys]))
+
+    def test_questions_of_pairs_not_turned(self) -> None:
+        """A look stays where the two have not run both ways, or what the earlier one needs and the later one."""
+        for untried, is_left in (([0, 0, 0], False), ([0, 0, 0b10], True), ([0, 0, 0b01], True)):
+            graph = self.graph((None, [("n", [], [], []), ("a", ["n"], ["d/~seen"], []), ("b", [], [], ["d/~seen"])]))
+            pass_questions(graph, untried)
+            self.assertEqual([is_left] * 2, [bool(row["reads"] or row["writes"]) for row in graph.rows["001"][1:]])
 
     def test_order_of_what_runs_inside(self) -> None:
         """A recipe has the place of the first that runs inside it: that waits for it."""

@@ -80,9 +80,11 @@ class Holes(unittest.TestCase):
         self.assertIn("a process number came again", self.holes(make_of((8, 5), (8, 8)), [words_of(self.JOB)]))
 
     def test_number_of_a_process_that_is_no_job(self) -> None:
-        for numbers in ((9, 8, 9), (8, 9, 8), (8, 9, 9, 8)):
+        for numbers, places in (((9, 8, 9), (2, 3)), ((8, 9, 8), (1, 2)), ((8, 9, 9, 8), ())):
             lives = make_of(*((number, 2 + 3 * at) for at, number in enumerate(numbers)))
-            self.assertIn("a process number came again", self.holes(lives, [words_of(self.JOB, self.AGAIN)]))
+            owners = Owners(lives, [words_of(self.JOB, self.AGAIN)])
+            self.assertEqual([id(lives[at]) for at in places], [*owners.jobs])
+            self.assertEqual(not places, any("a process number came again" in hole for hole in owners.holes))
 
     def test_number_that_comes_again_in_one_job(self) -> None:
         lives = make_of((8, 5), (9, 7), (8, 9))
