@@ -245,10 +245,13 @@ class Found(Reporting):
         (slow / "facts").write_text("serial 124 9.0\n")
         (slow.parent / "log").write_text("")
         (gone / "log").write_text("E: 404  Not Found\n")
-        (self.room / "packages").write_text("gone\nsafe\nslow\nlater\n")
+        (self.room / "packages").write_text("gone\nsafe\nslow\nlater\nolder\nabsent\n")
         (self.room / "judged").write_text("Today.\n---\nsafe\tyes\tIt is so.\n")
-        words = [TOP / "tools" / "found", self.room / "all", self.room / "packages", self.room / "judged"]
+        (self.room / "former").write_text("\n## The packages\n\n| `older` | RACE | 5 | 1 | 2 | 9 | 4.5 | 4.0 |  |\n| `safe` | RACE | 9 | 1 | 2 | 5 | 2.5 | 2.0 |  |\n\n"
+                                          "## By hand\n\n| `older` | true | It was so. | `a: b` |\n\n## The list\n\n(absent), safe\n")
+        words = [TOP / "tools" / "found", *(self.room / it for it in ("all", "packages", "judged", "former"))]
         text = subprocess.run(words, env={**os.environ, "RACE": str(PROGRAMS[0])}, capture_output=True, text=True, check=True).stdout
-        for row in ("# What was found\n\nToday.\n\n## ", "| drawn | 4 |\n| tried | 3 |\n| its source is not on the mirror | 1 |\n| took longer than the bound | 1 |\n",
-                    "| `safe` | SAFE | 4 |  | 2 | 5 | 2.5 | 2.0 | 1 of 3 the same, 1 name apart |\n", "| `safe` | yes | It is so. |  |\n", "gone, safe, slow, later\n"):
+        for row in ("# What was found\n\nToday.\n\n## ", "| drawn | 6 |\n| tried | 5 |\n| its source is not on the mirror | 2 |\n| took longer than the bound | 1 |\n| recorded | 2 |\n",
+                    "| `safe` | SAFE | 4 |  | 2 | 5 | 2.5 | 2.0 | 1 of 3 the same, 1 name apart |\n", "| `slow` | took longer than the bound |  |  |  |  |  |  |  |\n| `older` | RACE | 5 | 1 | 2 | 9 | 4.5 | 4.0 |  |\n",
+                    "| `older` | true | It was so. | `a: b` |\n| `safe` | yes | It is so. |  |\n", "(gone), safe, slow, later, older, (absent)\n"):
             self.assertIn(row, text)
